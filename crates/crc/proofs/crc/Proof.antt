@@ -1,0 +1,63 @@
+-- `crc::crc` meets its contract. The invariant: the CRC from here, over the bytes that are left, is the CRC of all. Assumes nothing.
+use mathlib.Core.Path.{_≡_, _∙_, sym}
+use Prim.Native.Nat.{_≤_, _-_}
+use native.Mathlib.Omega.{arith}
+use lib.ListN.{length, drop, drop-of-length-le}
+use denote.Ref.{now}
+use Rattle.crc.specs.Crc.{crcFrom, crcOf}
+use Rattle.crc.proofs.Laws.{crc-more}
+use borrow.Author.Needs.{needs}
+use Rattle.crc.proofs.crc.Statement.{statement}
+use Rattle.crc.proofs.crc.Tie as tie
+
+abbrev Inv-loop : tie.InvT-loop
+Inv-loop s table c₀ i₀ c i = (i ≤ length s) × (crcFrom c (drop i s) ≡ crcOf s)
+
+abbrev μ-loop : tie.MeasureT-loop
+μ-loop s table c₀ i₀ c i = length s - i
+
+whole-table-requires : tie.Need-whole-table-requires Inv-loop μ-loop
+whole-table-requires c κs = search needs
+
+loop-holds : tie.Need-loop-holds Inv-loop μ-loop
+loop-holds c = search needs
+
+shared-slice-read-look-up : tie.Need-shared-slice-read-look-up Inv-loop μ-loop
+shared-slice-read-look-up c = search needs
+
+look-up-requires : tie.Need-look-up-requires Inv-loop μ-loop
+look-up-requires c κs = c .before .before .before .before .whole-table .ensures
+
+add-i : tie.Need-add-i Inv-loop μ-loop
+add-i c = search needs
+
+loop-less : tie.Need-loop-less Inv-loop μ-loop
+loop-less c = search needs
+
+loop-again : tie.Need-loop-again Inv-loop μ-loop
+loop-again c =
+    let at-loop = c .before .before .before .before in
+    let s = now (at-loop .before .before .before .args .s) in (
+      omega arith,
+      rw (c .look-up .ensures) (sym (crc-more s (at-loop .loop .c) (at-loop .loop .i) (omega arith)) ∙ at-loop .loop .inv .1),
+    )
+
+returns : tie.Need-returns Inv-loop μ-loop
+returns c =
+    let none = drop-of-length-le (now (c .before .before .before .before .args .s)) (c .loop-test .left) in
+    rw none at (c .before .loop .inv .1)
+
+pub crc-spec : {M : Type 1} → statement M
+crc-spec =
+    tie.close
+    (tie.spec
+    Inv-loop
+    μ-loop
+    whole-table-requires
+    loop-holds
+    shared-slice-read-look-up
+    look-up-requires
+    add-i
+    loop-less
+    loop-again
+    returns)

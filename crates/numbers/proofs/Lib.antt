@@ -1,0 +1,4 @@
+pub mod Bounds
+pub mod Offset
+pub mod Meaning
+pub mod Unique

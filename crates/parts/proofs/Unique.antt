@@ -1,0 +1,59 @@
+-- The contracts of this crate's public functions leave no choice. Assumes nothing.
+use mathlib.Core.Path.{refl, sym, _∙_}
+use Rattle.once.specs.Once.{Once}
+use Rattle.parts.proofs.store
+use Rattle.parts.proofs.eight
+use Rattle.parts.proofs.sixteen
+use Rattle.parts.proofs.thirty_two
+use Rattle.parts.proofs.store4
+use Rattle.parts.proofs.store8
+use Rattle.parts.proofs.store16
+use Rattle.parts.proofs.store32
+use Rattle.parts.proofs.sized8
+use Rattle.parts.proofs.sized16
+use Rattle.parts.proofs.sized32
+use Rattle.parts.proofs.wide
+use Rattle.parts.proofs.pair
+use Rattle.parts.proofs.quad
+
+pub store-once : Once store.ended store.Reads.Pre store.Reads.Learnt
+store-once κs a r r′ w w′ p h h′ = (refl, λ i. (tt, ((h ∙ sym h′) i, (tt, tt))))
+
+pub eight-once : Once eight.ended eight.Reads.Pre eight.Reads.Learnt
+eight-once κs a r r′ w w′ p h h′ = (h ∙ sym h′, refl)
+
+pub sixteen-once : Once sixteen.ended sixteen.Reads.Pre sixteen.Reads.Learnt
+sixteen-once κs a r r′ w w′ p h h′ = (h ∙ sym h′, refl)
+
+pub thirty-two-once : Once «thirty_two».ended «thirty_two».Reads.Pre «thirty_two».Reads.Learnt
+thirty-two-once κs a r r′ w w′ p h h′ = (h ∙ sym h′, refl)
+
+pub store4-once : Once store4.ended store4.Reads.Pre store4.Reads.Learnt
+store4-once κs a r r′ w w′ p h h′ = (refl, λ i. (tt, ((h .written ∙ sym (h′ .written)) i, (tt, tt))))
+
+pub store8-once : Once store8.ended store8.Reads.Pre store8.Reads.Learnt
+store8-once κs a r r′ w w′ p h h′ = (refl, λ i. (tt, ((h .written ∙ sym (h′ .written)) i, (tt, tt))))
+
+pub store16-once : Once store16.ended store16.Reads.Pre store16.Reads.Learnt
+store16-once κs a r r′ w w′ p h h′ = (refl, λ i. (tt, ((h .written ∙ sym (h′ .written)) i, (tt, tt))))
+
+pub store32-once : Once store32.ended store32.Reads.Pre store32.Reads.Learnt
+store32-once κs a r r′ w w′ p h h′ = (refl, λ i. (tt, ((h .written ∙ sym (h′ .written)) i, (tt, tt))))
+
+pub sized8-once : Once sized8.ended sized8.Reads.Pre sized8.Reads.Learnt
+sized8-once κs a r r′ w w′ p h h′ = (refl, refl)
+
+pub sized16-once : Once sized16.ended sized16.Reads.Pre sized16.Reads.Learnt
+sized16-once κs a r r′ w w′ p h h′ = (refl, refl)
+
+pub sized32-once : Once sized32.ended sized32.Reads.Pre sized32.Reads.Learnt
+sized32-once κs a r r′ w w′ p h h′ = (refl, refl)
+
+pub wide-once : Once wide.ended wide.Reads.Pre wide.Reads.Learnt
+wide-once κs a r r′ w w′ p h h′ = (h .0 ∙ sym (h′ .0), refl)
+
+pub pair-once : Once pair.ended pair.Reads.Pre pair.Reads.Learnt
+pair-once κs a r r′ w w′ p h h′ = (h ∙ sym h′, refl)
+
+pub quad-once : Once quad.ended quad.Reads.Pre quad.Reads.Learnt
+quad-once κs a r r′ w w′ p h h′ = (h ∙ sym h′, refl)

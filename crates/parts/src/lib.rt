@@ -1,0 +1,126 @@
+// Bytes in and out of slices: what every layer above copies and reads numbers with.
+ghost use mathlib.Core.Path.{_≡_};
+ghost use Prim.Native.Nat.{_+_, _<_, _≤_};
+ghost use lib.ListN.{length};
+ghost use Rattle.parts.specs.Parts.{part, put, Stored, pairAt, quadAt};
+
+// Writes src into dst from the index at on; the rest of dst stays.
+pub fn store(src: &[u8], dst: &mut [u8], at: usize)
+    requires { ⌜ at + length (now src) ≤ length (now dst) ⌝ }
+    ensures { λ _. ⌜ now (dst .exit) ≡ put (now (dst .entry)) at (now (src .entry)) ⌝ }
+{
+    let mut i = 0;
+    while i < src.len() {
+        dst[at + i] = src[i];
+        i += 1;
+    }
+}
+
+// Fills all of dst with the bytes of s from the index at on.
+fn fill(s: &[u8], at: usize, dst: &mut [u8])
+    requires { ⌜ at + length (now dst) ≤ length (now s) ⌝ }
+    ensures { λ _. ⌜ now (dst .exit) ≡ part (length (now (dst .entry))) (now (s .entry)) at ⌝ }
+{
+    let end = at + dst.len();
+    store(&s[at..end], dst, 0);
+}
+
+// The eight bytes of s from the index at on.
+pub fn eight(s: &[u8], at: usize) -> [u8; 8]
+    requires { ⌜ at + 8 ≤ length (now s) ⌝ }
+    ensures { λ r. ⌜ r ≡ part 8 (now (s .entry)) at ⌝ }
+{
+    let mut a = [0u8; 8];
+    fill(s, at, &mut a);
+    a
+}
+
+// The sixteen bytes of s from the index at on.
+pub fn sixteen(s: &[u8], at: usize) -> [u8; 16]
+    requires { ⌜ at + 16 ≤ length (now s) ⌝ }
+    ensures { λ r. ⌜ r ≡ part 16 (now (s .entry)) at ⌝ }
+{
+    let mut a = [0u8; 16];
+    fill(s, at, &mut a);
+    a
+}
+
+// The thirty-two bytes of s from the index at on.
+pub fn thirty_two(s: &[u8], at: usize) -> [u8; 32]
+    requires { ⌜ at + 32 ≤ length (now s) ⌝ }
+    ensures { λ r. ⌜ r ≡ part 32 (now (s .entry)) at ⌝ }
+{
+    let mut a = [0u8; 32];
+    fill(s, at, &mut a);
+    a
+}
+
+// Writes the array a into dst from the index at on; the rest of dst stays.
+pub fn store4(a: [u8; 4], dst: &mut [u8], at: usize)
+    requires { ⌜ at + 4 ≤ length (now dst) ⌝ }
+    ensures { λ _. ⌜ Stored 4 a (now (dst .entry)) at (now (dst .exit)) ⌝ }
+{
+    store(&a, dst, at);
+}
+
+// Writes the array a into dst from the index at on; the rest of dst stays.
+pub fn store8(a: [u8; 8], dst: &mut [u8], at: usize)
+    requires { ⌜ at + 8 ≤ length (now dst) ⌝ }
+    ensures { λ _. ⌜ Stored 8 a (now (dst .entry)) at (now (dst .exit)) ⌝ }
+{
+    store(&a, dst, at);
+}
+
+// Writes the array a into dst from the index at on; the rest of dst stays.
+pub fn store16(a: [u8; 16], dst: &mut [u8], at: usize)
+    requires { ⌜ at + 16 ≤ length (now dst) ⌝ }
+    ensures { λ _. ⌜ Stored 16 a (now (dst .entry)) at (now (dst .exit)) ⌝ }
+{
+    store(&a, dst, at);
+}
+
+// Writes the array a into dst from the index at on; the rest of dst stays.
+pub fn store32(a: [u8; 32], dst: &mut [u8], at: usize)
+    requires { ⌜ at + 32 ≤ length (now dst) ⌝ }
+    ensures { λ _. ⌜ Stored 32 a (now (dst .entry)) at (now (dst .exit)) ⌝ }
+{
+    store(&a, dst, at);
+}
+
+// An array's length, told to a proof: the call does nothing.
+pub fn sized8(a: [u8; 8])
+    ensures { λ _. ⌜ length a ≡ 8 ⌝ }
+{}
+
+// An array's length, told to a proof: the call does nothing.
+pub fn sized16(a: [u8; 16])
+    ensures { λ _. ⌜ length a ≡ 16 ⌝ }
+{}
+
+// An array's length, told to a proof: the call does nothing.
+pub fn sized32(a: [u8; 32])
+    ensures { λ _. ⌜ length a ≡ 32 ⌝ }
+{}
+
+// A byte as a length or an index. That it is below 256 is said too, for the sums that callers make of it.
+pub fn wide(x: u8) -> usize
+    ensures { λ r. ⌜ (r ≡ x) × (r < 256) ⌝ }
+{
+    x as usize
+}
+
+// The number of two bytes at the index at, the low byte first.
+pub fn pair(s: &[u8], at: usize) -> u16
+    requires { ⌜ at + 2 ≤ length (now s) ⌝ }
+    ensures { λ r. ⌜ r ≡ pairAt (now (s .entry)) at ⌝ }
+{
+    (wide(s[at]) + 256 * wide(s[at + 1])) as u16
+}
+
+// The number of four bytes at the index at, the low byte first.
+pub fn quad(s: &[u8], at: usize) -> u32
+    requires { ⌜ at + 4 ≤ length (now s) ⌝ }
+    ensures { λ r. ⌜ r ≡ quadAt (now (s .entry)) at ⌝ }
+{
+    pair(s, at) as u32 + 65536 * (pair(s, at + 2) as u32)
+}
