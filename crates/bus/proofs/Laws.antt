@@ -1,0 +1,102 @@
+-- Laws of what the master's bytes ask. Assumes nothing.
+use mathlib.Core.Path.{_≡_, refl, sym}
+use mathlib.Core.Bool.{Bool, true, false}
+use mathlib.Core.List.{List, [], _∷_, _++_}
+use mathlib.Core.Logic.{_⊎_, inl, inr, ⊎-elim}
+use Prim.Native.Nat.{ℕ, _+_, _≤_, _<_}
+use native.Mathlib.Numerals.{add-one}
+use native.Mathlib.Omega.{arith}
+use borrow.Author.Tests.{ltb-false, eqb-true, eq-eqb, le-ltb}
+use lib.ListN.{length, getD, take, drop, length-append}
+use lib.Seq.{drop-cons, take-at}
+use lib.Dec.{ltb, eqb}
+use Rattle.numbers.specs.Choice.{both}
+use Rattle.numbers.proofs.Bounds.{picked}
+use Rattle.bus.specs.declared.Rom.{Rom}
+use Rattle.bus.specs.declared.Rom.the-variants.{Net33, Net39, Skip, Match, Quiet}
+use Rattle.bus.specs.declared.Transaction.{Transaction}
+use Rattle.bus.specs.Ask.{romOf, commandOf, plainOf, askedAt, askedBy, askedOf, sameBytes, ownOf}
+
+-- ---- two lists with the same bytes
+
+pub equal-same : (a : List ℕ) → sameBytes a a ≡ true
+equal-same [] = refl
+equal-same (x ∷ xs) = simp (eq-eqb x x refl) (equal-same xs)
+
+both-true : (s t : Bool) → both s t ≡ true → (s ≡ true) × (t ≡ true)
+both-true true t e = (refl, e)
+both-true false t e = (e, cc)
+
+never : false ≡ true → ⊥
+never e = let z : _≡_ {A = ℕ} 0 1 = cc in omega arith
+
+pub same-equal : (a b : List ℕ) → sameBytes a b ≡ true → a ≡ b
+same-equal [] [] e = refl
+same-equal [] (y ∷ ys) e = absurd (never e)
+same-equal (x ∷ xs) [] e = absurd (never e)
+same-equal (x ∷ xs) (y ∷ ys) e =
+    let parts = both-true (eqb x y) (sameBytes xs ys) e in
+    let first = eqb-true x y (parts .0) in
+    let others = same-equal xs ys (parts .1) in cc
+
+-- from one place on: the byte there, and the bytes from the next place on
+pub same-more : (a b : List ℕ) (i : ℕ) → i < length a → i < length b → sameBytes (drop i a) (drop i b) ≡ both (eqb (getD a i 0) (getD b i 0)) (sameBytes (drop (i + 1) a) (drop (i + 1) b))
+same-more a b i h k = rw (drop-cons a i 0, drop-cons b i 0, add-one)
+
+-- ---- the own address
+
+-- 55h and the own address, with anything after them
+pub own-own : (address rest : List ℕ) → length address ≡ 8 → ownOf address (0x55 ∷ (address ++ rest)) ≡ true
+unfolding ownOf
+own-own address rest h =
+    let long : 9 ≤ length (0x55 ∷ (address ++ rest)) = omega (arith, length-append address rest) in
+    simp (le-ltb _ _ long, take-at address rest 8 h, equal-same address)
+
+-- no other address is the own one
+pub own-only : (address master : List ℕ) → ownOf address master ≡ true → take 8 (drop 1 master) ≡ address
+unfolding ownOf
+own-only address master =
+    picked (λ (t : Bool). t ≡ true → take 8 (drop 1 master) ≡ address) (ltb (length master) 9) false (sameBytes address (take 8 (drop 1 master)))
+    (λ short e. absurd (never e))
+    (λ long e. sym (same-equal address (take 8 (drop 1 master)) e))
+
+-- ---- the transaction
+
+-- what holds of a transaction with no function command, and of one whose function command stands at place 1 or 9, holds of what is asked
+module _
+    (P : Transaction → Type 0)
+    (count : ℕ)
+    (master : List ℕ)
+    (none : (rom : Rom) → P (plainOf count rom))
+    (some : (rom : Rom) (at : ℕ) → (at ≡ 1) ⊎ (at ≡ 9) → at + 2 ≤ length master → P (record { count = count; rom = rom; command = commandOf (getD master at 0); address = getD master (at + 1) 0; from = at + 2 }))
+  where
+    at-holds : (rom : Rom) (at : ℕ) → (at ≡ 1) ⊎ (at ≡ 9) → P (askedAt count rom at master)
+    unfolding askedAt
+    at-holds rom at place =
+        picked P (ltb (length master) (at + 2)) _ _ (λ short. none rom) (λ long. some rom at place (ltb-false _ _ long))
+
+    by-holds : (rom : Rom) → P (askedBy count master rom)
+    by-holds Skip = at-holds Skip 1 (inl refl)
+    by-holds Match = at-holds Match 9 (inr refl)
+    by-holds Net33 = none Net33
+    by-holds Net39 = none Net39
+    by-holds Quiet = none Quiet
+
+    pub asked-holds : P (askedOf count master)
+    unfolding askedOf
+    asked-holds = by-holds (romOf master)
+
+-- the count is the one given
+pub asked-count : (count : ℕ) (master : List ℕ) → askedOf count master .count ≡ count
+asked-count count master =
+    asked-holds (λ (t : Transaction). t .count ≡ count) count master (λ rom. refl) (λ rom at place long. refl)
+
+-- the bytes to be written start at 11 at most, and not past the end
+pub from-fits : (count : ℕ) (master : List ℕ) → askedOf count master .from ≤ 11
+from-fits count master =
+    asked-holds (λ (t : Transaction). t .from ≤ 11) count master (λ rom. omega arith)
+    (λ rom at place long. ⊎-elim (λ e. omega arith) (λ e. omega arith) place)
+
+pub from-within : (count : ℕ) (master : List ℕ) → askedOf count master .from ≤ length master
+from-within count master =
+    asked-holds (λ (t : Transaction). t .from ≤ length master) count master (λ rom. omega arith) (λ rom at place long. long)

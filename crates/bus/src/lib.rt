@@ -1,0 +1,151 @@
+// What the master's bytes ask of a gauge.
+ghost use mathlib.Core.Path.{_≡_};
+ghost use Prim.Native.Nat.{_<_};
+ghost use lib.ListN.{length};
+ghost use Rattle.bus.specs.Ask.{romBy, romOf, commandOf, plainOf, askedAt, askedOf, sameBytes, ownOf};
+
+// What the first master byte says: a net address read by 33h or 39h, Skip, Match, or nothing.
+pub enum Rom {
+    Net33,
+    Net39,
+    Skip,
+    Match,
+    Quiet,
+}
+
+// The five function commands, or none.
+pub enum Command {
+    Read,
+    Write,
+    Copy,
+    Recall,
+    Lock,
+    Nothing,
+}
+
+// A transaction, taken apart: how many bytes are read, whom it selects, what it asks there, and where in the master bytes those to be
+// written start.
+pub struct Transaction {
+    pub count: u16,
+    pub rom: Rom,
+    pub command: Command,
+    pub address: u8,
+    pub from: u8,
+}
+
+fn rom_by(b: u8) -> Rom
+    ensures { λ r. ⌜ r ≡ romBy b ⌝ }
+{
+    if b == 0x33 {
+        return Rom::Net33;
+    }
+    if b == 0x39 {
+        return Rom::Net39;
+    }
+    if b == 0xcc {
+        return Rom::Skip;
+    }
+    if b == 0x55 {
+        return Rom::Match;
+    }
+    Rom::Quiet
+}
+
+fn rom_of(master: &[u8]) -> Rom
+    ensures { λ r. ⌜ r ≡ romOf (now (master .entry)) ⌝ }
+{
+    if master.len() == 0 {
+        return Rom::Quiet;
+    }
+    rom_by(master[0])
+}
+
+fn command_of(b: u8) -> Command
+    ensures { λ r. ⌜ r ≡ commandOf b ⌝ }
+{
+    if b == 0x69 {
+        return Command::Read;
+    }
+    if b == 0x6c {
+        return Command::Write;
+    }
+    if b == 0x48 {
+        return Command::Copy;
+    }
+    if b == 0xb8 {
+        return Command::Recall;
+    }
+    if b == 0x6a {
+        return Command::Lock;
+    }
+    Command::Nothing
+}
+
+// A transaction with no function command.
+fn plain(count: u16, rom: Rom) -> Transaction
+    ensures { λ r. ⌜ r ≡ plainOf count rom ⌝ }
+{
+    Transaction {
+        count: count,
+        rom: rom,
+        command: Command::Nothing,
+        address: 0,
+        from: 0,
+    }
+}
+
+fn asked_at(count: u16, rom: Rom, at: u8, master: &[u8]) -> Transaction
+    requires { ⌜ at < 16 ⌝ }
+    ensures { λ r. ⌜ r ≡ askedAt count rom at (now (master .entry)) ⌝ }
+{
+    let i = at as usize;
+    if master.len() < i + 2 {
+        return plain(count, rom);
+    }
+    Transaction {
+        count: count,
+        rom: rom,
+        command: command_of(master[i]),
+        address: master[i + 1],
+        from: at + 2,
+    }
+}
+
+// What the master bytes ask, where count bytes are read.
+pub fn asked(count: u16, master: &[u8]) -> Transaction
+    ensures { λ r. ⌜ r ≡ askedOf count (now (master .entry)) ⌝ }
+{
+    let rom = rom_of(master);
+    match rom {
+        Rom::Skip => asked_at(count, Rom::Skip, 1, master),
+        Rom::Match => asked_at(count, Rom::Match, 9, master),
+        Rom::Net33 => plain(count, Rom::Net33),
+        Rom::Net39 => plain(count, Rom::Net39),
+        Rom::Quiet => plain(count, Rom::Quiet),
+    }
+}
+
+// Whether two parts of one length have the same bytes.
+fn same_bytes(a: &[u8], b: &[u8]) -> bool
+    requires { ⌜ length (now a) ≡ length (now b) ⌝ }
+    ensures { λ r. ⌜ r ≡ sameBytes (now (a .entry)) (now (b .entry)) ⌝ }
+{
+    let mut i = 0;
+    while i < a.len() {
+        if a[i] != b[i] {
+            return false;
+        }
+        i += 1;
+    }
+    true
+}
+
+// Whether the 8 bytes after the first are the own address.
+pub fn own(address: [u8; 8], master: &[u8]) -> bool
+    ensures { λ r. ⌜ r ≡ ownOf address (now (master .entry)) ⌝ }
+{
+    if master.len() < 9 {
+        return false;
+    }
+    same_bytes(&address, &master[1..9])
+}

@@ -1,0 +1,182 @@
+-- The cases of "Figures to hold" that document 01 marks with *, in its order: one table, one statement, closed by computation. A row is a
+-- sentence: what the definitions give and, after `is`, what document 01 says. Assumes nothing.
+use mathlib.Core.Path.{_≡_, refl}
+use mathlib.Core.Bool.{true, false}
+use mathlib.Core.List.{List, [], _∷_, map}
+use Prim.Native.Nat.{ℕ, _+_, _-_, _*_}
+use lib.ListN.{set}
+use Rattle.numbers.specs.Offset.{zeroAt}
+use Rattle.meter.specs.declared.Charge.{Charge}
+use Rattle.meter.specs.declared.Meter.{Meter}
+use Rattle.meter.specs.Params.{countingOf, limitsOf, capacityOf, curvesOf}
+use Rattle.meter.specs.State.{acrOf, fractionOf, poweredOf}
+use Rattle.meter.specs.Convert.{tracedOf, countedOf, averagedOf, renewedOf, foundOf, learntOf, agedFullOf, shareOf, filledOf, settledOf, convertOf}
+use Rattle.meter.specs.Read.{degreesOf, slopeOf, slopesOver, linesOf, drainingOf, pointOf, emptiedOf, leftOf, spanOf, percentOf, amountOf, resultsOf, ratedOf, flagsOf, keptOf, loweredOf, seenOf, drainedOf, shownOf, readOf}
+
+-- ---- model M
+
+-- The bytes of block 1 by their address. What M leaves open is 0, but for VCHG and IMIN, which are 1 so that full can be found.
+abbrev pub M : List ℕ
+M =
+    -- 60h: CONTROL, AB, AC high and low, VCHG, IMIN, VAE, IAE
+    0 ∷ 0 ∷ 0 ∷ 0 ∷ 1 ∷ 1 ∷ 0 ∷ 0 ∷
+    -- 68h: byte 68h, RSNSP, Full40 high and low (10,000 is 2710h), the Full slopes 4 to 1
+    4 ∷ 50 ∷ 0x27 ∷ 0x10 ∷ 10 ∷ 20 ∷ 30 ∷ 40 ∷
+    -- 70h: the AE slopes 4 to 1, the SE slopes 4 to 1
+    5 ∷ 10 ∷ 20 ∷ 30 ∷ 1 ∷ 2 ∷ 3 ∷ 4 ∷
+    -- 78h: three bytes of no effect, COB, TBP34, TBP23, TBP12, a byte of no effect
+    0 ∷ 0 ∷ 0 ∷ 0 ∷ 18 ∷ 0 ∷ (256 - 12) ∷ 0 ∷ []
+
+-- the same block, but for the byte at an address
+abbrev withByte : List ℕ → ℕ → ℕ → List ℕ
+withByte block address byte = set block (address - 0x60) byte
+
+-- M with NBEN, and with AC 1
+abbrev noiseless : List ℕ
+noiseless = withByte M 0x60 0x80
+
+abbrev aging : List ℕ
+aging = withByte M 0x63 1
+
+-- a model whose every step takes segment 4: at 0 °C FULL has fallen to 8,192, and AE is 16 × 250 + 40 × 25
+abbrev steep : List ℕ
+steep = withByte (withByte (withByte (withByte M 0x7c 0x80) 0x6c 255) 0x68 250) 0x70 25
+
+-- ---- the meters and the events
+
+-- a signed count, as an event takes it
+abbrev plus : ℕ → ℕ
+plus n = zeroAt 31 + n
+
+abbrev minus : ℕ → ℕ
+minus n = zeroAt 31 - n
+
+-- after a power-on with this block, ACR and AS
+abbrev powered : List ℕ → ℕ → ℕ → Meter
+powered block acr aging =
+    poweredOf (record { shadow = block; eeprom = block }) (record { lock = false; bl1 = false }) (record { acr = acr; aging = aging })
+
+-- the same meter, but for the charge
+abbrev charged : Meter → Charge → Meter
+charged m g = record {
+  block = m .block;
+  locks = m .locks;
+  charge = g;
+  trace = m .trace;
+  average = m .average;
+  since = m .since;
+  model = m .model;
+  results = m .results;
+  reading = m .reading;
+  flags = m .flags;
+  saved = m .saved;
+}
+
+-- a reading at a temperature, with a voltage of 4 × VCHG + 1
+abbrev readAt : ℕ → Meter → Meter
+readAt t m = readOf m (plus 5) t
+
+-- conversions, one after the other
+abbrev converted : List ℕ → Meter → Meter
+converted [] m = m
+converted (raw ∷ more) m = converted more (convertOf m raw)
+
+abbrev seven : ℕ → List ℕ
+seven raw = raw ∷ raw ∷ raw ∷ raw ∷ raw ∷ raw ∷ raw ∷ []
+
+-- full is found: an average of 1 and one of 32 × IMIN - 1, with a reading between them. The count rests, since such c are blanked
+abbrev filled : ℕ → Meter → Meter
+filled t m = converted (plus 31 ∷ seven (plus 31)) (readAt t (converted (plus 1 ∷ seven (plus 1)) m))
+
+-- what a meter has
+abbrev acr : Meter → ℕ
+acr m = acrOf (m .charge .count)
+
+abbrev fraction : Meter → ℕ
+fraction m = fractionOf (m .charge .count)
+
+abbrev agedFull : Meter → ℕ
+agedFull m = agedFullOf (m .model .full) (m .charge .aging)
+
+abbrev degrees : Meter → ℕ
+degrees m = degreesOf (m .reading .temp)
+
+-- ---- the table
+
+pub record Figure : Type 0 where
+  pub given : List ℕ
+  pub said : List ℕ
+
+infix 60 _is_
+abbrev _is_ : List ℕ → List ℕ → Figure
+a is b = record { given = a; said = b }
+
+-- in every row, what is given is what is said
+abbrev pub Hold : List Figure → Type 0
+Hold [] = Unit {0}
+Hold (f ∷ more) = (f .given ≡ f .said) × Hold more
+
+abbrev temperatures : List ℕ
+temperatures = plus (8 * 40) ∷ plus (8 * 18) ∷ plus (8 * 0) ∷ minus (8 * 12) ∷ minus (8 * 20) ∷ []
+
+-- M, ACR 5,000, read at a temperature
+abbrev readM : ℕ → Meter
+readM t = readAt t (powered M 5000 128)
+
+abbrev warm : Meter
+warm = readM (plus (8 * 40))
+
+-- M, 0 °C, AS 122, LEARNF 0, full found
+abbrev cold : Meter
+cold = filled (plus (8 * 0)) (powered M 5000 122)
+
+-- FULL 16384, Full40 10,000, ACR 9,000 and LEARNF, full found
+abbrev taught : Meter
+taught = filled (plus (8 * 40)) (charged (powered M 9000 128) (record { count = 9000 * 4096; age = 0; aging = 128; learnf = true }))
+
+-- ACR 100, fraction 0: the count after a conversion
+abbrev counted : List ℕ → ℕ → ℕ
+counted block raw = convertOf (powered block 100 128) raw .charge .count
+
+abbrev fallen : Meter
+fallen = convertOf (powered M 100 128) (minus 1)
+
+-- with AC 1 and counter 31
+abbrev aged : Meter
+aged = convertOf (charged (powered aging 100 128) (record { count = 100 * 4096; age = 31; aging = 128; learnf = false })) (minus 1)
+
+-- AS 63, N > 0
+abbrev worn : Meter
+worn = readAt (plus (8 * 0)) (powered steep 9000 63)
+
+abbrev pub figures : List Figure
+figures =
+    -- F3 to F7. M at 40, 18, 0, -12, -20 °C: FULL, AE, SE
+    (map (λ t. readM t .model .full) temperatures is 16384 ∷ 16164 ∷ 15804 ∷ 15444 ∷ 15124 ∷ []) ∷
+    (map (λ t. readM t .model .ae) temperatures is 64 ∷ 174 ∷ 354 ∷ 594 ∷ 834 ∷ []) ∷
+    (map (λ t. readM t .model .se) temperatures is 0 ∷ 22 ∷ 58 ∷ 94 ∷ 126 ∷ []) ∷
+    -- F8 to F10. Temperature count -1 is -1 °C: FULL 15774. Count 319 is 39 °C, 320 is 40
+    (degrees (readM (minus 1)) ∷ readM (minus 1) .model .full ∷ [] is (zeroAt 7 - 1) ∷ 15774 ∷ []) ∷
+    (degrees (readM (plus 319)) ∷ degrees (readM (plus 320)) ∷ [] is (zeroAt 7 + 39) ∷ (zeroAt 7 + 40) ∷ []) ∷
+    -- F11. M, 40 °C, ACR 5,000: RARC 49, RSRC 50, RAAC 968, RSAC 976
+    (warm .results .rarc ∷ warm .results .rsrc ∷ warm .results .raac ∷ warm .results .rsac ∷ [] is 49 ∷ 50 ∷ 968 ∷ 976 ∷ []) ∷
+    -- F12. M, 0 °C, AS 122, LEARNF 0, full found: AF 15063, ACR 9193, then RARC 99
+    (agedFull cold ∷ acr cold ∷ readAt (plus (8 * 0)) cold .results .rarc ∷ [] is 15063 ∷ 9193 ∷ 99 ∷ []) ∷
+    -- F13. Learn: FULL 16384, Full40 10,000, ACR 9,000 gives AS 115, ACR 8984
+    (taught .charge .aging ∷ acr taught ∷ [] is 115 ∷ 8984 ∷ []) ∷
+    -- F14 to F17. Blanking: 63 to 0, 64 to 64; with NBEN -15 to 0, -16 to -16
+    (counted M (plus 63) ∷ counted M (plus 64) ∷ [] is (100 * 4096 + 0) ∷ (100 * 4096 + 64) ∷ []) ∷
+    (counted noiseless (minus 15) ∷ counted noiseless (minus 16) ∷ [] is (100 * 4096 - 0) ∷ (100 * 4096 - 16) ∷ []) ∷
+    -- F18. ACR 100, fraction 0, c -1, AB 0, NBEN 0: ACR 99, fraction 4095
+    (acr fallen ∷ fraction fallen ∷ [] is 99 ∷ 4095 ∷ []) ∷
+    -- F19. With AC 1 and counter 31, AS 128 becomes 127
+    (aged .charge .aging ∷ [] is 127 ∷ []) ∷
+    -- F20. One c of -1 and seven of 0: IAVG -1
+    (converted (minus 1 ∷ seven (plus 0)) (powered M 100 128) .average .iavg ∷ [] is (zeroAt 15 - 1) ∷ []) ∷
+    -- F21. AF 4032, AE 5000: RARC 0
+    (agedFull worn ∷ worn .model .ae ∷ worn .results .rarc ∷ [] is 4032 ∷ 5000 ∷ 0 ∷ []) ∷
+    []
+
+pub figures-hold : Hold figures
+unfolding poweredOf countingOf limitsOf capacityOf curvesOf tracedOf countedOf averagedOf renewedOf foundOf learntOf agedFullOf shareOf filledOf settledOf convertOf slopeOf slopesOver linesOf drainingOf pointOf emptiedOf leftOf spanOf percentOf amountOf resultsOf ratedOf flagsOf keptOf loweredOf seenOf drainedOf shownOf readOf
+figures-hold = (refl, (refl, (refl, (refl, (refl, (refl, (refl, (refl, (refl, (refl, (refl, (refl, (refl, (refl, tt))))))))))))))

@@ -1,0 +1,5 @@
+pub mod Params
+pub mod State
+pub mod Convert
+pub mod Read
+pub mod Signed
