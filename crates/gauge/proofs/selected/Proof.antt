@@ -1,0 +1,59 @@
+use mathlib.Core.Path.{refl}
+use Rattle.gauge.specs.Act.{selectedOf}
+use borrow.Author.Needs.{needs}
+use Rattle.gauge.proofs.selected.Statement.{statement}
+use Rattle.gauge.proofs.selected.Tie as tie
+
+enum-told : tie.Need-enum-told
+enum-told c = search needs
+
+enum-told-2 : tie.Need-enum-told-2
+enum-told-2 c = search needs
+
+own-requires : tie.Need-own-requires
+own-requires c κs = search needs
+
+enum-told-3 : tie.Need-enum-told-3
+enum-told-3 c = search needs
+
+enum-told-4 : tie.Need-enum-told-4
+enum-told-4 c = search needs
+
+enum-told-5 : tie.Need-enum-told-5
+enum-told-5 c = search needs
+
+returns : tie.Need-returns
+unfolding selectedOf
+returns c = rw (c .enum-told .given .1) refl
+
+returns-2 : tie.Need-returns-2
+unfolding selectedOf
+returns-2 c = rw (c .before .before .enum-told2 .given .1) (c .own .ensures)
+
+returns-3 : tie.Need-returns-3
+unfolding selectedOf
+returns-3 c = rw (c .enum-told3 .given .1) refl
+
+returns-4 : tie.Need-returns-4
+unfolding selectedOf
+returns-4 c = rw (c .enum-told4 .given .1) refl
+
+returns-5 : tie.Need-returns-5
+unfolding selectedOf
+returns-5 c = rw (c .enum-told5 .given .1) refl
+
+pub selected-spec : {M : Type 1} → statement M
+selected-spec =
+    tie.close
+    (tie.spec
+    enum-told
+    enum-told-2
+    own-requires
+    enum-told-3
+    enum-told-4
+    enum-told-5
+    returns
+    returns-2
+    returns-3
+    returns-4
+    returns-5)

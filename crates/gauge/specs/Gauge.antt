@@ -1,0 +1,70 @@
+-- The gauge: common part, label and meter, and what each event makes of them. Label events see no meter, and gauge events no label.
+use Prim.Native.Nat.{ℕ, _+_}
+use mathlib.Core.List.{List, [], _∷_}
+use Rattle.numbers.specs.Choice.{pick}
+use Rattle.meter.specs.declared.Meter.{Meter}
+use Rattle.meter.specs.State.{MeterWF, restartedOf}
+use Rattle.meter.specs.Convert.{convertOf}
+use Rattle.meter.specs.Read.{readOf}
+use Rattle.map.specs.declared.Held.{Held}
+use Rattle.map.specs.declared.Label.{Label}
+use Rattle.map.specs.Registers.{inLabel, inBlock, labelByte, meterByte}
+use Rattle.map.specs.Writes.{heldOf, meterWritten, labelWritten, labelCopied, meterCopied, labelRecalled, meterRecalled, blockLocked, labelLocked, lockUsed}
+use Rattle.gauge.specs.declared.Gauge.{Gauge}
+
+-- what holds of every gauge: its meter is well-formed
+pub record GaugeWF (g : Gauge) : Type 0 where
+  pub meter : MeterWF (g .meter)
+
+abbrev pub withLabel : Gauge → Label → Gauge
+withLabel g l = record { common = g .common; label = l; meter = g .meter }
+
+abbrev pub withMeter : Gauge → Meter → Gauge
+withMeter g m = record { common = g .common; label = g .label; meter = m }
+
+-- ---- conversion, reading, power-on
+
+unfoldable pub conversionOf : Gauge → ℕ → Gauge
+conversionOf g raw = withMeter g (convertOf (g .meter) raw)
+
+unfoldable pub readingOf : Gauge → ℕ → ℕ → Gauge
+readingOf g volt temp = withMeter g (readOf (g .meter) volt temp)
+
+-- shadow blocks take the EEPROM bytes; BL1 and BL0 stay
+unfoldable pub powerOnOf : Gauge → Gauge
+powerOnOf g = record { common = g .common; label = labelRecalled (g .label); meter = restartedOf (g .meter) }
+
+-- ---- 69h: the byte that a read of the address a gives
+
+unfoldable pub byteOf : Gauge → ℕ → ℕ
+byteOf g a = pick (inLabel a) (labelByte (g .label) a) (meterByte (g .common) (g .meter) a)
+
+-- ---- 6Ch: bytes written from the address a upward, one by one
+
+unfoldable pub writtenOf : Held → Gauge → ℕ → ℕ → Gauge
+writtenOf h g a b =
+    pick (inLabel a) (withLabel g (labelWritten (g .common) (g .label) a b)) (withMeter g (meterWritten h (g .meter) a b))
+
+abbrev pub writesOf : Held → Gauge → ℕ → List ℕ → Gauge
+writesOf h g a [] = g
+writesOf h g a (b ∷ bs) = writesOf (heldOf h a b) (writtenOf h g a b) (a + 1) bs
+
+-- ---- 48h, B8h, 6Ah: on the block that holds the address, nothing where none does
+
+unfoldable pub copiedOf : Gauge → ℕ → Gauge
+copiedOf g a =
+    pick (inLabel a) (withLabel g (labelCopied (g .common) (g .label)))
+    (pick (inBlock a) (withMeter g (meterCopied (g .meter))) g)
+
+unfoldable pub recalledOf : Gauge → ℕ → Gauge
+recalledOf g a =
+    pick (inLabel a) (withLabel g (labelRecalled (g .label)))
+    (pick (inBlock a) (withMeter g (meterRecalled (g .meter))) g)
+
+-- if LOCK is 1
+unfoldable pub lockedOf : Gauge → ℕ → Gauge
+lockedOf g a =
+    pick (g .meter .locks .lock)
+    (pick (inLabel a) (record { common = labelLocked (g .common); label = g .label; meter = lockUsed (g .meter) })
+    (pick (inBlock a) (withMeter g (blockLocked (g .meter))) g))
+    g

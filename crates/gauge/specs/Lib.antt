@@ -1,0 +1,4 @@
+pub mod Gauge
+pub mod Act
+pub mod Image
+pub mod View
