@@ -1,0 +1,74 @@
+-- The edge cases of the three classes, each with its class: one table, computed. Assumes nothing.
+use mathlib.Core.Path.{_≡_, refl}
+use mathlib.Core.List.{List, [], _∷_, _++_, map}
+use Prim.Native.Nat.{ℕ}
+use lib.ListN.{replicate}
+use Rattle.map.specs.Registers.{inLabel, inBlock}
+use Rattle.bus.specs.Ask.{romBy, commandOf, askedAt, askedOf, ownOf}
+use Rattle.gauge.specs.Act.{selectedOf}
+use Rattle.records.specs.Record.{Rec, whole, cut, knownOf, sizedOf, dueOf, eventOf, takenOf}
+use Rattle.demands.specs.Sections.{Class, labelling, gauging, fence}
+use Rattle.demands.specs.Class.{blockOf, touchedOf, labelsOf, touchedClass, classOf}
+
+abbrev own : List ℕ
+own = 0x3d ∷ 1 ∷ 2 ∷ 3 ∷ 4 ∷ 5 ∷ 6 ∷ 0xac ∷ []
+
+-- a transaction of the gauge that CCh selects: read count, command, address, and bytes after it
+abbrev skips : ℕ → ℕ → ℕ → List ℕ → Rec
+skips count command address bytes = whole 4 (count ∷ 0xcc ∷ command ∷ address ∷ bytes)
+
+-- a read of two bytes at 20h from the gauge with this address
+abbrev matches : List ℕ → Rec
+matches address = whole 4 (2 ∷ 0x55 ∷ (address ++ (0x69 ∷ 0x20 ∷ [])))
+
+abbrev pub cases : List (Rec × Class)
+cases =
+    -- reads: all in the label; over 1Fh and 20h; over 2Fh and 30h; up to 1Fh; from 30h; past FFh; of count 0
+    (skips 16 0x69 0x20 [], labelling)
+    ∷ (skips 2 0x69 0x1f [], fence)
+    ∷ (skips 2 0x69 0x2f [], fence)
+    ∷ (skips 32 0x69 0x00 [], gauging)
+    ∷ (skips 64 0x69 0x30 [], gauging)
+    ∷ (skips 64 0x69 0xff [], gauging)
+    ∷ (skips 0 0x69 0x20 [], gauging)
+    -- writes: in the label, by the bytes and not by the read count; over its ends; outside; no data byte
+    ∷ (skips 64 0x6c 0x2f (1 ∷ []), labelling)
+    ∷ (skips 0 0x6c 0x1f (1 ∷ 2 ∷ []), fence)
+    ∷ (skips 0 0x6c 0x2f (1 ∷ 2 ∷ []), fence)
+    ∷ (skips 0 0x6c 0x10 (1 ∷ 2 ∷ []), gauging)
+    ∷ (skips 0 0x6c 0xff (1 ∷ 2 ∷ []), gauging)
+    ∷ (skips 0 0x6c 0x20 [], gauging)
+    -- copy, recall and lock: of block 0, of block 1, of none
+    ∷ (skips 0 0x48 0x2f [], labelling)
+    ∷ (skips 0 0xb8 0x20 [], labelling)
+    ∷ (skips 0 0x6a 0x20 [], fence)
+    ∷ (skips 0 0x48 0x60 [], gauging)
+    ∷ (skips 0 0xb8 0x7f [], gauging)
+    ∷ (skips 0 0x6a 0x60 [], gauging)
+    ∷ (skips 0 0x48 0x30 [], gauging)
+    ∷ (skips 0 0xb8 0x80 [], gauging)
+    ∷ (skips 0 0x6a 0x1f [], gauging)
+    -- selected by the own address, and by another; net address reads; another command; a missing address; no master byte
+    ∷ (matches own, labelling)
+    ∷ (matches (replicate 8 0), gauging)
+    ∷ (whole 4 (8 ∷ 0x33 ∷ 0x69 ∷ 0x20 ∷ []), gauging)
+    ∷ (whole 4 (8 ∷ 0x39 ∷ []), gauging)
+    ∷ (skips 2 0x99 0x20 [], gauging)
+    ∷ (whole 4 (2 ∷ 0xcc ∷ 0x69 ∷ []), gauging)
+    ∷ (whole 4 (2 ∷ []), gauging)
+    -- readings and conversions; power-on
+    ∷ (whole 2 (replicate 8 0), gauging)
+    ∷ (whole 3 (replicate 4 0), gauging)
+    ∷ (whole 5 [], fence)
+    -- refused with 3, with 4 (whatever the kind), and with 8; an image, refused with 5; a cut record
+    ∷ (whole 0x63 [], gauging)
+    ∷ (whole 1 [], gauging)
+    ∷ (whole 5 (0 ∷ []), gauging)
+    ∷ (skips 65 0x69 0x20 [], gauging)
+    ∷ (whole 1 (replicate 60 0), fence)
+    ∷ (cut, fence)
+    ∷ []
+
+pub cases-hold : map (λ c. classOf own (c .0)) cases ≡ map (λ c. c .1) cases
+unfolding takenOf knownOf sizedOf dueOf eventOf askedOf askedAt romBy commandOf selectedOf ownOf touchedClass labelsOf touchedOf blockOf inLabel inBlock
+cases-hold = refl

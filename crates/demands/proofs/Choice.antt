@@ -1,0 +1,26 @@
+-- Laws of tests and of choosing by a test. Assumes nothing.
+use mathlib.Core.Path.{_≡_, refl}
+use mathlib.Core.Bool.{Bool, true, false}
+use Prim.Native.Nat.{ℕ}
+use native.Mathlib.Omega.{arith}
+use Rattle.numbers.specs.Choice.{pick, both}
+
+-- anything follows where two constructors are equal: `contrary cc`
+pub contrary : {A : Type 0} → _≡_ {A = ℕ} 0 1 → A
+contrary z = absurd (omega arith)
+
+pub both-true : (s t : Bool) → both s t ≡ true → (s ≡ true) × (t ≡ true)
+both-true true t e = (refl, e)
+both-true false t e = contrary cc
+
+pub both-false : (t : Bool) → both t false ≡ false
+both-false true = refl
+both-false false = refl
+
+pub pick-of : {A : Type 0} (P : A → Type 0) (t : Bool) (x y : A) → P x → P y → P (pick t x y)
+pick-of P true x y h k = h
+pick-of P false x y h k = k
+
+pub pick-ap : {A B : Type 0} (f : A → B) (t : Bool) (x y : A) → pick t (f x) (f y) ≡ f (pick t x y)
+pick-ap f true x y = refl
+pick-ap f false x y = refl

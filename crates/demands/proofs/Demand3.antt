@@ -1,0 +1,134 @@
+-- Demand 3, proved. Assumes nothing.
+use mathlib.Core.Path.{_≡_, refl, sym, ap, _∙_}
+use mathlib.Core.Bool.{Bool, true, false}
+use mathlib.Core.List.{List, [], _∷_, map, zip, zipWith}
+use Prim.Native.Nat.{ℕ, _+_, _-_, _/_}
+use native.Mathlib.Omega.{arith}
+use borrow.Author.Tests.{le-ltb}
+use lib.Dec.{eqb}
+use lib.ListN.{length}
+use Rattle.numbers.specs.Choice.{pick}
+use Rattle.gauge.specs.declared.Gauge.{Gauge}
+use Rattle.gauge.specs.Image.{imageOf}
+use Rattle.records.specs.declared.Event.the-variants.{Image}
+use Rattle.records.specs.declared.Taken.the-variants.{Run, Refused}
+use Rattle.records.specs.declared.Refusal.the-variants.{Size, Order}
+use Rattle.records.specs.declared.Session.{Session}
+use Rattle.records.specs.Record.{Rec, whole, knownOf, sizedOf, dueOf, eventOf, takenOf, recsOf}
+use Rattle.records.specs.Run.{Did, Line, Running, quiet, emptyOf, loadedWith, didOf, lineOf, linesOf, sessionOf, outcomeOf}
+use Rattle.demands.specs.Call.{Call, gotOf, Told}
+use Rattle.demands.specs.Sections.{Class, labelling, gauging, fence, only, more}
+use Rattle.demands.specs.Class.{takenClass, classOf}
+use Rattle.demands.specs.Demand3.{asksOf, Starts, addressIn, Mixed, Demand3}
+use Rattle.demands.proofs.Choice.{contrary}
+use Rattle.demands.proofs.Mix.{sections-only, endFrom, gotFrom, Swaps, apart}
+use Rattle.demands.proofs.Address.{Owned, did-stays}
+use Rattle.demands.proofs.Room.{step, out, Free, free}
+use Rattle.demands.proofs.Forms.{Form, label-form, gauge-form}
+
+-- A label event and a gauge event change places
+
+module _ {A B : Type 0} {make : A → B → Gauge} {x : A} (r : Rec) (f : Form make x (λ g. didOf (loadedWith g) (asksOf r) r)) where
+  steps : (y : B) → step (make x y) r ≡ make (f .part) y
+  steps y = ap (λ (d : Did). d .session .gauge) (f .form y)
+
+  outs : (y z : B) → out (make x y) r ≡ out (make x z) r
+  outs y z = ap (lineOf r) (f .form y) ∙ sym (ap (lineOf r) (f .form z))
+
+module _ (address : List ℕ) where
+  step-owned : (g : Gauge) (r : Rec) → Owned address g → Owned address (step g r)
+  step-owned g r e = did-stays g (asksOf r) r .owned ∙ e
+
+  swaps : (g : Gauge) (a b : Rec) → Owned address g → classOf address a ≡ labelling → classOf address b ≡ gauging → Swaps step out g a b
+  swaps g a b own ea eb =
+      let l = label-form (g .common) (g .label) a (ap (λ (k : List ℕ). classOf k a) own ∙ ea) in
+      let m = gauge-form (g .common) (g .meter) b (ap (λ (k : List ℕ). classOf k b) own ∙ eb) in
+      let ga = steps a l (g .meter) in
+      let gb = steps b m (g .label) in
+      record {
+        state = ap (λ (x : Gauge). step x b) ga ∙ steps b m (l .part) ∙ sym (ap (λ (x : Gauge). step x a) gb ∙ steps a l (m .part));
+        first = ap (λ (x : Gauge). out x a) gb ∙ outs a l (m .part) (g .meter);
+        second = ap (λ (x : Gauge). out x b) ga ∙ outs b m (l .part) (g .label);
+      }
+
+-- One session
+
+-- the pairs leave out no record and no line
+record Zipped (rs : List Rec) (ls : List Line) : Type 0 where
+  records : map (λ e. e .0) (zip rs ls) ≡ rs
+  lines : map (λ e. e .1) (zip rs ls) ≡ ls
+
+zipped : (σ : Session) (room : ℕ) (rs : List Rec) → Zipped rs (linesOf σ room rs)
+unfolding zip zipWith
+zipped σ room [] = record { records = refl; lines = refl }
+zipped σ room (r ∷ rs) =
+    let h = zipped (didOf σ room r .session) (room - length (didOf σ room r .reply)) rs in
+    record {
+      records = ap (λ (l : List Rec). r ∷ l) (h .records);
+      lines = ap (λ (l : List Line). lineOf r (didOf σ room r) ∷ l) (h .lines);
+    }
+
+did-image : (p : List ℕ) (room : ℕ) → takenOf 1 false p ≡ Run Image → didOf emptyOf room (whole 1 p) ≡ quiet (loadedWith (imageOf p)) 0
+unfolding didOf
+did-image p room accepted = rw accepted refl
+
+abbrev imageGot : List ℕ → Rec × Line
+imageGot p = (whole 1 p, lineOf (whole 1 p) (quiet (loadedWith (imageOf p)) 0))
+
+module _ {p : List ℕ} {rs : List Rec} {c : Call} (accepted : takenOf 1 false p ≡ Run Image) (s : Starts p rs c) where
+  running : Running (c .bytes) (c .room) (c .answers) (c .ran) (c .replies) (c .told)
+  unfolding outcomeOf
+  running =
+      rw (le-ltb 32768 (length (c .bytes)) (s .short), le-ltb (length (c .answers)) ((length (c .bytes) + 3) / 4) (s .lent))
+      at (s .allowed)
+
+  tells : Told c
+  unfolding sessionOf
+  tells =
+      let h = zipped emptyOf (length (c .room)) (recsOf (c .bytes)) in
+      record {
+        done = running .outcome;
+        records = h .records;
+        lines = h .lines;
+        answered = running .answered;
+        replied = running .replies;
+      }
+
+  freed : Free (imageOf p) (length (c .room) - 0) rs
+  freed = free (imageOf p) (length (c .room) - 0) rs (omega (arith, s .asked))
+
+  ends : c .ran .session ≡ loadedWith (endFrom step out (imageOf p) rs)
+  ends = running .session ∙ rw (s .first, did-image p (length (c .room)) accepted) (freed .end)
+
+  gets : gotOf c ≡ imageGot p ∷ gotFrom step out (imageOf p) rs
+  unfolding sessionOf zip zipWith
+  gets = rw (s .first, did-image p (length (c .room)) accepted) (ap (λ (l : List (Rec × Line)). imageGot p ∷ l) (freed .got))
+
+-- the image is a fence, as the class judges it: one that comes after another
+image-class : (address p : List ℕ) → takenOf 1 false p ≡ Run Image → classOf address (whole 1 p) ≡ fence
+unfolding takenOf knownOf sizedOf dueOf
+image-class address p e = go (eqb (length p) 60) e
+  where
+    go : (t : Bool) → pick t (eventOf 1 p) (Refused Size) ≡ Run Image → takenClass address p (pick t (Refused Order) (Refused Size)) ≡ fence
+    go true f = refl
+    go false f = contrary cc
+
+-- Both
+
+pub demand-3 : Demand3
+demand-3 p xs ys a b m =
+    let k = addressIn p in
+    let h = apart step out (classOf k) (Owned k) (step-owned k) (swaps k) (m .sections) (imageOf p) refl in
+    record {
+      events =
+          rw (gets (m .accepted) (m .one), gets (m .accepted) (m .other))
+          (more {xs = []} {ys = []} (record { one = refl; other = refl; labels = refl; gauges = refl }) (image-class k p (m .accepted)) (h .sections));
+      one = tells (m .accepted) (m .one);
+      other = tells (m .accepted) (m .other);
+      state = ends (m .accepted) (m .one) ∙ ap loadedWith (h .end) ∙ sym (ends (m .accepted) (m .other));
+    }
+
+-- so of each class the whole session's events, with what they got, are the same list
+pub demand-3-by-class : (p : List ℕ) (xs ys : List Rec) (a b : Call) → Mixed p xs ys a b
+    → (k : Class) → only (λ e. classOf (addressIn p) (e .0)) k (gotOf a) ≡ only (λ e. classOf (addressIn p) (e .0)) k (gotOf b)
+demand-3-by-class p xs ys a b m k = sections-only _ k (demand-3 p xs ys a b m .events)

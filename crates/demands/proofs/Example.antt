@@ -1,0 +1,131 @@
+-- The hypothesis of demand 3 can be met: two sessions that are mixed differently. Assumes nothing.
+use mathlib.Core.Path.{_≡_, refl, ap}
+use mathlib.Core.List.{List, [], _∷_, _++_}
+use Prim.Native.Nat.{ℕ, _+_, _/_, _%_, _≤_}
+use native.Mathlib.Omega.{arith}
+use borrow.Author.Tests.{le-ltb}
+use lib.ListN.{length, getD, replicate}
+use Rattle.parts.specs.Parts.{put}
+use Rattle.crc.specs.Crc as crc
+use Rattle.meter.specs.Params.{countingOf}
+use Rattle.meter.specs.State.{poweredOf}
+use Rattle.meter.specs.Convert.{tracedOf, convertOf}
+use Rattle.map.specs.Registers.{inLabel, registersOf, labelByte, meterByte}
+use Rattle.map.specs.Writes.{labelWritten, labelCopied, labelRecalled}
+use Rattle.bus.specs.Ask.{romBy, commandOf, askedAt, askedOf}
+use Rattle.gauge.specs.Gauge.{conversionOf, powerOnOf, byteOf, writtenOf, copiedOf}
+use Rattle.gauge.specs.Act.{selectedOf, ranOf, actOf, sourceOf, sourceByte, replyOf}
+use Rattle.gauge.specs.Image.{imageOf, addressedOf, verdictOf}
+use Rattle.records.specs.declared.Outcome.the-variants.{Done}
+use Rattle.records.specs.Record.{Rec, whole, cut, knownOf, sizedOf, dueOf, eventOf, takenOf, wholeOf, recOf, sizeOf, recsOf}
+use Rattle.records.specs.Run.{Line, emptyOf, didOf, endOf, repliesOf, sessionOf, codesOf, outcomeOf}
+use Rattle.demands.specs.Call.{Call, Allowed}
+use Rattle.demands.specs.Sections.{last, more}
+use Rattle.demands.specs.Class.{blockOf, touchedOf, labelsOf, touchedClass}
+use Rattle.demands.specs.Demand3.{asksAll, Starts, Demand3Met}
+
+abbrev image : List ℕ
+image = 0x3d ∷ 1 ∷ 2 ∷ 3 ∷ 4 ∷ 5 ∷ 6 ∷ 0xac ∷ (replicate 48 0 ++ (100 ∷ 0 ∷ 128 ∷ 0 ∷ []))
+
+-- of the label: 5Ah and A5h written at 20h; block 0 copied; two bytes read at 20h
+abbrev writing : Rec
+writing = whole 4 (0 ∷ 0xcc ∷ 0x6c ∷ 0x20 ∷ 0x5a ∷ 0xa5 ∷ [])
+
+abbrev copying : Rec
+copying = whole 4 (0 ∷ 0xcc ∷ 0x48 ∷ 0x20 ∷ [])
+
+abbrev reading : Rec
+reading = whole 4 (2 ∷ 0xcc ∷ 0x69 ∷ 0x20 ∷ [])
+
+-- of gauging: a conversion of -1,000, and a read of CURRENT
+abbrev converting : Rec
+converting = whole 3 (0x18 ∷ 0xfc ∷ 0xff ∷ 0xff ∷ [])
+
+abbrev measuring : Rec
+measuring = whole 4 (2 ∷ 0xcc ∷ 0x69 ∷ 0x0e ∷ [])
+
+abbrev power-on : Rec
+power-on = whole 5 []
+
+abbrev ones : List Rec
+ones = writing ∷ copying ∷ converting ∷ power-on ∷ reading ∷ converting ∷ measuring ∷ []
+
+abbrev others : List Rec
+others = converting ∷ writing ∷ copying ∷ power-on ∷ converting ∷ reading ∷ measuring ∷ []
+
+-- the bytes of records
+abbrev packed : List Rec → List ℕ
+packed [] = []
+packed (whole kind p ∷ rs) = length p % 256 ∷ length p / 256 ∷ kind % 256 ∷ kind / 256 ∷ (p ++ packed rs)
+packed (cut ∷ rs) = []
+
+-- what the contract of `run` says of any session that it runs
+abbrev pub called : List ℕ → List ℕ → List ℕ → Call
+called s room answers = record {
+  bytes = s;
+  room = room;
+  answers = answers;
+  ran = record {
+    outcome = Done;
+    session = endOf emptyOf (length room) (recsOf s);
+    lines = length (sessionOf s (length room));
+    replied = length (repliesOf (sessionOf s (length room)));
+  };
+  replies = put room 0 (repliesOf (sessionOf s (length room)));
+  told = put answers 0 (codesOf (sessionOf s (length room)));
+}
+
+called-allowed : (s room answers : List ℕ) → length s ≤ 32768 → (length s + 3) / 4 ≤ length answers → Allowed (called s room answers)
+unfolding outcomeOf
+called-allowed s room answers short lent =
+    rw (le-ltb 32768 (length s) short, le-ltb (length answers) ((length s + 3) / 4) lent)
+    (record { outcome = refl; session = refl; lines = refl; replied = refl; replies = refl; answered = refl })
+
+-- a session of the image and then these, run with 4 bytes of reply room
+abbrev call : List Rec → Call
+call rs = called (packed (whole 1 image ∷ rs)) (replicate 4 0) (replicate 32 0)
+
+call-starts : (rs : List Rec) → length (packed (whole 1 image ∷ rs)) ≤ 128 → asksAll rs ≤ 4
+    → recsOf (packed (whole 1 image ∷ rs)) ≡ whole 1 image ∷ rs → Starts image rs (call rs)
+call-starts rs short asks holds = record {
+  allowed = called-allowed (packed (whole 1 image ∷ rs)) (replicate 4 0) (replicate 32 0) (omega arith) (omega arith);
+  short = omega arith;
+  first = holds;
+  asked = asks;
+  lent = omega arith;
+}
+
+-- THE HYPOTHESIS OF DEMAND 3 CAN BE MET
+pub demand-3-met : Demand3Met
+unfolding recOf sizeOf wholeOf takenOf knownOf sizedOf dueOf eventOf verdictOf addressedOf crc.bitOf crc.eightOf crc.byteOf
+    askedOf askedAt romBy commandOf touchedClass labelsOf touchedOf selectedOf inLabel blockOf
+demand-3-met = record {
+  image = image;
+  ones = ones;
+  others = others;
+  one = call ones;
+  other = call others;
+  mixed = record {
+    accepted = refl;
+    one = call-starts ones (omega arith) (omega arith) refl;
+    other = call-starts others (omega arith) (omega arith) refl;
+    sections =
+        more {xs = writing ∷ copying ∷ converting ∷ []} {ys = converting ∷ writing ∷ copying ∷ []}
+        (record { one = refl; other = refl; labels = refl; gauges = refl })
+        refl
+        (last (record { one = refl; other = refl; labels = refl; gauges = refl }));
+  };
+  differ = λ e. let z : _≡_ {A = ℕ} 6 4 = ap (λ (l : List ℕ). getD l 64 0) e in omega arith;
+}
+
+-- and their events do something: after the power-on the label that was written and copied is read back, and so is CURRENT
+abbrev line : ℕ → List ℕ → Line
+line kind reply = record { kind = kind; answer = 0; reply = reply }
+
+pub answers : sessionOf (call ones .bytes) 4
+    ≡ line 1 [] ∷ line 4 [] ∷ line 4 [] ∷ line 3 [] ∷ line 5 [] ∷ line 4 (0x5a ∷ 0xa5 ∷ []) ∷ line 3 [] ∷ line 4 (0xfc ∷ 0x18 ∷ []) ∷ []
+unfolding sessionOf recOf sizeOf wholeOf didOf takenOf knownOf sizedOf dueOf eventOf verdictOf addressedOf crc.bitOf crc.eightOf crc.byteOf
+    imageOf poweredOf conversionOf convertOf countingOf tracedOf powerOnOf labelRecalled
+    askedOf askedAt romBy commandOf selectedOf actOf ranOf writtenOf labelWritten copiedOf labelCopied
+    replyOf sourceOf sourceByte byteOf inLabel labelByte meterByte registersOf
+answers = refl

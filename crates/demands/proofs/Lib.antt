@@ -1,0 +1,9 @@
+pub mod Choice
+pub mod Mix
+pub mod Touched
+pub mod Address
+pub mod Room
+pub mod Forms
+pub mod Demand3
+pub mod Cases
+pub mod Example

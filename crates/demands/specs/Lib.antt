@@ -1,0 +1,4 @@
+pub mod Call
+pub mod Sections
+pub mod Class
+pub mod Demand3

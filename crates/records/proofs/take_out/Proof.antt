@@ -1,0 +1,26 @@
+use mathlib.Core.Path.{sym, _∙_}
+use borrow.Author.Needs.{needs}
+use Rattle.records.proofs.take_out.Statement.{statement}
+use Rattle.records.proofs.take_out.Tie as tie
+
+image-out-requires : tie.Need-image-out-requires
+image-out-requires c κs = search needs
+
+same-length : tie.Need-same-length
+same-length c = search needs
+
+returns : tie.Need-returns
+returns c = record { number = simp (c .before .before .before .before .before .before .if1 .taken, sym (c .before .before .before .image-out .ensures .fits) ∙ c .if2 .taken); written = c .before .before .before .image-out .ensures .written ∙ simp (c .before .before .before .before .before .before .if1 .taken) }
+
+same-length-2 : tie.Need-same-length-2
+same-length-2 c = search needs
+
+returns-2 : tie.Need-returns-2
+returns-2 c = record { number = simp (c .before .before .before .before .before .before .if1 .taken, sym (c .before .before .before .image-out .ensures .fits) ∙ c .if2 .left); written = c .before .before .before .image-out .ensures .written ∙ simp (c .before .before .before .before .before .before .if1 .taken) }
+
+returns-3 : tie.Need-returns-3
+returns-3 c = record { number = simp (c .if1 .left); written = simp (c .if1 .left) }
+
+pub take-out-spec : {M : Type 1} → statement M
+take-out-spec =
+    tie.close (tie.spec image-out-requires same-length returns same-length-2 returns-2 returns-3)
