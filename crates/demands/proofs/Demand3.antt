@@ -1,10 +1,9 @@
 -- Demand 3, proved. Assumes nothing.
 use mathlib.Core.Path.{_≡_, refl, sym, ap, _∙_}
 use mathlib.Core.Bool.{Bool, true, false}
-use mathlib.Core.List.{List, [], _∷_, map, zip, zipWith}
-use Prim.Native.Nat.{ℕ, _+_, _-_, _/_}
+use mathlib.Core.List.{List, [], _∷_, zip, zipWith}
+use Prim.Native.Nat.{ℕ, _-_}
 use native.Mathlib.Omega.{arith}
-use borrow.Author.Tests.{le-ltb}
 use lib.Dec.{eqb}
 use lib.ListN.{length}
 use Rattle.numbers.specs.Choice.{pick}
@@ -13,14 +12,14 @@ use Rattle.gauge.specs.Image.{imageOf}
 use Rattle.records.specs.declared.Event.the-variants.{Image}
 use Rattle.records.specs.declared.Taken.the-variants.{Run, Refused}
 use Rattle.records.specs.declared.Refusal.the-variants.{Size, Order}
-use Rattle.records.specs.declared.Session.{Session}
-use Rattle.records.specs.Record.{Rec, whole, knownOf, sizedOf, dueOf, eventOf, takenOf, recsOf}
-use Rattle.records.specs.Run.{Did, Line, Running, quiet, emptyOf, loadedWith, didOf, lineOf, linesOf, sessionOf, outcomeOf}
-use Rattle.demands.specs.Call.{Call, gotOf, Told}
+use Rattle.records.specs.Record.{Rec, whole, knownOf, sizedOf, dueOf, eventOf, takenOf}
+use Rattle.records.specs.Run.{Did, Line, quiet, loadedWith, didOf, lineOf, sessionOf}
+use Rattle.demands.specs.Call.{Call, gotOf}
 use Rattle.demands.specs.Sections.{Class, labelling, gauging, fence, only, more}
 use Rattle.demands.specs.Class.{takenClass, classOf}
 use Rattle.demands.specs.Demand3.{asksOf, Starts, addressIn, Mixed, Demand3}
 use Rattle.demands.proofs.Choice.{contrary}
+use Rattle.demands.proofs.Moments.{did-image, running, tells}
 use Rattle.demands.proofs.Mix.{sections-only, endFrom, gotFrom, Swaps, apart}
 use Rattle.demands.proofs.Address.{Owned, did-stays}
 use Rattle.demands.proofs.Room.{step, out, Free, free}
@@ -53,52 +52,15 @@ module _ (address : List ℕ) where
 
 -- One session
 
--- the pairs leave out no record and no line
-record Zipped (rs : List Rec) (ls : List Line) : Type 0 where
-  records : map (λ e. e .0) (zip rs ls) ≡ rs
-  lines : map (λ e. e .1) (zip rs ls) ≡ ls
-
-zipped : (σ : Session) (room : ℕ) (rs : List Rec) → Zipped rs (linesOf σ room rs)
-unfolding zip zipWith
-zipped σ room [] = record { records = refl; lines = refl }
-zipped σ room (r ∷ rs) =
-    let h = zipped (didOf σ room r .session) (room - length (didOf σ room r .reply)) rs in
-    record {
-      records = ap (λ (l : List Rec). r ∷ l) (h .records);
-      lines = ap (λ (l : List Line). lineOf r (didOf σ room r) ∷ l) (h .lines);
-    }
-
-did-image : (p : List ℕ) (room : ℕ) → takenOf 1 false p ≡ Run Image → didOf emptyOf room (whole 1 p) ≡ quiet (loadedWith (imageOf p)) 0
-unfolding didOf
-did-image p room accepted = rw accepted refl
-
 abbrev imageGot : List ℕ → Rec × Line
 imageGot p = (whole 1 p, lineOf (whole 1 p) (quiet (loadedWith (imageOf p)) 0))
 
 module _ {p : List ℕ} {rs : List Rec} {c : Call} (accepted : takenOf 1 false p ≡ Run Image) (s : Starts p rs c) where
-  running : Running (c .bytes) (c .room) (c .answers) (c .ran) (c .replies) (c .told)
-  unfolding outcomeOf
-  running =
-      rw (le-ltb 32768 (length (c .bytes)) (s .short), le-ltb (length (c .answers)) ((length (c .bytes) + 3) / 4) (s .lent))
-      at (s .allowed)
-
-  tells : Told c
-  unfolding sessionOf
-  tells =
-      let h = zipped emptyOf (length (c .room)) (recsOf (c .bytes)) in
-      record {
-        done = running .outcome;
-        records = h .records;
-        lines = h .lines;
-        answered = running .answered;
-        replied = running .replies;
-      }
-
   freed : Free (imageOf p) (length (c .room) - 0) rs
   freed = free (imageOf p) (length (c .room) - 0) rs (omega (arith, s .asked))
 
   ends : c .ran .session ≡ loadedWith (endFrom step out (imageOf p) rs)
-  ends = running .session ∙ rw (s .first, did-image p (length (c .room)) accepted) (freed .end)
+  ends = running (s .within) .session ∙ rw (s .first, did-image p (length (c .room)) accepted) (freed .end)
 
   gets : gotOf c ≡ imageGot p ∷ gotFrom step out (imageOf p) rs
   unfolding sessionOf zip zipWith
@@ -123,8 +85,8 @@ demand-3 p xs ys a b m =
       events =
           rw (gets (m .accepted) (m .one), gets (m .accepted) (m .other))
           (more {xs = []} {ys = []} (record { one = refl; other = refl; labels = refl; gauges = refl }) (image-class k p (m .accepted)) (h .sections));
-      one = tells (m .accepted) (m .one);
-      other = tells (m .accepted) (m .other);
+      one = tells (m .one .within);
+      other = tells (m .other .within);
       state = ends (m .accepted) (m .one) ∙ ap loadedWith (h .end) ∙ sym (ends (m .accepted) (m .other));
     }
 

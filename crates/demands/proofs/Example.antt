@@ -1,10 +1,11 @@
--- The hypothesis of demand 3 can be met: two sessions that are mixed differently. Assumes nothing.
+-- The hypotheses of the demands can be met. Assumes nothing.
 use mathlib.Core.Path.{_≡_, refl, ap}
+use mathlib.Core.Bool.{true}
 use mathlib.Core.List.{List, [], _∷_, _++_}
 use Prim.Native.Nat.{ℕ, _+_, _/_, _%_, _≤_}
 use native.Mathlib.Omega.{arith}
 use borrow.Author.Tests.{le-ltb}
-use lib.ListN.{length, getD, replicate}
+use lib.ListN.{length, getD, take, replicate, length-take}
 use Rattle.parts.specs.Parts.{put}
 use Rattle.crc.specs.Crc as crc
 use Rattle.meter.specs.Params.{countingOf}
@@ -18,11 +19,82 @@ use Rattle.gauge.specs.Act.{selectedOf, ranOf, actOf, sourceOf, sourceByte, rep
 use Rattle.gauge.specs.Image.{imageOf, addressedOf, verdictOf}
 use Rattle.records.specs.declared.Outcome.the-variants.{Done}
 use Rattle.records.specs.Record.{Rec, whole, cut, knownOf, sizedOf, dueOf, eventOf, takenOf, wholeOf, recOf, sizeOf, recsOf}
-use Rattle.records.specs.Run.{Line, emptyOf, didOf, endOf, repliesOf, sessionOf, codesOf, outcomeOf}
-use Rattle.demands.specs.Call.{Call, Allowed}
+use Rattle.records.specs.Run.{Line, emptyOf, didOf, endOf, repliesOf, sessionOf, codesOf, outcomeOf, takeOutNumber, takeOutRoom}
+use Rattle.demands.specs.Call.{Call, Within, firstOf, Stopped}
+use Rattle.demands.specs.Demand2.{Carried, PoweredOn}
 use Rattle.demands.specs.Sections.{last, more}
 use Rattle.demands.specs.Class.{blockOf, touchedOf, labelsOf, touchedClass}
 use Rattle.demands.specs.Demand3.{asksAll, Starts, Demand3Met}
+use Rattle.demands.proofs.Moments.{first-length}
+
+-- Any session within the limits has a call, and so has each of its moments
+
+-- what the contract of `run` says of any session that it runs
+abbrev pub called : List ℕ → List ℕ → List ℕ → Call
+called s room answers = record {
+  bytes = s;
+  room = room;
+  answers = answers;
+  ran = record {
+    outcome = Done;
+    session = endOf emptyOf (length room) (recsOf s);
+    lines = length (sessionOf s (length room));
+    replied = length (repliesOf (sessionOf s (length room)));
+  };
+  replies = put room 0 (repliesOf (sessionOf s (length room)));
+  told = put answers 0 (codesOf (sessionOf s (length room)));
+}
+
+pub called-within : (s room answers : List ℕ) → length s ≤ 32768 → (length s + 3) / 4 ≤ length answers → Within (called s room answers)
+unfolding outcomeOf
+called-within s room answers short lent = record {
+  allowed =
+      rw (le-ltb 32768 (length s) short, le-ltb (length answers) ((length s + 3) / 4) lent)
+      (record { outcome = refl; session = refl; lines = refl; replied = refl; replies = refl; answered = refl });
+  short = short;
+  lent = lent;
+}
+
+pub called-stopped : (n : ℕ) (c : Call) → Within c → Stopped n c (called (firstOf n (c .bytes)) (c .room) (c .answers))
+called-stopped n c w =
+    let e = first-length n (c .bytes) in
+    record {
+      allowed = called-within (firstOf n (c .bytes)) (c .room) (c .answers) (omega (arith, w .short)) (omega (arith, w .lent)) .allowed;
+      bytes = refl;
+      room = refl;
+      answers = refl;
+    }
+
+-- and an image can be taken out of the state that is left, and given to a fresh gauge
+module _ (d : Call) (w : Within d) (loaded : d .ran .session .loaded ≡ true) (room : List ℕ) (fits : 60 ≤ length room) where
+  abbrev after : List ℕ
+  after = takeOutRoom (d .ran .session) room
+
+  abbrev fresh : Call
+  fresh = called (60 ∷ 0 ∷ 1 ∷ 0 ∷ take 60 after) [] (replicate 16 0)
+
+  pub called-carried : Carried d room (takeOutNumber (d .ran .session) room) after fresh
+  called-carried = record {
+    run = w;
+    loaded = loaded;
+    fits = fits;
+    out = record { number = refl; written = refl };
+    fresh =
+        called-within (60 ∷ 0 ∷ 1 ∷ 0 ∷ take 60 after) [] (replicate 16 0)
+        (omega (arith, length-take 60 after)) (omega (arith, length-take 60 after));
+    image = refl;
+  }
+
+-- The example that 01 prints: a power-on before an image, an unknown kind, and a record that is cut
+
+abbrev line : ℕ → ℕ → List ℕ → Line
+line kind answer reply = record { kind = kind; answer = answer; reply = reply }
+
+pub printed : sessionOf (0 ∷ 0 ∷ 5 ∷ 0 ∷ 0 ∷ 0 ∷ 0x63 ∷ 0 ∷ 1 ∷ []) 65536 ≡ line 5 5 [] ∷ line 0x63 3 [] ∷ line 0 2 [] ∷ []
+unfolding sessionOf recOf sizeOf wholeOf didOf takenOf knownOf sizedOf dueOf
+printed = refl
+
+-- Two sessions that are mixed differently
 
 abbrev image : List ℕ
 image = 0x3d ∷ 1 ∷ 2 ∷ 3 ∷ 4 ∷ 5 ∷ 6 ∷ 0xac ∷ (replicate 48 0 ++ (100 ∷ 0 ∷ 128 ∷ 0 ∷ []))
@@ -59,40 +131,19 @@ packed [] = []
 packed (whole kind p ∷ rs) = length p % 256 ∷ length p / 256 ∷ kind % 256 ∷ kind / 256 ∷ (p ++ packed rs)
 packed (cut ∷ rs) = []
 
--- what the contract of `run` says of any session that it runs
-abbrev pub called : List ℕ → List ℕ → List ℕ → Call
-called s room answers = record {
-  bytes = s;
-  room = room;
-  answers = answers;
-  ran = record {
-    outcome = Done;
-    session = endOf emptyOf (length room) (recsOf s);
-    lines = length (sessionOf s (length room));
-    replied = length (repliesOf (sessionOf s (length room)));
-  };
-  replies = put room 0 (repliesOf (sessionOf s (length room)));
-  told = put answers 0 (codesOf (sessionOf s (length room)));
-}
-
-called-allowed : (s room answers : List ℕ) → length s ≤ 32768 → (length s + 3) / 4 ≤ length answers → Allowed (called s room answers)
-unfolding outcomeOf
-called-allowed s room answers short lent =
-    rw (le-ltb 32768 (length s) short, le-ltb (length answers) ((length s + 3) / 4) lent)
-    (record { outcome = refl; session = refl; lines = refl; replied = refl; replies = refl; answered = refl })
-
 -- a session of the image and then these, run with 4 bytes of reply room
 abbrev call : List Rec → Call
 call rs = called (packed (whole 1 image ∷ rs)) (replicate 4 0) (replicate 32 0)
 
+call-within : (rs : List Rec) → length (packed (whole 1 image ∷ rs)) ≤ 128 → Within (call rs)
+call-within rs short = called-within (packed (whole 1 image ∷ rs)) (replicate 4 0) (replicate 32 0) (omega arith) (omega arith)
+
 call-starts : (rs : List Rec) → length (packed (whole 1 image ∷ rs)) ≤ 128 → asksAll rs ≤ 4
     → recsOf (packed (whole 1 image ∷ rs)) ≡ whole 1 image ∷ rs → Starts image rs (call rs)
 call-starts rs short asks holds = record {
-  allowed = called-allowed (packed (whole 1 image ∷ rs)) (replicate 4 0) (replicate 32 0) (omega arith) (omega arith);
-  short = omega arith;
+  within = call-within rs short;
   first = holds;
   asked = asks;
-  lent = omega arith;
 }
 
 -- THE HYPOTHESIS OF DEMAND 3 CAN BE MET
@@ -119,13 +170,20 @@ demand-3-met = record {
 }
 
 -- and their events do something: after the power-on the label that was written and copied is read back, and so is CURRENT
-abbrev line : ℕ → List ℕ → Line
-line kind reply = record { kind = kind; answer = 0; reply = reply }
-
 pub answers : sessionOf (call ones .bytes) 4
-    ≡ line 1 [] ∷ line 4 [] ∷ line 4 [] ∷ line 3 [] ∷ line 5 [] ∷ line 4 (0x5a ∷ 0xa5 ∷ []) ∷ line 3 [] ∷ line 4 (0xfc ∷ 0x18 ∷ []) ∷ []
+    ≡ line 1 0 [] ∷ line 4 0 [] ∷ line 4 0 [] ∷ line 3 0 [] ∷ line 5 0 [] ∷ line 4 0 (0x5a ∷ 0xa5 ∷ []) ∷ line 3 0 [] ∷ line 4 0 (0xfc ∷ 0x18 ∷ []) ∷ []
 unfolding sessionOf recOf sizeOf wholeOf didOf takenOf knownOf sizedOf dueOf eventOf verdictOf addressedOf crc.bitOf crc.eightOf crc.byteOf
     imageOf poweredOf conversionOf convertOf countingOf tracedOf powerOnOf labelRecalled
     askedOf askedAt romBy commandOf selectedOf actOf ranOf writtenOf labelWritten copiedOf labelCopied
     replyOf sourceOf sourceByte byteOf inLabel labelByte meterByte registersOf
 answers = refl
+
+-- the image that the first of them leaves can be taken out, and a power-on can follow it
+pub loads : call ones .ran .session .loaded ≡ true
+unfolding recOf sizeOf wholeOf didOf takenOf knownOf sizedOf dueOf eventOf verdictOf addressedOf crc.bitOf crc.eightOf crc.byteOf
+    askedOf askedAt romBy commandOf replyOf
+loads = refl
+
+pub powers-on : PoweredOn (call ones) (call (ones ++ (power-on ∷ [])))
+unfolding recOf sizeOf wholeOf
+powers-on = record { run = call-within (ones ++ (power-on ∷ [])) (omega arith); room = refl; last = refl }

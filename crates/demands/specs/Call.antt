@@ -1,12 +1,12 @@
 -- A call of `run`, the program's entry: what the demands are stated of.
 use mathlib.Core.Path.{_≡_}
-use mathlib.Core.List.{List, map, zip}
-use Prim.Native.Nat.{ℕ}
-use lib.ListN.{length}
+use mathlib.Core.List.{List, [], _∷_, _++_, map, zip}
+use Prim.Native.Nat.{ℕ, zero, suc, _+_, _/_, _≤_}
+use lib.ListN.{length, take, drop}
 use Rattle.parts.specs.Parts.{put}
 use Rattle.records.specs.declared.Outcome.the-variants.{Done}
 use Rattle.records.specs.declared.Ran.{Ran}
-use Rattle.records.specs.Record.{Rec, recsOf}
+use Rattle.records.specs.Record.{Rec, sizeOf, recsOf}
 use Rattle.records.specs.Run.{Line, sessionOf, repliesOf, codesOf, outcomeOf, Runs}
 
 -- the bytes of a session, the reply room and the answers that are lent; what comes back, and what room and answers then hold
@@ -23,6 +23,12 @@ abbrev pub Allowed : Call → Type 0
 Allowed c =
     Runs (outcomeOf (c .bytes) (length (c .answers))) (c .bytes) (c .room) (c .answers) (c .ran) (c .replies) (c .told)
 
+-- and the session has at most 32,768 bytes, with answers lent for as many records as so many bytes may hold
+pub record Within (c : Call) : Type 0 where
+  pub allowed : Allowed c
+  pub short : length (c .bytes) ≤ 32768
+  pub lent : (length (c .bytes) + 3) / 4 ≤ length (c .answers)
+
 -- the lines that the definition of a session gives: a kind, an answer and the reply bytes for each record
 abbrev pub linesIn : Call → List Line
 linesIn c = sessionOf (c .bytes) (length (c .room))
@@ -38,3 +44,25 @@ pub record Told (c : Call) : Type 0 where
   pub lines : map (λ e. e .1) (gotOf c) ≡ linesIn c
   pub answered : c .told ≡ put (c .answers) 0 (codesOf (linesIn c))
   pub replied : c .replies ≡ put (c .room) 0 (repliesOf (linesIn c))
+
+-- ---- the moments of a session
+
+-- the bytes of the first n records
+abbrev pub firstOf : ℕ → List ℕ → List ℕ
+firstOf zero s = []
+firstOf (suc n) s = take (sizeOf s) s ++ firstOf n (drop (sizeOf s) s)
+
+-- the session of c, lent the same, run up to the end of its n-th record
+pub record Stopped (n : ℕ) (c d : Call) : Type 0 where
+  pub allowed : Allowed d
+  pub bytes : d .bytes ≡ firstOf n (c .bytes)
+  pub room : d .room ≡ c .room
+  pub answers : d .answers ≡ c .answers
+
+-- a record of the session of c with its line, and the runs that stop before it and after it
+pub record Taking (c : Call) (r : Rec) (l : Line) (a b : Call) : Type 0 where
+  pub earlier : ℕ
+  pub later : List (Rec × Line)
+  pub here : drop earlier (gotOf c) ≡ (r, l) ∷ later
+  pub before : Stopped earlier c a
+  pub after : Stopped (suc earlier) c b

@@ -7,14 +7,14 @@
 use mathlib.Core.Path.{_≡_}
 use mathlib.Core.Bool.{true, false}
 use mathlib.Core.List.{List, [], _∷_}
-use Prim.Native.Nat.{ℕ, _+_, _/_, _≤_}
+use Prim.Native.Nat.{ℕ, _+_, _≤_}
 use lib.ListN.{length}
 use Rattle.gauge.specs.Image.{imageOf}
 use Rattle.records.specs.declared.Event.the-variants.{Image, Reading, Conversion, Transact, PowerOn}
 use Rattle.records.specs.declared.Taken.{Taken}
 use Rattle.records.specs.declared.Taken.the-variants.{Run, Refused}
 use Rattle.records.specs.Record.{Rec, whole, cut, takenOf, recsOf}
-use Rattle.demands.specs.Call.{Call, Allowed, gotOf, Told}
+use Rattle.demands.specs.Call.{Call, Within, gotOf, Told}
 use Rattle.demands.specs.Sections.{Sections}
 use Rattle.demands.specs.Class.{classOf}
 
@@ -35,14 +35,11 @@ abbrev pub asksAll : List Rec → ℕ
 asksAll [] = 0
 asksAll (r ∷ rs) = asksOf r + asksAll rs
 
--- a session of at most 32,768 bytes: the image p first, then the records rs; "reply room for all they ask", and answers for as many
--- records as so many bytes may hold
+-- a session of the image p first, then the records rs, with "reply room for all they ask"
 pub record Starts (p : List ℕ) (rs : List Rec) (c : Call) : Type 0 where
-  pub allowed : Allowed c
-  pub short : length (c .bytes) ≤ 32768
+  pub within : Within c
   pub first : recsOf (c .bytes) ≡ whole 1 p ∷ rs
   pub asked : asksAll rs ≤ length (c .room)
-  pub lent : (length (c .bytes) + 3) / 4 ≤ length (c .answers)
 
 abbrev pub addressIn : List ℕ → List ℕ
 addressIn p = imageOf p .common .address

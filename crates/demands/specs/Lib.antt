@@ -1,4 +1,6 @@
 pub mod Call
 pub mod Sections
 pub mod Class
+pub mod Demand1
+pub mod Demand2
 pub mod Demand3

@@ -14,7 +14,7 @@ use Rattle.meter.specs.State.{poweredOf}
 use Rattle.map.specs.Writes.{labelRecalled}
 use Rattle.gauge.specs.declared.Gauge.{Gauge}
 use Rattle.gauge.specs.declared.Verdict.the-variants.{Accepted}
-use Rattle.gauge.specs.Gauge.{powerOnOf}
+use Rattle.gauge.specs.Gauge.{Sized, powerOnOf}
 use Rattle.gauge.specs.Image.{addressedOf, verdictOf, imageOf, lockByte, tailOf, bytesOf}
 
 -- ---- four parts of 8, 16, 32 and 4 bytes
@@ -53,12 +53,7 @@ module _ (a e b t : List ℕ) (la : length a ≡ 8) (le : length e ≡ 16) (lb :
   pub joint-byte : (i : ℕ) → getD joint (56 + i) 0 ≡ getD t i 0
   joint-byte i = sym (getD-drop 56 joint i 0) ∙ ap (λ (l : List ℕ). getD l i 0) joint-tail
 
--- ---- the arrays of a gauge have their sizes
-
-pub record Sized (g : Gauge) : Type 0 where
-  pub address : length (g .common .address) ≡ 8
-  pub label : length (g .label .eeprom) ≡ 16
-  pub block : length (g .meter .block .eeprom) ≡ 32
+-- ---- the image of a gauge
 
 -- the two lock bits of a byte
 bits : (x y : Bool) → (eqb (lockByte x y % 2) 1 ≡ y) × (eqb (lockByte x y / 2 % 2) 1 ≡ x) × (leb (lockByte x y) 3 ≡ true)
@@ -82,11 +77,11 @@ image-holds g z =
     let e = g .label .eeprom in
     let b = g .meter .block .eeprom in
     record {
-      size = joint-length a e b (tailOf g) (z .address) (z .label) (z .block) refl;
-      address = joint-address a e b (tailOf g) (z .address) (z .label) (z .block) refl;
-      label = joint-label a e b (tailOf g) (z .address) (z .label) (z .block) refl;
-      block = joint-block a e b (tailOf g) (z .address) (z .label) (z .block) refl;
-      byte = joint-byte a e b (tailOf g) (z .address) (z .label) (z .block) refl;
+      size = joint-length a e b (tailOf g) (z .address) (z .label .eeprom) (z .block .eeprom) refl;
+      address = joint-address a e b (tailOf g) (z .address) (z .label .eeprom) (z .block .eeprom) refl;
+      label = joint-label a e b (tailOf g) (z .address) (z .label .eeprom) (z .block .eeprom) refl;
+      block = joint-block a e b (tailOf g) (z .address) (z .label .eeprom) (z .block .eeprom) refl;
+      byte = joint-byte a e b (tailOf g) (z .address) (z .label .eeprom) (z .block .eeprom) refl;
     }
 
 -- read in again it is a power-on

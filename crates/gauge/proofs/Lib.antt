@@ -1,3 +1,6 @@
 pub mod Listed
 pub mod Viewing
 pub mod Image
+pub mod Kept
+pub mod Reached
+pub mod Unique

@@ -14,9 +14,14 @@ pub listed-length : (f : ℕ → ℕ) (i n : ℕ) → length (listed f i n) ≡ 
 listed-length f i zero = refl
 listed-length f i (suc n) = ap suc (listed-length f (i + 1) n)
 
-pub listed-same : (f g : ℕ → ℕ) → ((i : ℕ) → f i ≡ g i) → (i n : ℕ) → listed f i n ≡ listed g i n
+listed-same : (f g : ℕ → ℕ) → ((i : ℕ) → f i ≡ g i) → (i n : ℕ) → listed f i n ≡ listed g i n
 listed-same f g e i zero = refl
 listed-same f g e i (suc n) = rw (e i) (ap (λ (l : List ℕ). g i ∷ l) (listed-same f g e (i + 1) n))
+
+-- a room that was filled with the values of f was filled with those of g
+pub filled-same : (f g : ℕ → ℕ) → ((i : ℕ) → f i ≡ g i) → (n : ℕ) (room after : List ℕ)
+    → after ≡ listed f 0 n ++ drop n room → after ≡ listed g 0 n ++ drop n room
+filled-same f g e n room after h = h ∙ ap (λ (l : List ℕ). l ++ drop n room) (listed-same f g e 0 n)
 
 -- where a loop stands that writes n values of f: what is still to be put, over what stands there now, is the whole
 pub record Filling (f : ℕ → ℕ) (n : ℕ) (room₀ room : List ℕ) (i : ℕ) : Type 0 where
@@ -27,7 +32,8 @@ pub record Filling (f : ℕ → ℕ) (n : ℕ) (room₀ room : List ℕ) (i : �
 pub filling-start : (f : ℕ → ℕ) (n : ℕ) (room : List ℕ) → Filling f n room room 0
 filling-start f n room = record { within = omega arith; same = refl; rest = rw (sub-zero n) refl }
 
-pub filling-more : (f : ℕ → ℕ) (n : ℕ) (room₀ room : List ℕ) (i b : ℕ) → Filling f n room₀ room i → i < n → b ≡ f i → Filling f n room₀ (set room i b) (i + 1)
+pub filling-more : (f : ℕ → ℕ) (n : ℕ) (room₀ room : List ℕ) (i b : ℕ) → Filling f n room₀ room i → i < n → b ≡ f i
+    → Filling f n room₀ (set room i b) (i + 1)
 filling-more f n room₀ room i b g h e =
     let k : n - i ≡ suc (n - (i + 1)) = omega arith in
     rw e

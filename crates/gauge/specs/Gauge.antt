@@ -1,6 +1,8 @@
 -- The gauge: common part, label and meter, and what each event makes of them. Label events see no meter, and gauge events no label.
 use Prim.Native.Nat.{ℕ, _+_}
+use mathlib.Core.Path.{_≡_}
 use mathlib.Core.List.{List, [], _∷_}
+use lib.ListN.{length}
 use Rattle.numbers.specs.Choice.{pick}
 use Rattle.meter.specs.declared.Meter.{Meter}
 use Rattle.meter.specs.State.{MeterWF, restartedOf}
@@ -8,6 +10,7 @@ use Rattle.meter.specs.Convert.{convertOf}
 use Rattle.meter.specs.Read.{readOf}
 use Rattle.map.specs.declared.Held.{Held}
 use Rattle.map.specs.declared.Label.{Label}
+use Rattle.map.specs.Sizes.{LabelSized, BlockSized}
 use Rattle.map.specs.Registers.{inLabel, inBlock, labelByte, meterByte}
 use Rattle.map.specs.Writes.{heldOf, meterWritten, labelWritten, labelCopied, meterCopied, labelRecalled, meterRecalled, blockLocked, labelLocked, lockUsed}
 use Rattle.gauge.specs.declared.Gauge.{Gauge}
@@ -15,6 +18,12 @@ use Rattle.gauge.specs.declared.Gauge.{Gauge}
 -- what holds of every gauge: its meter is well-formed
 pub record GaugeWF (g : Gauge) : Type 0 where
   pub meter : MeterWF (g .meter)
+
+-- and its arrays have their sizes
+pub record Sized (g : Gauge) : Type 0 where
+  pub address : length (g .common .address) ≡ 8
+  pub label : LabelSized (g .label)
+  pub block : BlockSized (g .meter .block)
 
 abbrev pub withLabel : Gauge → Label → Gauge
 withLabel g l = record { common = g .common; label = l; meter = g .meter }
@@ -51,15 +60,14 @@ writesOf h g a (b ∷ bs) = writesOf (heldOf h a b) (writtenOf h g a b) (a + 1) 
 
 -- ---- 48h, B8h, 6Ah: on the block that holds the address, nothing where none does
 
+abbrev pub withBlockAt : Gauge → ℕ → Label → Meter → Gauge
+withBlockAt g a label meter = pick (inLabel a) (withLabel g label) (pick (inBlock a) (withMeter g meter) g)
+
 unfoldable pub copiedOf : Gauge → ℕ → Gauge
-copiedOf g a =
-    pick (inLabel a) (withLabel g (labelCopied (g .common) (g .label)))
-    (pick (inBlock a) (withMeter g (meterCopied (g .meter))) g)
+copiedOf g a = withBlockAt g a (labelCopied (g .common) (g .label)) (meterCopied (g .meter))
 
 unfoldable pub recalledOf : Gauge → ℕ → Gauge
-recalledOf g a =
-    pick (inLabel a) (withLabel g (labelRecalled (g .label)))
-    (pick (inBlock a) (withMeter g (meterRecalled (g .meter))) g)
+recalledOf g a = withBlockAt g a (labelRecalled (g .label)) (meterRecalled (g .meter))
 
 -- if LOCK is 1
 unfoldable pub lockedOf : Gauge → ℕ → Gauge

@@ -46,7 +46,9 @@ unfoldable pub imageOf : List ℕ → Gauge
 imageOf p = record {
   common = record { address = part 8 p 0; bl0 = eqb (getD p 59 0 % 2) 1 };
   label = record { shadow = part 16 p 8; eeprom = part 16 p 8 };
-  meter = poweredOf (record { shadow = part 32 p 24; eeprom = part 32 p 24 }) (record { lock = false; bl1 = eqb (getD p 59 0 / 2 % 2) 1 }) (savedOf p);
+  meter =
+      poweredOf (record { shadow = part 32 p 24; eeprom = part 32 p 24 })
+      (record { lock = false; bl1 = eqb (getD p 59 0 / 2 % 2) 1 }) (savedOf p);
 }
 
 -- ---- out

@@ -2,3 +2,4 @@ pub mod Gauge
 pub mod Act
 pub mod Image
 pub mod View
+pub mod Reach

@@ -13,7 +13,8 @@ ghost use mathlib.Core.Path.{_≡_};
 ghost use mathlib.Core.List.{_++_};
 ghost use Prim.Native.Nat.{_+_, _≤_, _<_};
 ghost use lib.ListN.{length, drop};
-ghost use Rattle.gauge.specs.Gauge.{GaugeWF, conversionOf, readingOf, powerOnOf, byteOf, writtenOf, writesOf, copiedOf, recalledOf, lockedOf};
+ghost use Rattle.meter.specs.State.{MeterWF};
+ghost use Rattle.gauge.specs.Gauge.{GaugeWF, conversionOf, readingOf, powerOnOf, writtenOf, writesOf, withBlockAt, copiedOf, recalledOf, lockedOf};
 ghost use Rattle.gauge.specs.Act.{selectedOf, noneHeld, ranOf, actOf, readFrom, netFrom, sourceBy, sourceByte, listed, replyOf};
 ghost use Rattle.gauge.specs.Image.{addressedOf, verdictOf, imageOf, lockByte, cellsOf, tailOf, ImageOut};
 ghost use Rattle.gauge.specs.View.{viewOf, viewByte, viewed, netByte};
@@ -49,6 +50,7 @@ pub enum Verdict {
 // ---- conversion, reading, power-on
 
 impl Gauge {
+    // A conversion of a signed 32-bit raw current, which comes as z + 2^31.
     pub fn convert(mut self, raw: u32) -> Gauge
         requires { ⌜ GaugeWF self ⌝ }
         ensures { λ r. ⌜ r ≡ conversionOf self raw ⌝ }
@@ -60,6 +62,7 @@ impl Gauge {
         self
     }
 
+    // A reading of a signed 32-bit voltage and temperature, which come as z + 2^31.
     pub fn read(mut self, volt: u32, temp: u32) -> Gauge
         requires { ⌜ GaugeWF self ⌝ }
         ensures { λ r. ⌜ r ≡ readingOf self volt temp ⌝ }
@@ -130,45 +133,43 @@ impl Gauge {
         g
     }
 
-    fn copied(mut self, a: usize) -> Gauge
+    // The block that holds the address is replaced: block 0 is the label, block 1 the meter's. Nothing is where none holds it.
+    fn with_block(mut self, a: usize, label: Label, meter: Meter) -> Gauge
         requires { ⌜ GaugeWF self ⌝ }
-        ensures { λ r. ⌜ r ≡ copiedOf self a ⌝ }
+        requires { ⌜ MeterWF meter ⌝ }
+        ensures { λ r. ⌜ r ≡ withBlockAt self a label meter ⌝ }
         ensures kept { λ r. ⌜ GaugeWF r ⌝ }
     {
         if map::in_label(a) {
-            let k = self.common;
-            let l = self.label;
-            let label = l.copied(k);
             self.label = label;
             return self;
         }
         if map::in_block(a) {
-            let m = self.meter;
-            let next = map::meter_copied(m);
-            self.meter = next;
+            self.meter = meter;
             return self;
         }
         self
     }
 
-    fn recalled(mut self, a: usize) -> Gauge
+    fn copied(self, a: usize) -> Gauge
+        requires { ⌜ GaugeWF self ⌝ }
+        ensures { λ r. ⌜ r ≡ copiedOf self a ⌝ }
+        ensures kept { λ r. ⌜ GaugeWF r ⌝ }
+    {
+        let k = self.common;
+        let l = self.label;
+        let m = self.meter;
+        self.with_block(a, l.copied(k), map::meter_copied(m))
+    }
+
+    fn recalled(self, a: usize) -> Gauge
         requires { ⌜ GaugeWF self ⌝ }
         ensures { λ r. ⌜ r ≡ recalledOf self a ⌝ }
         ensures kept { λ r. ⌜ GaugeWF r ⌝ }
     {
-        if map::in_label(a) {
-            let l = self.label;
-            let label = l.recalled();
-            self.label = label;
-            return self;
-        }
-        if map::in_block(a) {
-            let m = self.meter;
-            let next = map::meter_recalled(m);
-            self.meter = next;
-            return self;
-        }
-        self
+        let l = self.label;
+        let m = self.meter;
+        self.with_block(a, l.recalled(), map::meter_recalled(m))
     }
 
     fn locked(mut self, a: usize) -> Gauge
@@ -410,7 +411,7 @@ fn addressed(address: &[u8]) -> bool
     numbers::and(address[0] == 0x3d, address[7] == c)
 }
 
-// What an image record is answered with.
+// An image, judged by itself: whether it comes in its time is not asked here.
 pub fn judged(p: &[u8]) -> Verdict
     ensures { λ r. ⌜ r ≡ verdictOf (now (p .entry)) ⌝ }
 {

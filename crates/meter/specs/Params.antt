@@ -9,7 +9,6 @@ use Rattle.numbers.specs.Offset.{offset8Of, joinedOf}
 use Rattle.meter.specs.declared.Counting.{Counting}
 use Rattle.meter.specs.declared.Limits.{Limits}
 use Rattle.meter.specs.declared.Capacity.{Capacity}
-use Rattle.meter.specs.declared.Breaks.{Breaks}
 use Rattle.meter.specs.declared.Slopes.{Slopes}
 use Rattle.meter.specs.declared.Curves.{Curves}
 
@@ -21,8 +20,8 @@ byteAt block address = getD block (address - 0x60) 0
 abbrev pub signedAt : List ℕ → ℕ → ℕ
 signedAt block address = offset8Of (byteAt block address)
 
-abbrev pub pairAt : List ℕ → ℕ → ℕ → ℕ
-pairAt block high low = joinedOf (byteAt block high) (byteAt block low)
+abbrev pub joinedAt : List ℕ → ℕ → ℕ → ℕ
+joinedAt block high low = joinedOf (byteAt block high) (byteAt block low)
 
 -- 60h CONTROL: NBEN is bit 7, RNAOP bit 4
 abbrev pub nbenOf : List ℕ → Bool
@@ -31,12 +30,12 @@ nbenOf block = leb 128 (byteAt block 0x60)
 abbrev pub rnaopOf : List ℕ → Bool
 rnaopOf block = eqb (byteAt block 0x60 / 16 % 2) 1
 
--- what a count is worked out with: AB, AC, COB
+-- what a count is worked out with: NBEN, AB, AC, COB
 unfoldable pub countingOf : List ℕ → Counting
 countingOf block = record {
   nben = nbenOf block;
   ab = signedAt block 0x61;
-  ac = pairAt block 0x62 0x63;
+  ac = joinedAt block 0x62 0x63;
   cob = signedAt block 0x7b;
 }
 
@@ -51,7 +50,7 @@ limitsOf block = record {
 
 -- RSNSP, Full40
 unfoldable pub capacityOf : List ℕ → Capacity
-capacityOf block = record { rsnsp = byteAt block 0x69; full40 = pairAt block 0x6a 0x6b }
+capacityOf block = record { rsnsp = byteAt block 0x69; full40 = joinedAt block 0x6a 0x6b }
 
 -- the slopes of a line, which stand from segment 4 to 1
 abbrev pub slopesFrom : List ℕ → ℕ → Slopes

@@ -9,9 +9,6 @@ use Rattle.parts.proofs.store4
 use Rattle.parts.proofs.store8
 use Rattle.parts.proofs.store16
 use Rattle.parts.proofs.store32
-use Rattle.parts.proofs.sized8
-use Rattle.parts.proofs.sized16
-use Rattle.parts.proofs.sized32
 use Rattle.parts.proofs.wide
 use Rattle.parts.proofs.pair
 use Rattle.parts.proofs.quad
@@ -39,15 +36,6 @@ store16-once κs a r r′ w w′ p h h′ = (refl, λ i. (tt, ((h .written ∙ s
 
 pub store32-once : Once store32.ended store32.Reads.Pre store32.Reads.Learnt
 store32-once κs a r r′ w w′ p h h′ = (refl, λ i. (tt, ((h .written ∙ sym (h′ .written)) i, (tt, tt))))
-
-pub sized8-once : Once sized8.ended sized8.Reads.Pre sized8.Reads.Learnt
-sized8-once κs a r r′ w w′ p h h′ = (refl, refl)
-
-pub sized16-once : Once sized16.ended sized16.Reads.Pre sized16.Reads.Learnt
-sized16-once κs a r r′ w w′ p h h′ = (refl, refl)
-
-pub sized32-once : Once sized32.ended sized32.Reads.Pre sized32.Reads.Learnt
-sized32-once κs a r r′ w w′ p h h′ = (refl, refl)
 
 pub wide-once : Once wide.ended wide.Reads.Pre wide.Reads.Learnt
 wide-once κs a r r′ w w′ p h h′ = (h .0 ∙ sym (h′ .0), refl)

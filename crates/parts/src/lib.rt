@@ -87,21 +87,6 @@ pub fn store32(a: [u8; 32], dst: &mut [u8], at: usize)
     store(&a, dst, at);
 }
 
-// An array's length, told to a proof: the call does nothing.
-pub fn sized8(a: [u8; 8])
-    ensures { λ _. ⌜ length a ≡ 8 ⌝ }
-{}
-
-// An array's length, told to a proof: the call does nothing.
-pub fn sized16(a: [u8; 16])
-    ensures { λ _. ⌜ length a ≡ 16 ⌝ }
-{}
-
-// An array's length, told to a proof: the call does nothing.
-pub fn sized32(a: [u8; 32])
-    ensures { λ _. ⌜ length a ≡ 32 ⌝ }
-{}
-
 // A byte as a length or an index. That it is below 256 is said too, for the sums that callers make of it.
 pub fn wide(x: u8) -> usize
     ensures { λ r. ⌜ (r ≡ x) × (r < 256) ⌝ }

@@ -13,7 +13,7 @@ use Rattle.gauge.specs.Gauge.{GaugeWF}
 use Rattle.gauge.specs.declared.Gauge.{Gauge}
 use Rattle.gauge.specs.declared.Verdict.{Verdict}
 use Rattle.gauge.specs.declared.Verdict.the-variants as verdict
-use Rattle.gauge.specs.Image.{verdictOf}
+use Rattle.gauge.specs.Image.{verdictOf, verdictNumber}
 use Rattle.records.specs.declared.Refusal.{Refusal}
 use Rattle.records.specs.declared.Refusal.the-variants as refusal
 use Rattle.records.specs.declared.Event.{Event}
@@ -163,3 +163,11 @@ module _ (e : Event) where
   event-fits kind loaded p h =
       let t = tests (knownOf kind) (sizedOf kind (length p)) (dueOf kind loaded) (eventOf kind p) h in
       kinds kind p (t .0) (eqb kind 1) (eqb kind 2) (eqb kind 3) (eqb kind 4) refl refl refl refl (t .1)
+
+-- ---- an image is refused with the number that it is judged with
+
+pub verdict-number : (v : Verdict) → takenNumber (imageTaken v) ≡ verdictNumber v
+verdict-number verdict.Accepted = refl
+verdict-number verdict.Size = refl
+verdict-number verdict.Address = refl
+verdict-number verdict.Locks = refl

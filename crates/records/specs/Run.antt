@@ -146,6 +146,12 @@ abbrev pub codesOf : List Line → List ℕ
 codesOf [] = []
 codesOf (l ∷ ls) = codeOf (l .kind) (l .answer) (length (l .reply)) ∷ codesOf ls
 
+-- the answer number of a whole session: 1 where it is over 32,768 bytes, and 9, as for every lent room that is too small, where the lent answers are
+abbrev pub outcomeNumber : Outcome → ℕ
+outcomeNumber Done = 0
+outcomeNumber Over = 1
+outcomeNumber Short = refusalNumber Room
+
 -- 1: session over 32,768 bytes; nothing is run. Nor is it where the lent answers are fewer than the records may be
 unfoldable pub outcomeOf : List ℕ → ℕ → Outcome
 outcomeOf s answers = pick (ltb 32768 (length s)) Over (pick (ltb answers ((length s + 3) / 4)) Short Done)

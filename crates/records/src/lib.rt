@@ -20,6 +20,7 @@ pub enum Refusal {
     Room,
 }
 
+// What a record asks of the gauge. Readings and conversions hold signed counts, as z + 2^31.
 pub enum Event {
     Image,
     Reading(u32, u32),
@@ -211,7 +212,7 @@ fn transacted(s: Session, t: Transaction, p: &[u8], room: &mut [u8]) -> Applied
     if room.len() < t.count as usize {
         return Applied {
             session: s,
-            answer: 9,
+            answer: number(Taken::Refused(Refusal::Room)),
             replied: 0,
         };
     }
@@ -379,7 +380,7 @@ pub fn take_out(s: Session, room: &mut [u8]) -> u8
         if g.image_out(room) {
             return 0;
         }
-        return 9;
+        return number(Taken::Refused(Refusal::Room));
     }
-    5
+    number(Taken::Refused(Refusal::Order))
 }

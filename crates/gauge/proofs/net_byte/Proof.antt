@@ -3,9 +3,6 @@ use borrow.Author.Needs.{needs}
 use Rattle.gauge.proofs.net_byte.Statement.{statement}
 use Rattle.gauge.proofs.net_byte.Tie as tie
 
-array-read-result : tie.Need-array-read-result
-array-read-result c = search needs
-
 returns : tie.Need-returns
 returns c = simp (c .before .if1 .taken, lt-ltb _ _ (c .if2 .taken))
 
@@ -16,4 +13,4 @@ returns-3 : tie.Need-returns-3
 returns-3 c = simp (c .if1 .left)
 
 pub net-byte-spec : {M : Type 1} → statement M
-net-byte-spec = tie.close (tie.spec array-read-result returns returns-2 returns-3)
+net-byte-spec = tie.close (tie.spec (λ c. search needs) returns returns-2 returns-3)

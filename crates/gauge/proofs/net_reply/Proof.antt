@@ -15,18 +15,6 @@ abbrev μ-loop : tie.MeasureT-loop
 loop-holds : tie.Need-loop-holds Inv-loop μ-loop
 loop-holds c = filling-start _ _ _
 
-net-byte-requires : tie.Need-net-byte-requires Inv-loop μ-loop
-net-byte-requires c κs = search needs
-
-slice-write-room : tie.Need-slice-write-room Inv-loop μ-loop
-slice-write-room c = search needs
-
-add-i : tie.Need-add-i Inv-loop μ-loop
-add-i c = search needs
-
-loop-less : tie.Need-loop-less Inv-loop μ-loop
-loop-less c = search needs
-
 loop-again : tie.Need-loop-again Inv-loop μ-loop
 loop-again c = filling-more _ _ _ _ _ _ (c .before .before .loop .inv) (c .before .loop-test .taken) (c .net-byte .ensures)
 
@@ -43,10 +31,10 @@ net-reply-spec =
     Inv-loop
     μ-loop
     loop-holds
-    net-byte-requires
-    slice-write-room
-    add-i
-    loop-less
+    (λ c κs. search needs)
+    (λ c. search needs)
+    (λ c. search needs)
+    (λ c. search needs)
     loop-again
     same-length
     returns)

@@ -4,24 +4,6 @@ use borrow.Author.Needs.{needs}
 use Rattle.gauge.proofs.selected.Statement.{statement}
 use Rattle.gauge.proofs.selected.Tie as tie
 
-enum-told : tie.Need-enum-told
-enum-told c = search needs
-
-enum-told-2 : tie.Need-enum-told-2
-enum-told-2 c = search needs
-
-own-requires : tie.Need-own-requires
-own-requires c κs = search needs
-
-enum-told-3 : tie.Need-enum-told-3
-enum-told-3 c = search needs
-
-enum-told-4 : tie.Need-enum-told-4
-enum-told-4 c = search needs
-
-enum-told-5 : tie.Need-enum-told-5
-enum-told-5 c = search needs
-
 returns : tie.Need-returns
 unfolding selectedOf
 returns c = rw (c .enum-told .given .1) refl
@@ -46,12 +28,12 @@ pub selected-spec : {M : Type 1} → statement M
 selected-spec =
     tie.close
     (tie.spec
-    enum-told
-    enum-told-2
-    own-requires
-    enum-told-3
-    enum-told-4
-    enum-told-5
+    (λ c. search needs)
+    (λ c. search needs)
+    (λ c κs. search needs)
+    (λ c. search needs)
+    (λ c. search needs)
+    (λ c. search needs)
     returns
     returns-2
     returns-3

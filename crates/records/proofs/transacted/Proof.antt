@@ -13,8 +13,11 @@ use Rattle.records.proofs.transacted.Tie as tie
 cast-if1 : tie.Need-cast-if1
 cast-if1 c = search needs
 
+number-requires : tie.Need-number-requires
+number-requires c κs = search needs
+
 returns : tie.Need-returns
-returns c = doing-quiet refl (rw (lt-ltb _ _ (c .if1 .taken)) refl) (c .before .before .before .before .pre .0)
+returns c = doing-quiet {n = 9} (rw (c .number .ensures) refl) (rw (lt-ltb _ _ (c .before .if1 .taken)) refl) (c .before .before .before .before .before .pre .0)
 
 sub-transact : tie.Need-sub-transact
 sub-transact c = search needs
@@ -42,6 +45,7 @@ transacted-spec =
     tie.close
     (tie.spec
     cast-if1
+    number-requires
     returns
     sub-transact
     part-transact-start

@@ -3,12 +3,9 @@ use borrow.Author.Needs.{needs}
 use Rattle.gauge.proofs.Gauge.convert.Statement.{statement}
 use Rattle.gauge.proofs.Gauge.convert.Tie as tie
 
-convert-requires : tie.Need-convert-requires
-convert-requires c κs = search needs
-
 returns : tie.Need-returns
 unfolding conversionOf
 returns c = (simp (c .convert .ensures .0), record { meter = c .convert .ensures .1 })
 
 pub convert-spec : {M : Type 1} → statement M
-convert-spec = tie.close (tie.spec convert-requires returns)
+convert-spec = tie.close (tie.spec (λ c κs. search needs) returns)

@@ -14,35 +14,26 @@ use Rattle.gauge.proofs.Gauge.image_out.Tie as tie
 returns : tie.Need-returns
 returns c = record { fits = sym (lt-leb _ _ (c .if1 .taken)); written = simp (lt-leb _ _ (c .if1 .taken)) }
 
-store8-requires : tie.Need-store8-requires
-store8-requires c κs = search needs
-
-store16-requires : tie.Need-store16-requires
-store16-requires c κs = search needs
-
-store32-requires : tie.Need-store32-requires
-store32-requires c κs = search needs
-
-tail-requires : tie.Need-tail-requires
-tail-requires c κs = search needs
-
-store4-requires : tie.Need-store4-requires
-store4-requires c κs = search needs
-
-same-length : tie.Need-same-length
-same-length c = search needs
-
 returns-2 : tie.Need-returns-2
 unfolding bytesOf
 returns-2 c =
-    let g = c .before .before .before .before .before .before .before .before .before .before .before .before .before .before .before .before .before .before .before .before .before .before .args .self in
-    let room = now (c .before .before .before .before .before .before .before .before .before .before .before .before .before .before .before .before .before .before .before .before .before .before .args .room) in
-    let e = le-leb 60 _ (c .before .before .before .before .before .before .before .before .before .before .before .before .before .before .before .before .before .before .before .before .if1 .left) in
-    let t = c .before .before .store4 .ensures .written ∙ ap (λ (l : List ℕ). put (c .before .before .before .before .before .before .before .store32 .last .1 .0) 56 l) (c .before .before .before .before .tail .ensures) in
+    let tail = c .before .before .before .before in
+    let block = tail .before .before .before in
+    let label = block .before .before .before .before in
+    let address = label .before .before .before .before in
+    let test = address .before .before .before .before .before in
+    let g = test .before .before .args .self in
+    let room = now (test .before .before .args .room) in
+    let e = le-leb 60 _ (test .if1 .left) in
+    let cells = c .before .before .store4 .ensures .written ∙ ap (λ (l : List ℕ). put (block .store32 .last .1 .0) 56 l) (tail .tail .ensures) in
+    let bytes =
+    joint-put (g .common .address) (g .label .eeprom) (g .meter .block .eeprom) _
+    (address .store8 .ensures .sized) (label .store16 .ensures .sized) (block .store32 .ensures .sized) refl room (test .if1 .left) in
     record {
       fits = sym e;
-      written = t ∙ rw (c .before .before .before .before .before .before .before .store32 .ensures .written, c .before .before .before .before .before .before .before .before .before .before .before .store16 .ensures .written, c .before .before .before .before .before .before .before .before .before .before .before .before .before .before .before .store8 .ensures .written)
-          (joint-put (g .common .address) (g .label .eeprom) (g .meter .block .eeprom) _ (c .before .before .before .before .before .before .before .before .before .before .before .before .before .before .before .store8 .ensures .sized) (c .before .before .before .before .before .before .before .before .before .before .before .store16 .ensures .sized) (c .before .before .before .before .before .before .before .store32 .ensures .sized) refl room (c .before .before .before .before .before .before .before .before .before .before .before .before .before .before .before .before .before .before .before .before .if1 .left))
+      written =
+          cells
+          ∙ rw (block .store32 .ensures .written, label .store16 .ensures .written, address .store8 .ensures .written) bytes
           ∙ ap (λ (b : Bool). roomAfter b g room) (sym e);
     }
 
@@ -51,10 +42,10 @@ image-out-spec =
     tie.close
     (tie.spec
     returns
-    store8-requires
-    store16-requires
-    store32-requires
-    tail-requires
-    store4-requires
-    same-length
+    (λ c κs. search needs)
+    (λ c κs. search needs)
+    (λ c κs. search needs)
+    (λ c κs. search needs)
+    (λ c κs. search needs)
+    (λ c. search needs)
     returns-2)

@@ -3,15 +3,9 @@ use borrow.Author.Needs.{needs}
 use Rattle.gauge.proofs.Gauge.power_on.Statement.{statement}
 use Rattle.gauge.proofs.Gauge.power_on.Tie as tie
 
-recalled-requires : tie.Need-recalled-requires
-recalled-requires c κs = search needs
-
-restarted-requires : tie.Need-restarted-requires
-restarted-requires c κs = search needs
-
 returns : tie.Need-returns
 unfolding powerOnOf
 returns c = (simp (c .restarted .ensures .0, c .before .before .recalled .ensures), record { meter = c .restarted .ensures .1 })
 
 pub power-on-spec : {M : Type 1} → statement M
-power-on-spec = tie.close (tie.spec recalled-requires restarted-requires returns)
+power-on-spec = tie.close (tie.spec (λ c κs. search needs) (λ c κs. search needs) returns)

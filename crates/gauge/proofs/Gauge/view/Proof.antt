@@ -3,12 +3,9 @@ use borrow.Author.Needs.{needs}
 use Rattle.gauge.proofs.Gauge.view.Statement.{statement}
 use Rattle.gauge.proofs.Gauge.view.Tie as tie
 
-registers-requires : tie.Need-registers-requires
-registers-requires c κs = search needs
-
 returns : tie.Need-returns
 unfolding viewOf
 returns c = simp (c .before .before .registers .ensures)
 
 pub view-spec : {M : Type 1} → statement M
-view-spec = tie.close (tie.spec registers-requires returns)
+view-spec = tie.close (tie.spec (λ c κs. search needs) returns)

@@ -1,5 +1,5 @@
 -- `Gauge::writes` meets its contract: the bytes still to be written, from where the loop stands, make of the gauge what all make. Assumes nothing.
-use mathlib.Core.Path.{_≡_, refl, sym, ap, _∙_}
+use mathlib.Core.Path.{_≡_, refl, sym, _∙_}
 use mathlib.Core.List.{List}
 use Prim.Native.Nat.{ℕ, _+_, _-_, _≤_, _<_}
 use native.Mathlib.Numerals.{add-one}
@@ -22,35 +22,43 @@ Inv-loop a master from g₀ h₀ x₀ i₀ g h x i =
 abbrev μ-loop : tie.MeasureT-loop
 μ-loop a master from g₀ h₀ x₀ i₀ g h x i = length master - i
 
-writes-more : (h : Held) (g : Gauge) (x i : ℕ) (s : List ℕ) → i < length s → writesOf h g x (drop i s) ≡ writesOf (heldOf h x (getD s i 0)) (writtenOf h g x (getD s i 0)) (x + 1) (drop (i + 1) s)
+writes-more : (h : Held) (g : Gauge) (x i : ℕ) (s : List ℕ) → i < length s
+    → writesOf h g x (drop i s) ≡ writesOf (heldOf h x (getD s i 0)) (writtenOf h g x (getD s i 0)) (x + 1) (drop (i + 1) s)
 writes-more h g x i s e = rw (add-one i, drop-cons s i 0)
 
 loop-holds : tie.Need-loop-holds Inv-loop μ-loop
 loop-holds c = (c .before .pre .0, omega arith, omega arith, refl)
 
-shared-slice-read-b : tie.Need-shared-slice-read-b Inv-loop μ-loop
-shared-slice-read-b c = search needs
-
 written-requires : tie.Need-written-requires Inv-loop μ-loop
 written-requires c κs = c .before .before .loop .inv .0
 
-held-after-requires : tie.Need-held-after-requires Inv-loop μ-loop
-held-after-requires c κs = search needs
-
+-- the address stays below 256 and the number of bytes together
 add-x : tie.Need-add-x Inv-loop μ-loop
-add-x c = omega (arith, c .before .before .before .before .before .before .good .1, c .before .before .before .before .before .before .pre .1, c .before .before .before .before .loop .inv .1, c .before .before .before .before .loop .inv .2, c .before .before .before .loop-test .taken)
+add-x c =
+    let at-loop = c .before .before .before .before in
+    let start = at-loop .before .before in
+    omega (arith, start .good .1, start .pre .1, at-loop .loop .inv .1, at-loop .loop .inv .2, c .before .before .before .loop-test .taken)
 
 add-i : tie.Need-add-i Inv-loop μ-loop
-add-i c = omega (arith, c .before .before .before .before .before .before .good .1, c .before .before .before .before .before .before .pre .1, c .before .before .before .before .loop .inv .1, c .before .before .before .before .loop .inv .2, c .before .before .before .loop-test .taken)
-
-loop-less : tie.Need-loop-less Inv-loop μ-loop
-loop-less c = search needs
+add-i c = omega (arith, c .before .before .before .before .before .before .good .1, c .before .before .before .loop-test .taken)
 
 loop-again : tie.Need-loop-again Inv-loop μ-loop
-loop-again c = (c .before .written .ensures .1, omega arith, omega arith, rw (c .held-after .ensures, c .before .written .ensures .0) (sym (writes-more (c .before .before .before .before .loop .h) (c .before .before .before .before .loop .g) (c .before .before .before .before .loop .x) (c .before .before .before .before .loop .i) (now (c .before .before .before .before .before .before .args .master)) (c .before .before .before .loop-test .taken)) ∙ c .before .before .before .before .loop .inv .3))
+loop-again c =
+    let wrote = c .before in
+    let test = wrote .before .before in
+    let l = test .before .loop in
+    let more = writes-more (l .h) (l .g) (l .x) (l .i) (now (test .before .before .before .args .master)) (test .loop-test .taken) in (
+      wrote .written .ensures .1,
+      omega arith,
+      omega arith,
+      rw (c .held-after .ensures, wrote .written .ensures .0) (sym more ∙ l .inv .3),
+    )
 
 returns : tie.Need-returns Inv-loop μ-loop
-returns c = (sym (ap (λ (l : List ℕ). writesOf (c .before .loop .h) (c .before .loop .g) (c .before .loop .x) l) (drop-of-length-le (now (c .before .before .before .args .master)) (c .loop-test .left))) ∙ c .before .loop .inv .3, c .before .loop .inv .0)
+returns c =
+    let l = c .before .loop in
+    let none = drop-of-length-le (now (c .before .before .before .args .master)) (c .loop-test .left) in
+    (rw none at (l .inv .3), l .inv .0)
 
 pub writes-spec : {M : Type 1} → statement M
 writes-spec =
@@ -59,11 +67,11 @@ writes-spec =
     Inv-loop
     μ-loop
     loop-holds
-    shared-slice-read-b
+    (λ c. search needs)
     written-requires
-    held-after-requires
+    (λ c κs. search needs)
     add-x
     add-i
-    loop-less
+    (λ c. search needs)
     loop-again
     returns)

@@ -1,0 +1,43 @@
+-- The demands speak of the functions themselves: what a caller learns from the contracts of `records::run` and `records::take_out`, as the
+-- check reads them of the code, is what the demands are stated of. Assumes nothing.
+use contract.Lifetimes.{Lfts}
+use denote.Ref.{now}
+use denote.Triple.Entry.{Args, Res}
+use denote.Triple.Clauses.{Lasts, atExit}
+use Rattle.records.specs.Run.{TakenOut}
+use Rattle.records.proofs.run
+use Rattle.records.proofs.take_out
+use Rattle.demands.specs.Call.{Call, Allowed}
+use Rattle.demands.specs.Demand1.{Demand1}
+use Rattle.demands.specs.Demand2.{Demand2}
+use Rattle.demands.specs.Demand3.{Demand3}
+use Rattle.demands.proofs.Demand1.{demand-1}
+use Rattle.demands.proofs.Demand2.{demand-2}
+use Rattle.demands.proofs.Demand3.{demand-3}
+
+module _ (κs : Lfts (run.ended .signature .lifetimes)) (a : Args (run.ended .signature) κs) (r : Res (run.ended .signature) κs) (w : Lasts run.ended κs a) where
+  -- what was passed and lent, what came back, and what room and answers hold at the end
+  abbrev pub callOf : Call
+  callOf = record {
+    bytes = now (a .0);
+    room = now (a .1 .0);
+    answers = now (a .1 .1 .0);
+    ran = r;
+    replies = w .1 .0;
+    told = w .1 .1 .0;
+  }
+
+  pub run-allowed : run.Reads.Learnt κs a r (atExit run.ended κs a w) → Allowed callOf
+  run-allowed h = h
+
+  -- and nothing more is learnt
+  pub allowed-run : Allowed callOf → run.Reads.Learnt κs a r (atExit run.ended κs a w)
+  allowed-run h = h
+
+pub take-out-taken : (κs : Lfts («take_out».ended .signature .lifetimes)) (a : Args («take_out».ended .signature) κs)
+    (r : Res («take_out».ended .signature) κs) (w : Lasts «take_out».ended κs a)
+    → «take_out».Reads.Learnt κs a r (atExit «take_out».ended κs a w) → TakenOut (a .0) (now (a .1 .0)) r (w .1 .0)
+take-out-taken κs a r w h = h
+
+pub demands : Demand1 × Demand2 × Demand3
+demands = (demand-1, demand-2, demand-3)

@@ -1,0 +1,41 @@
+-- The text of lines that are handed over as numbers and replies is the text of the lines. Assumes nothing.
+use mathlib.Core.Path.{_≡_, refl}
+use mathlib.Core.List.{List, [], _∷_, _++_, append-assoc}
+use Prim.Native.Nat.{ℕ, _+_, _-_, _<_}
+use native.Mathlib.Omega.{arith}
+use lib.ListN.{length}
+use lib.Seq.{take-at, drop-at}
+use Rattle.records.specs.Run.{Line, codeOf, codesOf, repliesOf}
+use Rattle.text.specs.Text.{codeKind, codeAnswer, codeReplied, linesText, codesText}
+
+-- what a line's number holds whole
+pub record Coded (l : Line) : Type 0 where
+  pub narrow : l .kind < 65536
+  pub small : l .answer < 256
+
+abbrev pub AllCoded : List Line → Type 0
+AllCoded [] = Unit
+AllCoded (l ∷ ls) = Coded l × AllCoded ls
+
+code-kind : (kind answer replied : ℕ) → kind < 65536 → codeKind (codeOf kind answer replied) ≡ kind
+code-kind kind answer replied h = omega arith
+
+code-answer : (kind answer replied : ℕ) → kind < 65536 → answer < 256 → codeAnswer (codeOf kind answer replied) ≡ answer
+code-answer kind answer replied h k = omega arith
+
+code-replied : (kind answer replied : ℕ) → kind < 65536 → answer < 256 → codeReplied (codeOf kind answer replied) ≡ replied
+code-replied kind answer replied h k = omega arith
+
+pub codes-lines : (n : ℕ) (ls : List Line) (rest : List ℕ) → AllCoded ls → codesText n (codesOf ls) (repliesOf ls ++ rest) ≡ linesText n ls
+codes-lines n [] rest h = refl
+codes-lines n (l ∷ ls) rest h =
+    let k = length (l .reply) in
+    rw (
+      code-kind (l .kind) (l .answer) k (h .0 .narrow),
+      code-answer (l .kind) (l .answer) k (h .0 .narrow) (h .0 .small),
+      code-replied (l .kind) (l .answer) k (h .0 .narrow) (h .0 .small),
+      append-assoc (l .reply) (repliesOf ls) rest,
+      take-at (l .reply) (repliesOf ls ++ rest) k refl,
+      drop-at (l .reply) (repliesOf ls ++ rest) k refl,
+      codes-lines (n + 1) ls rest (h .1),
+    )

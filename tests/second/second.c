@@ -1,0 +1,770 @@
+/* The gauge of the scope paper a second time, written from the papers alone, to be compared with the proved program.
+ *
+ *   second          reads a session from standard input and prints what `trovimbe session` prints
+ *   second image    runs the session and writes the image taken out at its end, or the answer on standard error
+ *   second dump     prints the session's lines and after each the whole state
+ *   second figures  holds the rules against the paper's "Figures to hold"
+ *
+ * All arithmetic is on signed 32 and 64-bit integers. Ids such as C4 are the rows of docs/MAP.md, rules of the paper. */
+
+#include <stdbool.h>
+#include <stdint.h>
+#include <stdio.h>
+#include <string.h>
+
+typedef unsigned char byte;
+
+enum { SESSION_LIMIT = 32768, REPLY_ROOM = 65536, IMAGE_BYTES = 60, READ_LIMIT = 64 };
+
+/* Table 3 of 001: where each parameter stands. A slope of segment s stands at its base + 4 - s. */
+enum {
+    CONTROL = 0x60, AB = 0x61, AC = 0x62, VCHG = 0x64, IMIN = 0x65, VAE = 0x66, IAE = 0x67, ACTIVE_EMPTY_40 = 0x68,
+    RSNSP = 0x69, FULL_40 = 0x6A, FULL_SLOPES = 0x6C, AE_SLOPES = 0x70, SE_SLOPES = 0x74, COB = 0x7B,
+    TBP34 = 0x7C, TBP23 = 0x7D, TBP12 = 0x7E
+};
+enum { NBEN = 0x80, RNAOP = 0x10 };
+
+typedef struct {
+    bool accepted; /* an image was accepted */
+
+    /* What outlives a power-on. Blocks are held under their bus addresses: 20h..2Fh and 60h..7Fh. */
+    byte address[8];
+    byte eeprom[256];
+    int32_t saved_acr, saved_as;
+    bool bl0, bl1;
+
+    byte shadow[256];
+    int32_t acr, fraction, as, age_counter;
+    int32_t full, ae, se, raac, rsac, rarc, rsrc;
+    int32_t iavg, temperature, voltage, current; /* temperature and voltage as clamped counts */
+    bool chgtf, aef, sef, learnf, porf, lock;
+
+    /* What is remembered between events. */
+    bool had_reading, had_average;
+    int32_t currents, previous_current;               /* how many of the last two CURRENTs exist; the one before CURRENT */
+    int32_t run, run_sum;                             /* conversions since the last average, and the sum of their c */
+    bool read_since_average; int32_t lowest_voltage;  /* of the readings since the last average */
+} Gauge;
+
+/* ---- Numbers ---- */
+
+static int64_t clamped(int64_t value, int64_t low, int64_t high)
+{
+    return value < low ? low : value > high ? high : value;
+}
+
+/* Rounded down, towards minus infinity; the divisor is above 0. */
+static int64_t divided_down(int64_t value, int64_t divisor)
+{
+    int64_t quotient = value / divisor;
+    return value % divisor < 0 ? quotient - 1 : quotient;
+}
+
+static int32_t signed_byte(int32_t value)
+{
+    return value < 128 ? value : value - 256;
+}
+
+static int32_t little_endian_16(const byte *from)
+{
+    return from[0] + 256 * from[1];
+}
+
+static int32_t little_endian_signed_32(const byte *from)
+{
+    int64_t value = (int64_t)little_endian_16(from) + 65536 * (int64_t)little_endian_16(from + 2);
+    return (int32_t)(value < 2147483648 ? value : value - 4294967296);
+}
+
+/* A20, bit by bit: X^8 + X^5 + X^4 + 1, low bit first, is 8Ch with the bits turned round. */
+static int32_t crc(const byte *from, int32_t count)
+{
+    int32_t sum = 0;
+    for (int32_t i = 0; i < count; i++) {
+        sum ^= from[i];
+        for (int32_t bit = 0; bit < 8; bit++)
+            sum = sum % 2 == 1 ? (sum / 2) ^ 0x8C : sum / 2;
+    }
+    return sum;
+}
+
+/* ---- Parameters, read from the shadow whenever a rule is worked out (B30) ---- */
+
+static int32_t parameter(const Gauge *g, int32_t address)
+{
+    return g->shadow[address];
+}
+
+static int32_t signed_parameter(const Gauge *g, int32_t address)
+{
+    return signed_byte(g->shadow[address]);
+}
+
+static int32_t wide_parameter(const Gauge *g, int32_t address)
+{
+    return 256 * g->shadow[address] + g->shadow[address + 1];
+}
+
+static int32_t moved_into_as_range(int32_t value)
+{
+    return (int32_t)clamped(value, 63, 128);
+}
+
+/* ---- Power-on ---- */
+
+static void power_on(Gauge *g)
+{
+    memcpy(g->shadow, g->eeprom, sizeof g->shadow);
+    g->acr = g->saved_acr;
+    g->as = moved_into_as_range(g->saved_as);
+    g->fraction = g->age_counter = 0;
+    g->full = g->ae = g->se = g->raac = g->rsac = g->rarc = g->rsrc = 0;
+    g->iavg = g->temperature = g->voltage = g->current = 0;
+    g->chgtf = g->aef = g->sef = g->learnf = g->lock = false;
+    g->porf = true;
+    g->had_reading = g->had_average = g->read_since_average = false;
+    g->currents = g->previous_current = g->run = g->run_sum = g->lowest_voltage = 0;
+}
+
+static void accept_image(Gauge *g, const byte *image)
+{
+    g->accepted = true;
+    memcpy(g->address, image, 8);
+    memcpy(g->eeprom + 0x20, image + 8, 16);
+    memcpy(g->eeprom + 0x60, image + 24, 32);
+    g->saved_acr = little_endian_16(image + 56); /* S6 */
+    g->saved_as = image[58];
+    g->bl0 = image[59] % 2 == 1;
+    g->bl1 = image[59] / 2 == 1;
+    power_on(g);
+}
+
+static void take_image_out(const Gauge *g, byte *image)
+{
+    memcpy(image, g->address, 8);
+    memcpy(image + 8, g->eeprom + 0x20, 16);
+    memcpy(image + 24, g->eeprom + 0x60, 32);
+    image[56] = (byte)(g->saved_acr % 256);
+    image[57] = (byte)(g->saved_acr / 256);
+    image[58] = (byte)g->saved_as;
+    image[59] = (byte)((g->bl1 ? 2 : 0) + (g->bl0 ? 1 : 0));
+}
+
+/* ---- Conversion ---- */
+
+/* AF, for full and for the results (C33, R30). */
+static int32_t age_scaled_full(const Gauge *g)
+{
+    return (int32_t)divided_down((int64_t)g->full * g->as, 128);
+}
+
+/* C9 to C11: what of c goes into the charge count. */
+static int32_t counted(const Gauge *g, int32_t c)
+{
+    bool blanks_negative = (parameter(g, CONTROL) & NBEN) != 0;
+    if (0 < c && c < 64)
+        return 0;
+    if (blanks_negative && -16 < c && c < 0)
+        return 0;
+    return c;
+}
+
+/* Steps 3 and 4, C12 to C21. */
+static void accumulate_and_age(Gauge *g, int32_t c)
+{
+    int32_t acr_before = g->acr;
+    int64_t count = (int64_t)g->acr * 4096 + g->fraction;
+    count = clamped(count + counted(g, c) + signed_parameter(g, AB), 0, 268435455);
+    g->acr = (int32_t)(count / 4096);
+    g->fraction = (int32_t)(count % 4096);
+
+    int32_t ageing_step = 32 * wide_parameter(g, AC);
+    if (g->acr < acr_before)
+        g->age_counter += acr_before - g->acr;
+    if (ageing_step == 0) {
+        g->age_counter = 0;
+    } else if (g->age_counter >= ageing_step) {
+        g->age_counter -= ageing_step;
+        g->as = moved_into_as_range(g->as - 1);
+    }
+}
+
+/* C29 to C35. A reading came before, so FULL is not 0. */
+static void full_found(Gauge *g)
+{
+    int64_t full_40 = wide_parameter(g, FULL_40);
+    g->chgtf = true;
+    if (g->learnf && full_40 > 0)
+        g->as = moved_into_as_range((int32_t)divided_down((int64_t)g->acr * 2097152, g->full * full_40));
+    g->learnf = false;
+    g->acr = (int32_t)divided_down(age_scaled_full(g) * full_40, 16384);
+    g->fraction = 0;
+}
+
+/* Step 6 on the eighth conversion, C23 to C28. */
+static void average_formed(Gauge *g)
+{
+    int32_t average = (int32_t)divided_down(g->run_sum, 8);
+    int32_t limit = 32 * parameter(g, IMIN) - 1;
+    bool both_small = g->had_average && 1 <= average && average <= limit && 1 <= g->iavg && g->iavg <= limit;
+    bool voltage_high = g->read_since_average && g->lowest_voltage > 4 * parameter(g, VCHG);
+
+    g->iavg = average;
+    g->had_average = true;
+    g->read_since_average = false;
+    g->lowest_voltage = g->run = g->run_sum = 0;
+    if (both_small && voltage_high)
+        full_found(g);
+}
+
+static void conversion(Gauge *g, int32_t raw)
+{
+    int32_t c = (int32_t)clamped((int64_t)raw + signed_parameter(g, COB), -32768, 32767);
+    bool previous_negative = g->currents > 0 && g->current < 0;
+    if (c < 0 && !previous_negative)
+        g->learnf = false;
+    g->previous_current = g->current;
+    g->current = c;
+    if (g->currents < 2)
+        g->currents++;
+
+    accumulate_and_age(g, c);
+
+    if (g->acr == 0)
+        g->learnf = false;
+
+    g->run++;
+    g->run_sum += c;
+    if (g->run == 8)
+        average_formed(g);
+}
+
+/* ---- Reading ---- */
+
+static int32_t whole_degrees(int32_t temperature)
+{
+    return (int32_t)divided_down(temperature, 8);
+}
+
+/* R7 to R11. */
+static int32_t segment(const Gauge *g, int32_t t)
+{
+    if (t >= signed_parameter(g, TBP34))
+        return 4;
+    if (t >= signed_parameter(g, TBP23))
+        return 3;
+    if (t >= signed_parameter(g, TBP12))
+        return 2;
+    return 1;
+}
+
+/* Step 2. */
+static void model_lines(Gauge *g, int32_t degrees)
+{
+    int32_t full = 16384, ae = 16 * parameter(g, ACTIVE_EMPTY_40), se = 0;
+    for (int32_t t = 39; t >= degrees; t--) {
+        int32_t offset = 4 - segment(g, t);
+        full -= parameter(g, FULL_SLOPES + offset);
+        ae += parameter(g, AE_SLOPES + offset);
+        se += parameter(g, SE_SLOPES + offset);
+    }
+    g->full = full < 8192 ? 8192 : full;
+    g->ae = ae > 8191 ? 8191 : ae;
+    g->se = se > 8191 ? 8191 : se;
+}
+
+/* Step 3, of a reading below 4 x VAE. */
+static void active_empty(Gauge *g, bool previous_was_above)
+{
+    int32_t e = (int32_t)divided_down((int64_t)g->ae * wide_parameter(g, FULL_40), 16384);
+    int32_t threshold = -128 * parameter(g, IAE);
+    bool discharging = g->currents == 2 && g->current < threshold && g->previous_current < threshold;
+
+    g->aef = true;
+    if (previous_was_above && discharging) {
+        g->acr = e;
+        g->fraction = 0;
+        g->learnf = e > 0;
+    } else if (!g->learnf && g->acr > e) {
+        g->acr = e;
+        g->fraction = 0;
+    }
+}
+
+/* Step 4, over either empty line. */
+static void results(const Gauge *g, int32_t empty, int32_t *percent, int32_t *absolute)
+{
+    int64_t full_40 = wide_parameter(g, FULL_40);
+    int64_t n = 16384 * (int64_t)g->acr - empty * full_40;
+    int64_t d = (age_scaled_full(g) - empty) * full_40;
+    *percent = n <= 0 || d <= 0 ? 0 : (int32_t)clamped(divided_down(100 * n, d), 0, 100);
+    *absolute = n <= 0 ? 0 : (int32_t)divided_down(n * parameter(g, RSNSP), 4194304);
+}
+
+static void reading(Gauge *g, int32_t voltage, int32_t temperature)
+{
+    int32_t empty_voltage = 4 * parameter(g, VAE);
+    bool previous_was_above = g->had_reading && g->voltage >= empty_voltage;
+    int32_t previous_rarc = g->rarc;
+
+    g->voltage = (int32_t)clamped(voltage, 0, 1023);
+    g->temperature = (int32_t)clamped(temperature, -1024, 1023);
+    model_lines(g, whole_degrees(g->temperature));
+
+    bool below = g->voltage < empty_voltage;
+    if (below)
+        active_empty(g, previous_was_above);
+
+    results(g, g->ae, &g->rarc, &g->raac);
+    results(g, g->se, &g->rsrc, &g->rsac);
+
+    if (g->rarc < 90)
+        g->chgtf = false;
+    if (!below && g->rarc > 5)
+        g->aef = false;
+    if (g->rsrc < 10)
+        g->sef = true;
+    if (g->rsrc > 15)
+        g->sef = false;
+
+    if (g->had_reading && g->rarc / 4 != previous_rarc / 4) {
+        g->saved_acr = g->acr;
+        g->saved_as = g->as;
+    }
+
+    g->had_reading = true;
+    if (!g->read_since_average || g->voltage < g->lowest_voltage)
+        g->lowest_voltage = g->voltage;
+    g->read_since_average = true;
+}
+
+/* ---- Bus bytes ---- */
+
+static bool in_block_0(int32_t address) { return 0x20 <= address && address <= 0x2F; }
+static bool in_block_1(int32_t address) { return 0x60 <= address && address <= 0x7F; }
+
+static int32_t high_of(int32_t word) { return (word & 0xFFFF) / 256; } /* a negative word as two's complement */
+static int32_t low_of(int32_t word) { return word & 0xFF; }
+static int32_t bit(bool value, int32_t weight) { return value ? weight : 0; }
+
+/* Tables 2 and 3 of 001 as the paper reads them, B28 to B59. */
+static int32_t read_at(const Gauge *g, int32_t address)
+{
+    switch (address) {
+    case 0x01:
+        return bit(g->chgtf, 0x80) + bit(g->aef, 0x40) + bit(g->sef, 0x20) + bit(g->learnf, 0x10) + bit(g->porf, 0x02);
+    case 0x02: return high_of(g->raac);
+    case 0x03: return low_of(g->raac);
+    case 0x04: return high_of(g->rsac);
+    case 0x05: return low_of(g->rsac);
+    case 0x06: return g->rarc;
+    case 0x07: return g->rsrc;
+    case 0x08: return high_of(g->iavg);
+    case 0x09: return low_of(g->iavg);
+    case 0x0A: return high_of(g->temperature * 32);
+    case 0x0B: return low_of(g->temperature * 32);
+    case 0x0C: return high_of(g->voltage * 32);
+    case 0x0D: return low_of(g->voltage * 32);
+    case 0x0E: return high_of(g->current);
+    case 0x0F: return low_of(g->current);
+    case 0x10: return high_of(g->acr);
+    case 0x11: return low_of(g->acr);
+    case 0x12: return high_of(g->fraction * 16);
+    case 0x13: return low_of(g->fraction * 16);
+    case 0x14: return g->as;
+    case 0x15: return 0x00;
+    case 0x16: return high_of(g->full);
+    case 0x17: return low_of(g->full);
+    case 0x18: return high_of(g->ae);
+    case 0x19: return low_of(g->ae);
+    case 0x1A: return high_of(g->se);
+    case 0x1B: return low_of(g->se);
+    case 0x1F: return bit(g->lock, 0x40) + bit(g->bl1, 0x02) + bit(g->bl0, 0x01);
+    }
+    return in_block_0(address) || in_block_1(address) ? g->shadow[address] : 0xFF; /* past FFh too (B11) */
+}
+
+/* B12 to B16 and B89 to B96: the bytes act one by one, upward. */
+static void write_from(Gauge *g, int32_t address, const byte *data, int32_t count)
+{
+    int32_t held = -1; /* the byte written at 10h */
+    for (int32_t i = 0; i < count && address + i <= 0xFF; i++) {
+        int32_t at = address + i, value = data[i];
+        if (at == 0x01 && (value & 0x02) == 0)
+            g->porf = false;
+        if (at == 0x10)
+            held = value;
+        if (at == 0x11 && held >= 0) {
+            g->acr = 256 * held + value;
+            g->fraction = 0;
+            g->learnf = false;
+        }
+        if (at == 0x14)
+            g->as = moved_into_as_range(value);
+        if (at == 0x1F)
+            g->lock = (value & 0x40) != 0;
+        if ((in_block_0(at) && !g->bl0) || (in_block_1(at) && !g->bl1))
+            g->shadow[at] = (byte)value;
+    }
+}
+
+/* 48h, B8h and 6Ah act on the whole block that holds the address, B17 to B23. */
+static void block_command(Gauge *g, int32_t command, int32_t address)
+{
+    if (!in_block_0(address) && !in_block_1(address))
+        return;
+    bool *locked = in_block_0(address) ? &g->bl0 : &g->bl1;
+    int32_t first = in_block_0(address) ? 0x20 : 0x60;
+    size_t size = in_block_0(address) ? 16 : 32;
+    if (command == 0x48 && !*locked)
+        memcpy(g->eeprom + first, g->shadow + first, size);
+    if (command == 0xB8)
+        memcpy(g->shadow + first, g->eeprom + first, size);
+    if (command == 0x6A && g->lock) {
+        *locked = true;
+        g->lock = false;
+    }
+}
+
+/* The reply is the read count of bytes. B1 to B27. */
+static void transaction(Gauge *g, const byte *master, int32_t masters, byte *reply, int32_t count)
+{
+    int32_t net_address_command = (parameter(g, CONTROL) & RNAOP) != 0 ? 0x39 : 0x33;
+    int32_t at; /* where the function command stands */
+    memset(reply, 0xFF, (size_t)count);
+    if (masters >= 1 && master[0] == net_address_command) {
+        memcpy(reply, g->address, (size_t)clamped(count, 0, 8));
+        return;
+    }
+    if (masters >= 1 && master[0] == 0xCC)
+        at = 1;
+    else if (masters >= 9 && master[0] == 0x55 && memcmp(master + 1, g->address, 8) == 0)
+        at = 9;
+    else
+        return;
+    if (masters < at + 2)
+        return;
+
+    int32_t command = master[at], address = master[at + 1];
+    if (command == 0x69) {
+        for (int32_t i = 0; i < count; i++)
+            reply[i] = (byte)read_at(g, address + i);
+    } else if (command == 0x6C) {
+        write_from(g, address, master + at + 2, masters - at - 2);
+    } else {
+        block_command(g, command, address);
+    }
+}
+
+/* ---- The session ---- */
+
+static bool length_fits(int32_t kind, int32_t length)
+{
+    switch (kind) {
+    case 1: return length == IMAGE_BYTES;
+    case 2: return length == 8;
+    case 3: return length == 4;
+    case 4: return 1 <= length && length <= 65;
+    default: return length == 0;
+    }
+}
+
+/* Answers 3 to 9, the first that applies, or 0. */
+static int32_t judged(const Gauge *g, int32_t room_left, int32_t kind, const byte *payload, int32_t length)
+{
+    if (kind < 1 || kind > 5)
+        return 3;
+    if (!length_fits(kind, length))
+        return 4;
+    if ((kind == 1) == g->accepted)
+        return 5;
+    if (kind == 1 && (payload[0] != 0x3D || payload[7] != crc(payload, 7)))
+        return 6;
+    if (kind == 1 && payload[59] > 3)
+        return 7;
+    if (kind == 4 && payload[0] > READ_LIMIT)
+        return 8;
+    if (kind == 4 && payload[0] > room_left)
+        return 9;
+    return 0;
+}
+
+static void dump(const Gauge *g)
+{
+    printf("  acr %d+%d as %d age %d saved %d,%d | full %d ae %d se %d raac %d rsac %d rarc %d rsrc %d"
+           " | iavg %d temp %d volt %d current %d | %s%s%s%s%s%s%s%s |",
+           (int)g->acr, (int)g->fraction, (int)g->as, (int)g->age_counter, (int)g->saved_acr, (int)g->saved_as,
+           (int)g->full, (int)g->ae, (int)g->se, (int)g->raac, (int)g->rsac, (int)g->rarc, (int)g->rsrc, (int)g->iavg,
+           (int)g->temperature, (int)g->voltage, (int)g->current, g->chgtf ? "CHGTF " : "", g->aef ? "AEF " : "",
+           g->sef ? "SEF " : "", g->learnf ? "LEARNF " : "", g->porf ? "PORF " : "", g->lock ? "LOCK " : "",
+           g->bl1 ? "BL1 " : "", g->bl0 ? "BL0 " : "");
+    printf(" reading %d average %d currents %d previous %d run %d sum %d since %d lowest %d | shadow ", g->had_reading,
+           g->had_average, (int)g->currents, (int)g->previous_current, (int)g->run, (int)g->run_sum,
+           g->read_since_average, (int)g->lowest_voltage);
+    for (int32_t i = 0x20; i <= 0x7F; i++)
+        if (in_block_0(i) || in_block_1(i))
+            printf("%02x", g->shadow[i]);
+    printf(" eeprom ");
+    for (int32_t i = 0x20; i <= 0x7F; i++)
+        if (in_block_0(i) || in_block_1(i))
+            printf("%02x", g->eeprom[i]);
+    printf("\n");
+}
+
+enum { PRINT_NOTHING, PRINT_LINES, PRINT_STATES };
+
+static void print_line(int printing, const Gauge *g, int32_t number, const char *kind, int32_t answer, const byte *reply,
+                       int32_t count)
+{
+    if (printing == PRINT_NOTHING)
+        return;
+    printf("%d %s %d ", (int)number, kind, (int)answer);
+    for (int32_t i = 0; i < count; i++)
+        printf("%02x", reply[i]);
+    printf(count == 0 ? "-\n" : "\n");
+    if (printing == PRINT_STATES)
+        dump(g);
+}
+
+/* A record that was judged 0. Hands back how many bytes it replies. */
+static int32_t event(Gauge *g, int32_t kind, const byte *payload, int32_t length, byte *reply)
+{
+    switch (kind) {
+    case 1: accept_image(g, payload); return 0;
+    case 2: reading(g, little_endian_signed_32(payload), little_endian_signed_32(payload + 4)); return 0;
+    case 3: conversion(g, little_endian_signed_32(payload)); return 0;
+    case 4: transaction(g, payload + 1, length - 1, reply, payload[0]); return payload[0];
+    default: power_on(g); return 0;
+    }
+}
+
+/* Runs the session's records on the gauge; the replies are printed and only their room is counted. */
+static void run_session(Gauge *g, const byte *session, int32_t size, int printing)
+{
+    int32_t at = 0, room_left = REPLY_ROOM;
+    if (printing != PRINT_NOTHING)
+        printf("record kind answer reply\n");
+    if (size > SESSION_LIMIT) {
+        print_line(printing, g, 0, "----", 1, NULL, 0);
+        return;
+    }
+    for (int32_t number = 1; at < size; number++) {
+        const byte *header = session + at;
+        if (size - at < 4 || size - at - 4 < little_endian_16(header)) {
+            print_line(printing, g, number, "----", 2, NULL, 0);
+            return;
+        }
+        int32_t length = little_endian_16(header), kind = little_endian_16(header + 2);
+        byte reply[READ_LIMIT];
+        char kind_text[8];
+        int32_t answer = judged(g, room_left, kind, header + 4, length);
+        int32_t replied = answer == 0 ? event(g, kind, header + 4, length, reply) : 0;
+        room_left -= replied;
+        at += 4 + length;
+        snprintf(kind_text, sizeof kind_text, "%04x", (unsigned)kind);
+        print_line(printing, g, number, kind_text, answer, reply, replied);
+    }
+}
+
+/* ---- Figures to hold ---- */
+
+static int failures;
+
+static void hold(const char *figure, int64_t expected, int64_t found)
+{
+    printf("%-4s %s: %lld", expected == found ? "ok" : "FAIL", figure, (long long)found);
+    printf(expected == found ? "\n" : ", not %lld\n", (long long)expected);
+    if (expected != found)
+        failures++;
+}
+
+static Gauge model_m(void)
+{
+    static const byte block_1[32] = {0, 0, 0, 0, 0, 0, 0, 0, 4, 50, 10000 / 256, 10000 % 256, 10, 20, 30, 40,
+                                     5, 10, 20, 30, 1, 2, 3, 4, 0, 0, 0, 0, 18, 0, 256 - 12, 0};
+    Gauge g;
+    memset(&g, 0, sizeof g);
+    g.accepted = true;
+    memcpy(g.eeprom + 0x60, block_1, sizeof block_1);
+    g.saved_as = 128;
+    power_on(&g);
+    return g;
+}
+
+static void hold_model_lines(void)
+{
+    static const int32_t rows[5][4] = {
+        {40, 16384, 64, 0}, {18, 16164, 174, 22}, {0, 15804, 354, 58}, {-12, 15444, 594, 94}, {-20, 15124, 834, 126}};
+    for (int32_t i = 0; i < 5; i++) {
+        char name[40];
+        Gauge g = model_m();
+        reading(&g, 500, 8 * rows[i][0]);
+        snprintf(name, sizeof name, "M at %d degrees, FULL", (int)rows[i][0]);
+        hold(name, rows[i][1], g.full);
+        snprintf(name, sizeof name, "M at %d degrees, AE", (int)rows[i][0]);
+        hold(name, rows[i][2], g.ae);
+        snprintf(name, sizeof name, "M at %d degrees, SE", (int)rows[i][0]);
+        hold(name, rows[i][3], g.se);
+    }
+    Gauge g = model_m();
+    reading(&g, 500, -1);
+    hold("count -1 in degrees", -1, whole_degrees(-1));
+    hold("count -1, FULL", 15774, g.full);
+    hold("count 319 in degrees", 39, whole_degrees(319));
+    hold("count 320 in degrees", 40, whole_degrees(320));
+}
+
+static void hold_results(void)
+{
+    Gauge g = model_m();
+    g.acr = 5000;
+    reading(&g, 500, 320);
+    hold("M, 40 degrees, ACR 5000, RARC", 49, g.rarc);
+    hold("M, 40 degrees, ACR 5000, RSRC", 50, g.rsrc);
+    hold("M, 40 degrees, ACR 5000, RAAC", 968, g.raac);
+    hold("M, 40 degrees, ACR 5000, RSAC", 976, g.rsac);
+
+    g = model_m();
+    g.shadow[ACTIVE_EMPTY_40] = 230; /* with 33 steps of 40: 5000 */
+    memset(g.shadow + FULL_SLOPES, 255, 4);
+    memset(g.shadow + AE_SLOPES, 40, 4);
+    g.as = 63;
+    g.acr = 60000;
+    reading(&g, 500, 8 * 7);
+    hold("AF 4032, AE 5000, AF", 4032, age_scaled_full(&g));
+    hold("AF 4032, AE 5000, AE", 5000, g.ae);
+    hold("AF 4032, AE 5000, RARC", 0, g.rarc);
+}
+
+/* Two averages of 16 with a reading before each; blanking leaves the count alone. */
+static void charge_to_full(Gauge *g, int32_t temperature)
+{
+    g->shadow[IMIN] = 1;
+    g->shadow[VCHG] = 100;
+    for (int32_t i = 0; i < 16; i++) {
+        if (i % 8 == 0)
+            reading(g, 401, temperature);
+        conversion(g, 16);
+    }
+}
+
+static void hold_full_and_learn(void)
+{
+    Gauge g = model_m();
+    g.as = 122;
+    g.acr = 9000;
+    charge_to_full(&g, 0);
+    hold("full at 0 degrees, CHGTF", 1, g.chgtf);
+    hold("full at 0 degrees, AF", 15063, age_scaled_full(&g));
+    hold("full at 0 degrees, ACR", 9193, g.acr);
+    reading(&g, 401, 0);
+    hold("full at 0 degrees, then RARC", 99, g.rarc);
+
+    g = model_m();
+    g.acr = 9000;
+    g.learnf = true;
+    charge_to_full(&g, 320);
+    hold("learn, FULL", 16384, g.full);
+    hold("learn, AS", 115, g.as);
+    hold("learn, ACR", 8984, g.acr);
+}
+
+static void hold_conversions(void)
+{
+    Gauge g = model_m();
+    hold("63 counts as", 0, counted(&g, 63));
+    hold("64 counts as", 64, counted(&g, 64));
+    g.shadow[CONTROL] = NBEN;
+    hold("with NBEN -15 counts as", 0, counted(&g, -15));
+    hold("with NBEN -16 counts as", -16, counted(&g, -16));
+
+    g = model_m();
+    g.acr = 100;
+    conversion(&g, -1);
+    hold("ACR 100 and c -1, ACR", 99, g.acr);
+    hold("ACR 100 and c -1, fraction", 4095, g.fraction);
+
+    g = model_m();
+    g.acr = 100;
+    g.age_counter = 31;
+    g.shadow[AC + 1] = 1;
+    conversion(&g, -1);
+    hold("AC 1 and counter 31, AS", 127, g.as);
+    hold("AC 1 and counter 31, the counter after it", 0, g.age_counter);
+
+    g = model_m();
+    conversion(&g, -1);
+    for (int32_t i = 0; i < 7; i++)
+        conversion(&g, 0);
+    hold("one c of -1 and seven of 0, IAVG", -1, g.iavg);
+}
+
+/* At 40 degrees M gives RARC 51, 48, 47 for ACR 5120, 4821, 4820. */
+static void hold_saves(void)
+{
+    static const int32_t acrs[3] = {5120, 4821, 4820}, rarcs[3] = {51, 48, 47}, saved[3] = {77, 77, 4820};
+    Gauge g = model_m();
+    g.saved_acr = 77;
+    for (int32_t i = 0; i < 3; i++) {
+        char name[40];
+        g.acr = acrs[i];
+        reading(&g, 500, 320);
+        snprintf(name, sizeof name, "ACR %d, RARC", (int)acrs[i]);
+        hold(name, rarcs[i], g.rarc);
+        snprintf(name, sizeof name, "RARC %d, saved ACR", (int)rarcs[i]);
+        hold(name, saved[i], g.saved_acr);
+    }
+}
+
+/* Application Note 27's worked example: the address A2 00 00 00 01 B8 1C 02, read from its last byte. */
+static void hold_crc(void)
+{
+    static const byte example[7] = {0x02, 0x1C, 0xB8, 0x01, 0x00, 0x00, 0x00};
+    hold("CRC of Application Note 27's example", 0xA2, crc(example, 7));
+}
+
+static int hold_figures(void)
+{
+    hold_model_lines();
+    hold_results();
+    hold_full_and_learn();
+    hold_conversions();
+    hold_saves();
+    hold_crc();
+    return failures == 0 ? 0 : 1;
+}
+
+/* ---- The program ---- */
+
+static Gauge gauge; /* all zeros: no image was accepted */
+
+static int image_at_end(int32_t size)
+{
+    byte image[IMAGE_BYTES];
+    if (size > SESSION_LIMIT) {
+        fprintf(stderr, "1\n");
+        return 1;
+    }
+    if (!gauge.accepted) {
+        fprintf(stderr, "5\n");
+        return 1;
+    }
+    take_image_out(&gauge, image);
+    fwrite(image, 1, IMAGE_BYTES, stdout);
+    return 0;
+}
+
+int main(int count, char **arguments)
+{
+    static byte session[SESSION_LIMIT + 1]; /* one byte more shows a session that is too long */
+    const char *mode = count > 1 ? arguments[1] : "session";
+    if (strcmp(mode, "figures") == 0)
+        return hold_figures();
+    int32_t size = (int32_t)fread(session, 1, sizeof session, stdin);
+    if (strcmp(mode, "image") == 0) {
+        run_session(&gauge, session, size, PRINT_NOTHING);
+        return image_at_end(size);
+    }
+    run_session(&gauge, session, size, strcmp(mode, "dump") == 0 ? PRINT_STATES : PRINT_LINES);
+    return 0;
+}
