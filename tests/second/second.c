@@ -741,7 +741,7 @@ static Gauge gauge; /* all zeros: no image was accepted */
 static int image_at_end(int32_t size)
 {
     byte image[IMAGE_BYTES];
-    if (size > SESSION_LIMIT) {
+    if (SESSION_LIMIT < size) {
         fprintf(stderr, "1\n");
         return 1;
     }
