@@ -1,3 +1,4 @@
+pub mod Writes
 pub mod Listed
 pub mod Viewing
 pub mod Image

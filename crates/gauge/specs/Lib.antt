@@ -1,4 +1,5 @@
 pub mod Gauge
+pub mod Writes
 pub mod Act
 pub mod Image
 pub mod View

@@ -16,6 +16,10 @@ viewOf g = record {
   block = g .meter .block .shadow;
 }
 
+-- a view by its arrays
+abbrev pub viewIn : List ℕ → List ℕ → List ℕ → View
+viewIn registers label block = record { registers = registers; label = label; block = block }
+
 unfoldable pub viewByte : View → ℕ → ℕ
 viewByte v a =
     pick (ltb a 0x20) (getD (v .registers) a 0)

@@ -14,10 +14,11 @@ ghost use mathlib.Core.List.{_++_};
 ghost use Prim.Native.Nat.{_+_, _≤_, _<_};
 ghost use lib.ListN.{length, drop};
 ghost use Rattle.meter.specs.State.{MeterWF};
-ghost use Rattle.gauge.specs.Gauge.{GaugeWF, conversionOf, readingOf, powerOnOf, writtenOf, writesOf, withBlockAt, copiedOf, recalledOf, lockedOf};
+ghost use Rattle.gauge.specs.Gauge.{GaugeWF, conversionOf, readingOf, powerOnOf, writesOf, withBlockAt, copiedOf, recalledOf, lockedOf};
+ghost use Rattle.gauge.specs.Writes.{labelAt, meterAt, labelWrites, meterWrites};
 ghost use Rattle.gauge.specs.Act.{selectedOf, noneHeld, ranOf, actOf, readFrom, netFrom, sourceBy, sourceByte, listed, replyOf};
 ghost use Rattle.gauge.specs.Image.{addressedOf, verdictOf, imageOf, lockByte, cellsOf, tailOf, ImageOut};
-ghost use Rattle.gauge.specs.View.{viewOf, viewByte, viewed, netByte};
+ghost use Rattle.gauge.specs.View.{viewOf, viewIn, viewByte, viewed, netByte};
 
 pub struct Gauge {
     pub common: Common,
@@ -90,47 +91,87 @@ impl Gauge {
 
 // ---- what a transaction does
 
-impl Gauge {
-    fn written(mut self, h: Held, a: usize, b: u8) -> Gauge
-        requires { ⌜ GaugeWF self ⌝ }
-        ensures { λ r. ⌜ r ≡ writtenOf h self a b ⌝ }
-        ensures kept { λ r. ⌜ GaugeWF r ⌝ }
-    {
-        if map::in_label(a) {
-            let k = self.common;
-            let l = self.label;
-            let label = l.written(k, a, b);
-            self.label = label;
-            return self;
-        }
-        let m = self.meter;
-        let next = map::meter_written(h, m, a, b);
-        self.meter = next;
-        self
+// A byte written at the address a, as the label sees it: nothing where the address is not its own.
+fn label_byte(k: Common, l: Label, a: usize, b: u8) -> Label
+    ensures { λ r. ⌜ r ≡ labelAt k l a b ⌝ }
+{
+    if map::in_label(a) {
+        return l.written(k, a, b);
     }
+    l
+}
 
-    // The master bytes from `from` on are written from the address a upward.
-    fn writes(self, a: usize, master: &[u8], from: usize) -> Gauge
+// The same as the meter sees it.
+fn meter_byte(h: Held, m: Meter, a: usize, b: u8) -> Meter
+    requires { ⌜ MeterWF m ⌝ }
+    ensures { λ r. ⌜ r ≡ meterAt h m a b ⌝ }
+    ensures kept { λ r. ⌜ MeterWF r ⌝ }
+{
+    if map::in_label(a) {
+        return m;
+    }
+    map::meter_written(h, m, a, b)
+}
+
+// The master bytes from `from` on, written from the address a upward. Each part has a loop of its own, so that no byte moves the whole gauge.
+fn label_writes(k: Common, label: Label, a: usize, master: &[u8], from: usize) -> Label
+    requires { ⌜ a < 256 ⌝ }
+    ensures { λ r. ⌜ r ≡ labelWrites k label a (drop from (now (master .entry))) ⌝ }
+{
+    let mut l = label;
+    let mut x = a;
+    let mut i = from;
+    while i < master.len() {
+        let b = master[i];
+        l = label_byte(k, l, x, b);
+        x += 1;
+        i += 1;
+    }
+    l
+}
+
+fn meter_writes(meter: Meter, a: usize, master: &[u8], from: usize) -> Meter
+    requires { ⌜ MeterWF meter ⌝ }
+    requires { ⌜ a < 256 ⌝ }
+    ensures { λ r. ⌜ r ≡ meterWrites noneHeld meter a (drop from (now (master .entry))) ⌝ }
+    ensures kept { λ r. ⌜ MeterWF r ⌝ }
+{
+    let mut m = meter;
+    let mut h = Held {
+        any: false,
+        high: 0,
+    };
+    let mut x = a;
+    let mut i = from;
+    while i < master.len() {
+        let b = master[i];
+        m = meter_byte(h, m, x, b);
+        h = map::held_after(h, x, b);
+        x += 1;
+        i += 1;
+    }
+    m
+}
+
+impl Gauge {
+    // The meter is left where all bytes are of the label.
+    fn writes(mut self, a: usize, master: &[u8], from: usize) -> Gauge
         requires { ⌜ GaugeWF self ⌝ }
-        requires { ⌜ a < 256 ⌝ }
+        requires { ⌜ (a < 256) × (from < 256) ⌝ }
         ensures { λ r. ⌜ r ≡ writesOf noneHeld self a (drop from (now (master .entry))) ⌝ }
         ensures kept { λ r. ⌜ GaugeWF r ⌝ }
     {
-        let mut g = self;
-        let mut h = Held {
-            any: false,
-            high: 0,
-        };
-        let mut x = a;
-        let mut i = from;
-        while i < master.len() {
-            let b = master[i];
-            g = g.written(h, x, b);
-            h = map::held_after(h, x, b);
-            x += 1;
-            i += 1;
+        let k = self.common;
+        let l = self.label;
+        let label = label_writes(k, l, a, master, from);
+        self.label = label;
+        if numbers::and(0x20 <= a, a + master.len() <= 0x30 + from) {
+            return self;
         }
-        g
+        let m = self.meter;
+        let next = meter_writes(m, a, master, from);
+        self.meter = next;
+        self
     }
 
     // The block that holds the address is replaced: block 0 is the label, block 1 the meter's. Nothing is where none holds it.
@@ -271,27 +312,22 @@ fn net_from(rom: Rom, rnaop: bool) -> Source
     }
 }
 
-impl View {
-    // The byte at the address a.
-    fn byte(self, a: usize) -> u8
-        ensures { λ r. ⌜ r ≡ viewByte self a ⌝ }
-    {
-        if a < 0x20 {
-            let registers = self.registers;
-            return registers[a];
-        }
-        if map::in_label(a) {
-            let i = a - 0x20;
-            let label = self.label;
-            return label[i];
-        }
-        if map::in_block(a) {
-            let i = a - 0x60;
-            let block = self.block;
-            return block[i];
-        }
-        0xff
+// The byte at the address a. The arrays of a view are lent: a byte of a reply moves none of them.
+fn view_byte(registers: &[u8; 32], label: &[u8; 16], block: &[u8; 32], a: usize) -> u8
+    ensures { λ r. ⌜ r ≡ viewByte (viewIn (now (registers .entry)) (now (label .entry)) (now (block .entry))) a ⌝ }
+{
+    if a < 0x20 {
+        return registers[a];
     }
+    if map::in_label(a) {
+        let i = a - 0x20;
+        return label[i];
+    }
+    if map::in_block(a) {
+        let i = a - 0x60;
+        return block[i];
+    }
+    0xff
 }
 
 impl Gauge {
@@ -314,14 +350,21 @@ impl Gauge {
 }
 
 // n bytes of the map from the address a on, at the front of the room.
-fn read_reply(v: View, a: usize, n: usize, room: &mut [u8])
+fn read_reply(
+    registers: &[u8; 32],
+    label: &[u8; 16],
+    block: &[u8; 32],
+    a: usize,
+    n: usize,
+    room: &mut [u8],
+)
     requires { ⌜ (a < 256) × (n < 65536) ⌝ }
     requires { ⌜ n ≤ length (now room) ⌝ }
-    ensures { λ _. ⌜ now (room .exit) ≡ listed (viewed v a) 0 n ++ drop n (now (room .entry)) ⌝ }
+    ensures { λ _. ⌜ now (room .exit) ≡ listed (viewed (viewIn (now (registers .entry)) (now (label .entry)) (now (block .entry))) a) 0 n ++ drop n (now (room .entry)) ⌝ }
 {
     let mut i = 0;
     while i < n {
-        room[i] = v.byte(a + i);
+        room[i] = view_byte(registers, label, block, a + i);
         i += 1;
     }
 }
@@ -363,7 +406,11 @@ impl Gauge {
             Source::Address => net_reply(address, true, n, room),
             Source::Bytes(a) => {
                 let from = parts::wide(a);
-                read_reply(self.view(), from, n, room)
+                let v = self.view();
+                let registers = v.registers;
+                let label = v.label;
+                let block = v.block;
+                read_reply(&registers, &label, &block, from, n, room)
             }
             Source::Idle => net_reply(address, false, n, room),
         }

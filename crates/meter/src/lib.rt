@@ -480,18 +480,34 @@ fn slope(b: Breaks, s: Slopes, t: u8) -> u8
     numbers::choose8(b.b34 <= t, s.s4, mild)
 }
 
-// Step 2: the slopes going down from 40 degrees, which stand as 168, to t.
-fn slopes_to(b: Breaks, s: Slopes, t: u8) -> u32
-    ensures { λ r. ⌜ r ≡ slopesTo b s t ⌝ }
+// The slopes of FULL, AE and SE, each added up.
+struct Sums {
+    full: u32,
+    ae: u32,
+    se: u32,
+}
+
+// Step 2: the slopes f of FULL, a of AE and s of SE going down from 40 degrees, which stand as 168, to t. One walk for the three decides a step's segment once.
+fn walked(b: Breaks, f: Slopes, a: Slopes, s: Slopes, t: u8) -> Sums
+    ensures { λ r. ⌜ (r .full ≡ slopesTo b f t) × (r .ae ≡ slopesTo b a t) × (r .se ≡ slopesTo b s t) ⌝ }
 {
     let steps = numbers::less(168, t as u64) as u8;
     let mut done: u8 = 0;
-    let mut sum: u32 = 0;
+    let mut full: u32 = 0;
+    let mut ae: u32 = 0;
+    let mut se: u32 = 0;
     while done < steps {
-        sum += slope(b, s, 167 - done) as u32;
+        let x = 167 - done;
+        full += slope(b, f, x) as u32;
+        ae += slope(b, a, x) as u32;
+        se += slope(b, s, x) as u32;
         done += 1;
     }
-    sum
+    Sums {
+        full: full,
+        ae: ae,
+        se: se,
+    }
 }
 
 fn full_line(slopes: u32) -> u16
@@ -517,10 +533,11 @@ impl Curves {
         let full = self.full;
         let ae = self.ae;
         let se = self.se;
+        let sums = walked(b, full, ae, se, t);
         Model {
-            full: full_line(slopes_to(b, full, t)),
-            ae: empty_line(self.start, slopes_to(b, ae, t)),
-            se: empty_line(0, slopes_to(b, se, t)),
+            full: full_line(sums.full),
+            ae: empty_line(self.start, sums.ae),
+            se: empty_line(0, sums.se),
         }
     }
 }

@@ -1,22 +1,22 @@
 -- `gauge::read_reply` meets its contract: its loop fills the front of the room. Assumes nothing.
 use Prim.Native.Nat.{_-_}
-use Rattle.gauge.specs.View.{viewed}
+use Rattle.gauge.specs.View.{viewIn, viewed}
 use Rattle.gauge.proofs.Listed.{Filling, filling-start, filling-more, filling-end}
 use borrow.Author.Needs.{needs}
 use Rattle.gauge.proofs.read_reply.Statement.{statement}
 use Rattle.gauge.proofs.read_reply.Tie as tie
 
 abbrev Inv-loop : tie.InvT-loop
-Inv-loop v a n room₀ i₀ room i = Filling (viewed v a) n room₀ room i
+Inv-loop registers label block a n room₀ i₀ room i = Filling (viewed (viewIn registers label block) a) n room₀ room i
 
 abbrev μ-loop : tie.MeasureT-loop
-μ-loop v a n room₀ i₀ room i = n - i
+μ-loop registers label block a n room₀ i₀ room i = n - i
 
 loop-holds : tie.Need-loop-holds Inv-loop μ-loop
 loop-holds c = filling-start _ _ _
 
 loop-again : tie.Need-loop-again Inv-loop μ-loop
-loop-again c = filling-more _ _ _ _ _ _ (c .before .before .loop .inv) (c .before .loop-test .taken) (c .byte .ensures)
+loop-again c = filling-more _ _ _ _ _ _ (c .before .before .loop .inv) (c .before .loop-test .taken) (c .view-byte .ensures)
 
 same-length : tie.Need-same-length Inv-loop μ-loop
 same-length c = c .before .loop .inv .same

@@ -21,7 +21,7 @@ returns c =
 returns-2 : tie.Need-returns-2
 unfolding sourceByte
 returns-2 c =
-    let view = c .before .before .before .before in
+    let view = c .before .before .before .before .before .before .before .before .before .before in
     let wide = view .before in
     let told = wide .before .before in
     let a = told .before .before .before .before .before .args in

@@ -4,17 +4,15 @@ use borrow.Author.Tests.{lt-ltb, le-ltb}
 use Rattle.map.proofs.Addresses.{in-label-high, in-block-low, in-block-high}
 use Rattle.gauge.specs.View.{viewByte}
 use borrow.Author.Needs.{needs}
-use Rattle.gauge.proofs.View.byte.Statement.{statement}
-use Rattle.gauge.proofs.View.byte.Tie as tie
+use Rattle.gauge.proofs.view_byte.Statement.{statement}
+use Rattle.gauge.proofs.view_byte.Tie as tie
 
 returns : tie.Need-returns
 unfolding viewByte
 returns c = simp (lt-ltb _ _ (c .before .if1 .taken))
 
-array-read-result-2 : tie.Need-array-read-result-2
-array-read-result-2 c =
-    let label = c .before in
-    omega (arith, in-label-high (label .before .before .before .args .a) (sym (label .before .in-label .ensures) ∙ label .if2 .taken))
+element-copy-out-result-2 : tie.Need-element-copy-out-result-2
+element-copy-out-result-2 c = omega (arith, in-label-high (c .before .before .before .args .a) (sym (c .before .in-label .ensures) ∙ c .if2 .taken))
 
 returns-2 : tie.Need-returns-2
 unfolding viewByte
@@ -25,10 +23,9 @@ returns-2 c =
 sub-i : tie.Need-sub-i
 sub-i c = omega (arith, in-block-low (c .before .before .before .before .before .args .a) (sym (c .before .in-block .ensures) ∙ c .if3 .taken))
 
-array-read-result-3 : tie.Need-array-read-result-3
-array-read-result-3 c =
-    let block = c .before in
-    omega (arith, in-block-high (block .before .before .before .before .before .args .a) (sym (block .before .in-block .ensures) ∙ block .if3 .taken))
+element-copy-out-result-3 : tie.Need-element-copy-out-result-3
+element-copy-out-result-3 c =
+    omega (arith, in-block-high (c .before .before .before .before .before .args .a) (sym (c .before .in-block .ensures) ∙ c .if3 .taken))
 
 returns-3 : tie.Need-returns-3
 unfolding viewByte
@@ -43,17 +40,17 @@ returns-4 c =
     let label = c .before .before in
     simp (le-ltb _ _ (label .before .before .if1 .left), sym (label .before .in-label .ensures) ∙ label .if2 .left, sym (c .before .in-block .ensures) ∙ c .if3 .left)
 
-pub byte-spec : {M : Type 1} → statement M
-byte-spec =
+pub view-byte-spec : {M : Type 1} → statement M
+view-byte-spec =
     tie.close
     (tie.spec
     (λ c. search needs)
     returns
     (λ c κs. search needs)
-    array-read-result-2
+    element-copy-out-result-2
     returns-2
     (λ c κs. search needs)
     sub-i
-    array-read-result-3
+    element-copy-out-result-3
     returns-3
     returns-4)

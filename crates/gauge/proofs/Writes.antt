@@ -1,0 +1,67 @@
+-- A write is a write of the label and a write of the meter, and each is found from its own part alone. Assumes nothing.
+use mathlib.Core.Path.{_≡_, refl, sym}
+use mathlib.Core.Bool.{Bool, true, false}
+use mathlib.Core.List.{List, [], _∷_}
+use Prim.Native.Nat.{ℕ, _+_, _-_, _≤_, _<_}
+use native.Mathlib.Omega.{arith}
+use lib.Dec.{leb}
+use lib.ListN.{length, length-drop, drop}
+use borrow.Author.Tests.{leb-true, le-leb, lt-ltb}
+use Rattle.numbers.specs.Choice.{pick, both}
+use Rattle.meter.specs.declared.Meter.{Meter}
+use Rattle.map.specs.declared.Held.{Held}
+use Rattle.map.specs.declared.Label.{Label}
+use Rattle.map.specs.Registers.{inLabel}
+use Rattle.map.specs.Writes.{heldOf}
+use Rattle.gauge.specs.declared.Gauge.{Gauge}
+use Rattle.gauge.specs.Gauge.{withLabel, withMeter, writtenOf, writesOf}
+use Rattle.gauge.specs.Writes.{labelAt, meterAt, labelWrites, meterWrites}
+
+-- a gauge with another label and another meter
+abbrev pub withParts : Gauge → Label → Meter → Gauge
+withParts g l m = record { common = g .common; label = l; meter = m }
+
+one-part : (t : Bool) (g : Gauge) (l : Label) (m : Meter) →
+    pick t (withLabel g l) (withMeter g m) ≡ withParts g (pick t l (g .label)) (pick t (g .meter) m)
+one-part true g l m = refl
+one-part false g l m = refl
+
+written-parts : (h : Held) (g : Gauge) (a b : ℕ) →
+    writtenOf h g a b ≡ withParts g (labelAt (g .common) (g .label) a b) (meterAt h (g .meter) a b)
+unfolding writtenOf labelAt meterAt
+written-parts h g a b = one-part (inLabel a) g _ _
+
+pub writes-parts : (h : Held) (g : Gauge) (a : ℕ) (bytes : List ℕ) →
+    writesOf h g a bytes ≡ withParts g (labelWrites (g .common) (g .label) a bytes) (meterWrites h (g .meter) a bytes)
+writes-parts h g a [] = refl
+writes-parts h g a (b ∷ bytes) =
+    rw (written-parts h g a b)
+    (writes-parts (heldOf h a b) (withParts g (labelAt (g .common) (g .label) a b) (meterAt h (g .meter) a b)) (a + 1) bytes)
+
+-- the two parts, found one by one
+pub parts-written : (h : Held) (g : Gauge) (a : ℕ) (bytes : List ℕ) (l : Label) (m : Meter) →
+    l ≡ labelWrites (g .common) (g .label) a bytes → m ≡ meterWrites h (g .meter) a bytes → withParts g l m ≡ writesOf h g a bytes
+parts-written h g a bytes l m e f = rw (e, f) (sym (writes-parts h g a bytes))
+
+in-label-between : (a : ℕ) → 0x20 ≤ a → a < 0x30 → inLabel a ≡ true
+unfolding inLabel
+in-label-between a low high = rw (le-leb 0x20 a low, lt-ltb a 0x30 high) refl
+
+-- bytes of the label leave the meter
+label-bytes : (h : Held) (m : Meter) (a : ℕ) (bytes : List ℕ) → 0x20 ≤ a → length bytes ≤ 0x30 - a → meterWrites h m a bytes ≡ m
+unfolding meterAt
+label-bytes h m a [] low high = refl
+label-bytes h m a (b ∷ bytes) low high =
+    rw (in-label-between a low (omega (arith, high)))
+    (label-bytes (heldOf h a b) m (a + 1) bytes (omega (arith, low)) (omega (arith, high)))
+
+both-true : (t u : Bool) → both t u ≡ true → (t ≡ true) × (u ≡ true)
+both-true true u e = (refl, e)
+both-true false u e = (e, cc)
+
+-- as the code asks for it
+pub label-only : (h : Held) (m : Meter) (a from : ℕ) (s : List ℕ) →
+    both (leb 0x20 a) (leb (a + length s) (0x30 + from)) ≡ true → meterWrites h m a (drop from s) ≡ m
+label-only h m a from s e =
+    let asked = both-true (leb 0x20 a) (leb (a + length s) (0x30 + from)) e in
+    label-bytes h m a (drop from s) (leb-true 0x20 a (asked .0)) (rw (length-drop from s) (omega (arith, leb-true (a + length s) (0x30 + from) (asked .1))))
