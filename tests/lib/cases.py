@@ -18,12 +18,14 @@ def same(what, got, wanted):
 
 
 def attempt(name, tried):
-    """Calls tried and prints `ok NAME`, or `FAIL NAME: why` where it raises."""
+    """Calls tried and prints `ok NAME`, or `FAIL NAME: why` where it raises; whether it is ok."""
     try:
         tried()
-        print(f"ok {name}", flush=True)
     except Exception as fault:  # whatever breaks is a failure of this one
         print(f"FAIL {name}: {fault}", flush=True)
+        return False
+    print(f"ok {name}", flush=True)
+    return True
 
 
 def output(command, given):

@@ -13,14 +13,15 @@ use Rattle.bus.specs.declared.Transaction.{Transaction}
 use Rattle.bus.specs.Ask.{ownOf}
 use Rattle.gauge.specs.declared.Gauge.{Gauge}
 use Rattle.gauge.specs.Gauge.{conversionOf, readingOf, powerOnOf}
-use Rattle.gauge.specs.Act.{selectedBy, selectedOf}
+use Rattle.replies.specs.Reply.{selectedBy, selectedOf}
 use Rattle.gauge.proofs.Kept.{address-kept}
-use Rattle.records.specs.declared.Event.the-variants.{Image, Reading, Conversion, Transact, PowerOn}
-use Rattle.records.specs.declared.Taken.{Taken}
-use Rattle.records.specs.declared.Taken.the-variants.{Run, Refused}
-use Rattle.records.specs.declared.Session.{Session}
-use Rattle.records.specs.Record.{Rec, whole, cut, masterOf, takenOf}
-use Rattle.records.specs.Run.{Did, loadedWith, takenDid, didOf, endOf}
+use Rattle.events.specs.declared.Event.the-variants.{Image, Reading, Conversion, Transact, PowerOn}
+use Rattle.events.specs.declared.Taken.{Taken}
+use Rattle.events.specs.declared.Taken.the-variants.{Run, Refused}
+use Rattle.steps.specs.declared.Session.{Session}
+use Rattle.steps.specs.Step.{Rec, whole, cut, Did, loadedWith, takenDid, didOf}
+use Rattle.events.specs.Record.{masterOf, takenOf}
+use Rattle.records.specs.Run.{endOf}
 use Rattle.demands.specs.Class.{classOf}
 use Rattle.demands.proofs.Choice.{contrary, pick-of}
 use Rattle.demands.proofs.Reached.{Timely, timely}

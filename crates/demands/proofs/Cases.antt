@@ -5,8 +5,9 @@ use Prim.Native.Nat.{ℕ}
 use lib.ListN.{replicate}
 use Rattle.map.specs.Registers.{inLabel, inBlock}
 use Rattle.bus.specs.Ask.{romBy, commandOf, askedAt, askedOf, ownOf}
-use Rattle.gauge.specs.Act.{selectedOf}
-use Rattle.records.specs.Record.{Rec, whole, cut, knownOf, sizedOf, dueOf, eventOf, takenOf}
+use Rattle.replies.specs.Reply.{selectedOf}
+use Rattle.steps.specs.Step.{Rec, whole, cut}
+use Rattle.events.specs.Record.{knownOf, sizedOf, dueOf, eventOf, takenOf}
 use Rattle.demands.specs.Sections.{Class, labelling, gauging, fence}
 use Rattle.demands.specs.Class.{blockOf, touchedOf, labelsOf, touchedClass, classOf}
 

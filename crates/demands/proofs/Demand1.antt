@@ -9,15 +9,16 @@ use borrow.Author.Tests.{le-ltb, lt-ltb}
 use lib.Dec.{ltb, leb}
 use lib.ListN.{length}
 use Rattle.parts.specs.Parts.{put}
-use Rattle.records.specs.declared.Refusal.{Refusal}
-use Rattle.records.specs.declared.Refusal.the-variants.{Kind, Size, Order, Address, Locks, Count, Room}
-use Rattle.records.specs.declared.Event.{Event}
-use Rattle.records.specs.declared.Event.the-variants.{Image, Reading, Conversion, Transact, PowerOn}
-use Rattle.records.specs.declared.Taken.{Taken}
-use Rattle.records.specs.declared.Taken.the-variants.{Run, Refused}
-use Rattle.records.specs.declared.Session.{Session}
-use Rattle.records.specs.Record.{Rec, whole, cut, refusalNumber, takenOf, wholeOf, recOf, sizeOf, recsFrom, recsOf}
-use Rattle.records.specs.Run.{Did, Line, eventDid, takenDid, didOf, linesOf, sessionOf, emptyOf, outcomeOf}
+use Rattle.events.specs.declared.Refusal.{Refusal}
+use Rattle.events.specs.declared.Refusal.the-variants.{Kind, Size, Order, Address, Locks, Count, Room}
+use Rattle.events.specs.declared.Event.{Event}
+use Rattle.events.specs.declared.Event.the-variants.{Image, Reading, Conversion, Transact, PowerOn}
+use Rattle.events.specs.declared.Taken.{Taken}
+use Rattle.events.specs.declared.Taken.the-variants.{Run, Refused}
+use Rattle.steps.specs.declared.Session.{Session}
+use Rattle.steps.specs.Step.{Rec, whole, cut, wholeOf, recOf, sizeOf, Did, eventDid, takenDid, didOf}
+use Rattle.events.specs.Record.{refusalNumber, takenOf}
+use Rattle.records.specs.Run.{recsFrom, recsOf, Line, linesOf, sessionOf, emptyOf, outcomeOf}
 use Rattle.demands.specs.Demand1 as demand
 use Rattle.demands.specs.Demand1.{Header, headersFrom, headersOf, Numbered, Answered, none, stops, next, Demand1}
 use Rattle.demands.proofs.Choice.{pick-of}

@@ -11,17 +11,18 @@ use borrow.Author.Tests.{le-leb, eq-eqb}
 use Rattle.parts.specs.Parts.{put}
 use Rattle.parts.proofs.Laws.{put-append}
 use Rattle.gauge.specs.declared.Gauge.{Gauge}
-use Rattle.gauge.specs.declared.Verdict.the-variants.{Accepted}
+use Rattle.pack.specs.declared.Verdict.the-variants.{Accepted}
 use Rattle.gauge.specs.Gauge.{powerOnOf}
-use Rattle.gauge.specs.Image.{verdictOf, bytesOf}
-use Rattle.gauge.specs.Reach.{Reached}
-use Rattle.gauge.proofs.Image.{image-length}
-use Rattle.gauge.proofs.Reached.{reached-sized, out-accepted, out-in}
-use Rattle.records.specs.declared.Event.the-variants.{Image}
-use Rattle.records.specs.declared.Taken.the-variants.{Run}
-use Rattle.records.specs.declared.Session.{Session}
-use Rattle.records.specs.Record.{Rec, whole, knownOf, sizedOf, dueOf, eventOf, takenOf, recsOf}
-use Rattle.records.specs.Run.{Did, Line, quiet, loadedWith, didOf, lineOf, linesOf, endOf, repliesOf, codesOf, emptyOf, sessionOf}
+use Rattle.pack.specs.Image.{verdictOf, bytesOf}
+use Rattle.pack.specs.Reach.{Reached}
+use Rattle.pack.proofs.Image.{image-length}
+use Rattle.pack.proofs.Reached.{reached-sized, out-accepted, out-in}
+use Rattle.events.specs.declared.Event.the-variants.{Image}
+use Rattle.events.specs.declared.Taken.the-variants.{Run}
+use Rattle.steps.specs.declared.Session.{Session}
+use Rattle.steps.specs.Step.{Rec, whole, Did, quiet, loadedWith, didOf}
+use Rattle.events.specs.Record.{knownOf, sizedOf, dueOf, eventOf, takenOf}
+use Rattle.records.specs.Run.{recsOf, Line, lineOf, linesOf, endOf, repliesOf, codesOf, emptyOf, sessionOf}
 use Rattle.demands.specs.Call.{Call, Within, Stopped, Taking}
 use Rattle.demands.specs.Demand2.{Moment, didAfter, Exact, Carried, PoweredOn, Restored, Demand2}
 use Rattle.demands.proofs.Choice.{contrary}

@@ -8,12 +8,13 @@ use lib.Dec.{eqb}
 use lib.ListN.{length}
 use Rattle.numbers.specs.Choice.{pick}
 use Rattle.gauge.specs.declared.Gauge.{Gauge}
-use Rattle.gauge.specs.Image.{imageOf}
-use Rattle.records.specs.declared.Event.the-variants.{Image}
-use Rattle.records.specs.declared.Taken.the-variants.{Run, Refused}
-use Rattle.records.specs.declared.Refusal.the-variants.{Size, Order}
-use Rattle.records.specs.Record.{Rec, whole, knownOf, sizedOf, dueOf, eventOf, takenOf}
-use Rattle.records.specs.Run.{Did, Line, quiet, loadedWith, didOf, lineOf, sessionOf}
+use Rattle.pack.specs.Image.{imageOf}
+use Rattle.events.specs.declared.Event.the-variants.{Image}
+use Rattle.events.specs.declared.Taken.the-variants.{Run, Refused}
+use Rattle.events.specs.declared.Refusal.the-variants.{Size, Order}
+use Rattle.steps.specs.Step.{Rec, whole, Did, quiet, loadedWith, didOf}
+use Rattle.events.specs.Record.{knownOf, sizedOf, dueOf, eventOf, takenOf}
+use Rattle.records.specs.Run.{Line, lineOf, sessionOf}
 use Rattle.demands.specs.Call.{Call, gotOf}
 use Rattle.demands.specs.Sections.{Class, labelling, gauging, fence, only, more}
 use Rattle.demands.specs.Class.{takenClass, classOf}

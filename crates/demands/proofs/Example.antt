@@ -8,18 +8,21 @@ use borrow.Author.Tests.{le-ltb}
 use lib.ListN.{length, getD, take, replicate, length-take}
 use Rattle.parts.specs.Parts.{put}
 use Rattle.crc.specs.Crc as crc
-use Rattle.meter.specs.Params.{countingOf}
+use Rattle.params.specs.Params.{countingOf}
 use Rattle.meter.specs.State.{poweredOf}
-use Rattle.meter.specs.Convert.{tracedOf, convertOf}
+use Rattle.charge.specs.Charge.{tracedOf}
+use Rattle.meter.specs.Convert.{convertOf}
 use Rattle.map.specs.Registers.{inLabel, registersOf, labelByte, meterByte}
 use Rattle.map.specs.Writes.{labelWritten, labelCopied, labelRecalled}
 use Rattle.bus.specs.Ask.{romBy, commandOf, askedAt, askedOf}
-use Rattle.gauge.specs.Gauge.{conversionOf, powerOnOf, byteOf, writtenOf, copiedOf}
-use Rattle.gauge.specs.Act.{selectedOf, ranOf, actOf, sourceOf, sourceByte, replyOf}
-use Rattle.gauge.specs.Image.{imageOf, addressedOf, verdictOf}
+use Rattle.gauge.specs.Gauge.{conversionOf, powerOnOf, writtenOf, copiedOf}
+use Rattle.replies.specs.Reply.{byteOf, selectedOf, sourceByte}
+use Rattle.gauge.specs.Act.{ranOf, actOf, replyOf}
+use Rattle.pack.specs.Image.{imageOf, addressedOf, verdictOf}
 use Rattle.records.specs.declared.Outcome.the-variants.{Done}
-use Rattle.records.specs.Record.{Rec, whole, cut, knownOf, sizedOf, dueOf, eventOf, takenOf, wholeOf, recOf, sizeOf, recsOf}
-use Rattle.records.specs.Run.{Line, emptyOf, didOf, endOf, repliesOf, sessionOf, codesOf, outcomeOf, takeOutNumber, takeOutRoom}
+use Rattle.steps.specs.Step.{Rec, whole, cut, wholeOf, recOf, sizeOf, didOf}
+use Rattle.events.specs.Record.{knownOf, sizedOf, dueOf, eventOf, takenOf}
+use Rattle.records.specs.Run.{recsOf, Line, emptyOf, endOf, repliesOf, sessionOf, codesOf, outcomeOf, takeOutNumber, takeOutRoom}
 use Rattle.demands.specs.Call.{Call, Within, firstOf, Stopped}
 use Rattle.demands.specs.Demand2.{Carried, PoweredOn}
 use Rattle.demands.specs.Sections.{last, more}
@@ -175,7 +178,7 @@ pub answers : sessionOf (call ones .bytes) 4
 unfolding sessionOf recOf sizeOf wholeOf didOf takenOf knownOf sizedOf dueOf eventOf verdictOf addressedOf crc.bitOf crc.eightOf crc.byteOf
     imageOf poweredOf conversionOf convertOf countingOf tracedOf powerOnOf labelRecalled
     askedOf askedAt romBy commandOf selectedOf actOf ranOf writtenOf labelWritten copiedOf labelCopied
-    replyOf sourceOf sourceByte byteOf inLabel labelByte meterByte registersOf
+    replyOf sourceByte byteOf inLabel labelByte meterByte registersOf
 answers = refl
 
 -- the image that the first of them leaves can be taken out, and a power-on can follow it

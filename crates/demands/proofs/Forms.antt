@@ -10,7 +10,7 @@ use lib.Dec.{ltb, eqb}
 use lib.ListN.{length, getD, drop}
 use Rattle.numbers.specs.Choice.{pick, either}
 use Rattle.meter.specs.declared.Meter.{Meter}
-use Rattle.meter.specs.Params.{rnaopOf}
+use Rattle.params.specs.Params.{rnaopOf}
 use Rattle.meter.specs.Convert.{convertOf}
 use Rattle.meter.specs.Read.{readOf}
 use Rattle.map.specs.declared.Common.{Common}
@@ -24,15 +24,17 @@ use Rattle.bus.specs.declared.Command.{Command}
 use Rattle.bus.specs.declared.Command.the-variants.{Read, Write, Copy, Recall, Lock, Nothing}
 use Rattle.bus.specs.declared.Transaction.{Transaction}
 use Rattle.gauge.specs.declared.Gauge.{Gauge}
-use Rattle.gauge.specs.declared.Source.{Source}
-use Rattle.gauge.specs.declared.Source.the-variants.{Address, Bytes, Idle}
-use Rattle.gauge.specs.Gauge.{conversionOf, readingOf, byteOf, writtenOf, writesOf, copiedOf, recalledOf, lockedOf}
-use Rattle.gauge.specs.Act.{selectedOf, noneHeld, ranBy, ranOf, actOf, readFrom, netFrom, sourceOf, sourceByte, listed, replyOf}
-use Rattle.records.specs.declared.Event.the-variants.{Image, Reading, Conversion, Transact, PowerOn}
-use Rattle.records.specs.declared.Taken.{Taken}
-use Rattle.records.specs.declared.Taken.the-variants.{Run, Refused}
-use Rattle.records.specs.Record.{Rec, whole, cut, refusalNumber, masterOf, takenOf}
-use Rattle.records.specs.Run.{Did, loadedWith, takenDid, didOf}
+use Rattle.replies.specs.declared.Source.{Source}
+use Rattle.replies.specs.declared.Source.the-variants.{Address, Bytes, Idle}
+use Rattle.gauge.specs.Gauge.{conversionOf, readingOf, writtenOf, writesOf, copiedOf, recalledOf, lockedOf}
+use Rattle.replies.specs.Reply.{byteOf, selectedOf, readFrom, netFrom, sourceByte, listed}
+use Rattle.writes.specs.Writes.{noneHeld}
+use Rattle.gauge.specs.Act.{ranBy, ranOf, actOf, replyOf}
+use Rattle.events.specs.declared.Event.the-variants.{Image, Reading, Conversion, Transact, PowerOn}
+use Rattle.events.specs.declared.Taken.{Taken}
+use Rattle.events.specs.declared.Taken.the-variants.{Run, Refused}
+use Rattle.steps.specs.Step.{Rec, whole, cut, Did, loadedWith, takenDid, didOf}
+use Rattle.events.specs.Record.{refusalNumber, masterOf, takenOf}
 use Rattle.demands.specs.Sections.{Class, labelling, gauging, fence}
 use Rattle.demands.specs.Class.{touchedBy, ownedBy, touchedOf, touchedClass, takenClass, classOf}
 use Rattle.demands.specs.Demand3.{takenAsks, asksOf}
@@ -44,6 +46,10 @@ use Rattle.demands.proofs.Address.{selected-by-address}
 
 abbrev pub after : Gauge → ℕ → List ℕ → Did
 after g answer reply = record { session = loadedWith g; answer = answer; reply = reply }
+
+-- the bytes of a reply, by where they come from
+abbrev bytesFrom : Gauge → Source → ℕ → ℕ
+bytesFrom g = sourceByte (g .common) (g .label) (g .meter)
 
 -- x is the part that an event goes by and changes; y is the other, which it keeps and does not look at
 pub record Form {A B : Type 0} (make : A → B → Gauge) (x : A) (f : Gauge → Did) : Type 0 where
@@ -57,7 +63,7 @@ record Part {A B : Type 0} (make : A → B → Gauge) : Type 0 where
   side : Bool
   byte : A → ℕ → ℕ
   write : Held → A → ℕ → ℕ → A
-  reads : (x : A) (y : B) (a : ℕ) → inLabel a ≡ side → byteOf (make x y) a ≡ byte x a
+  reads : (x : A) (y : B) (a : ℕ) → inLabel a ≡ side → byteOf (make x y .common) (make x y .label) (make x y .meter) a ≡ byte x a
   writes : (h : Held) (x : A) (y : B) (a b : ℕ) → inLabel a ≡ side → writtenOf h (make x y) a b ≡ make (write h x a b) y
 
 -- values of two functions that agree from i on
@@ -73,11 +79,11 @@ module _ {A B : Type 0} {make : A → B → Gauge} where
 
   -- a command that replies FFh
   idle-form : {x : A} (n : ℕ) (f : Gauge → Gauge) (part : A) → ((y : B) → f (make x y) ≡ make part y)
-      → Form make x (λ g. after (f g) 0 (listed (sourceByte g Idle) 0 n))
+      → Form make x (λ g. after (f g) 0 (listed (bytesFrom g Idle) 0 n))
   unfolding sourceByte
   idle-form n f part e = record { part = part; answer = 0; reply = listed (λ i. 0xff) 0 n; form = λ y. rw (e y) refl }
 
-  read-form : (p : Part make) (x : A) (a n : ℕ) → RunsIn (p .side) a n → Form make x (λ g. after g 0 (listed (sourceByte g (Bytes a)) 0 n))
+  read-form : (p : Part make) (x : A) (a n : ℕ) → RunsIn (p .side) a n → Form make x (λ g. after g 0 (listed (bytesFrom g (Bytes a)) 0 n))
   unfolding sourceByte
   read-form p x a n e = record {
     part = x;
@@ -98,7 +104,7 @@ module _ {A B : Type 0} {make : A → B → Gauge} where
       ∙ writes-form p (heldOf h a b) (p .write h x a b) y (a + 1) bs (λ j low high. e j (omega arith) (omega arith))
 
   write-form : (p : Part make) (x : A) (a n : ℕ) (bytes : List ℕ) → RunsIn (p .side) a (length bytes)
-      → Form make x (λ g. after (writesOf noneHeld g a bytes) 0 (listed (sourceByte g Idle) 0 n))
+      → Form make x (λ g. after (writesOf noneHeld g a bytes) 0 (listed (bytesFrom g Idle) 0 n))
   write-form p x a n bytes e =
       idle-form n (λ g. writesOf noneHeld g a bytes) (written p noneHeld x a bytes) (λ y. writes-form p noneHeld x y a bytes e)
 
@@ -107,12 +113,12 @@ module _ {A B : Type 0} {make : A → B → Gauge} where
 abbrev asked : Bool → Command → Rom → ℕ → ℕ → List ℕ → Gauge → Did
 asked selected command rom a n bytes g =
     after (pick selected (ranBy command g a bytes) g) 0
-    (listed (sourceByte g (pick selected (readFrom command a) (netFrom rom (rnaopOf (g .meter .block .shadow))))) 0 n)
+    (listed (bytesFrom g (pick selected (readFrom command a) (netFrom rom (rnaopOf (g .meter .block .shadow))))) 0 n)
 
 asked-is : (g : Gauge) (p : List ℕ) (t : Transaction)
     → takenDid (loadedWith g) (t .count) p (Run (Transact t))
     ≡ asked (selectedOf (g .common) t (masterOf p)) (t .command) (t .rom) (t .address) (t .count) (drop (t .from) (masterOf p)) g
-unfolding actOf ranOf replyOf sourceOf
+unfolding actOf ranOf replyOf
 asked-is g p t = rw (le-ltb (t .count) (t .count) (omega arith)) refl
 
 module _ (c : Common) where
@@ -165,7 +171,7 @@ module _ (c : Common) where
   -- nothing is selected: the net address, or FFh
 
   abbrev Replies : Meter → ℕ → Source → Type 0
-  Replies m n source = Form metered m (λ g. after g 0 (listed (sourceByte g source) 0 n))
+  Replies m n source = Form metered m (λ g. after g 0 (listed (bytesFrom g source) 0 n))
 
   address-form : (m : Meter) (n : ℕ) → Replies m n Address
   unfolding sourceByte
@@ -184,7 +190,7 @@ module _ (c : Common) where
 
   -- a command on block 1, or on no block
   block-form : (m x : Meter) (a n : ℕ) (f : Gauge → Gauge) → ((l : Label) → f (metered m l) ≡ pick (inBlock a) (metered x l) (metered m l))
-      → Form metered m (λ g. after (f g) 0 (listed (sourceByte g Idle) 0 n))
+      → Form metered m (λ g. after (f g) 0 (listed (bytesFrom g Idle) 0 n))
   block-form m x a n f e = idle-form n f (pick (inBlock a) x m) (λ l. e l ∙ pick-ap (λ k. metered k l) (inBlock a) x m)
 
   gauge-asked : (m : Meter) (selected : Bool) (command : Command) (rom : Rom) (a n : ℕ) (bytes : List ℕ)

@@ -9,7 +9,8 @@ use lib.Dec.{ltb, leb}
 use lib.ListN.{length, drop, drop-of-length-le}
 use lib.Seq.{take-all}
 use Rattle.parts.specs.Parts.{part}
-use Rattle.records.specs.Record.{whole, cut, wholeOf, recOf, sizeOf, recsFrom, recsOf}
+use Rattle.steps.specs.Step.{whole, cut, wholeOf, recOf, sizeOf}
+use Rattle.records.specs.Run.{recsFrom, recsOf}
 use Rattle.records.proofs.Runs.{recs-cons}
 
 module _ (n m i j : ℕ) (s : List ℕ) where

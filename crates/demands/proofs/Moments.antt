@@ -8,14 +8,15 @@ use borrow.Author.Tests.{le-ltb, le-leb}
 use lib.ListN.{length, getD, take, drop, length-append, length-take, length-drop, drop-of-length-le, List·getD-append}
 use lib.Seq.{take-nil, drop-nil, take-length, take-add, take-at, drop-at, length-take-le, getD-take}
 use Rattle.parts.specs.Parts.{part, pairAt}
-use Rattle.records.specs.declared.Session.{Session}
+use Rattle.steps.specs.declared.Session.{Session}
 use Rattle.gauge.specs.Gauge.{powerOnOf}
-use Rattle.gauge.specs.Image.{imageOf}
-use Rattle.records.specs.declared.Event.the-variants.{Image}
-use Rattle.records.specs.declared.Taken.the-variants.{Run}
-use Rattle.records.specs.Record.{Rec, whole, knownOf, sizedOf, dueOf, eventOf, takenOf, wholeOf, recOf, sizeOf, recsOf}
-use Rattle.records.specs.Run.{Did, Line, quiet, loadedWith, didOf, lineOf, linesOf, endOf, repliesOf, codesOf, codeOf, emptyOf, sessionOf, outcomeOf, Running}
-use Rattle.records.proofs.Steps.{whole-end}
+use Rattle.pack.specs.Image.{imageOf}
+use Rattle.events.specs.declared.Event.the-variants.{Image}
+use Rattle.events.specs.declared.Taken.the-variants.{Run}
+use Rattle.steps.specs.Step.{Rec, whole, wholeOf, recOf, sizeOf, Did, quiet, loadedWith, didOf}
+use Rattle.events.specs.Record.{knownOf, sizedOf, dueOf, eventOf, takenOf}
+use Rattle.records.specs.Run.{recsOf, Line, lineOf, linesOf, endOf, repliesOf, codesOf, codeOf, emptyOf, sessionOf, outcomeOf, Running}
+use Rattle.steps.proofs.Steps.{whole-end}
 use Rattle.records.proofs.Runs.{recs-cons}
 use Rattle.demands.specs.Call.{Call, Within, Told, firstOf, Stopped}
 use Rattle.demands.proofs.Choice.{contrary}

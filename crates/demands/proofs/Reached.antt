@@ -6,17 +6,18 @@ use Prim.Native.Nat.{ℕ, _-_}
 use lib.Dec.{ltb, eqb}
 use lib.ListN.{length}
 use Rattle.numbers.specs.Choice.{pick}
-use Rattle.gauge.specs.declared.Verdict.{Verdict}
-use Rattle.gauge.specs.declared.Verdict.the-variants as verdict
-use Rattle.gauge.specs.Image.{verdictOf}
-use Rattle.gauge.specs.Reach.{Reached, accepted, converted, read, powered, acted-on}
-use Rattle.records.specs.declared.Event.the-variants.{Image, Reading, Conversion, Transact, PowerOn}
-use Rattle.records.specs.declared.Taken.{Taken}
-use Rattle.records.specs.declared.Taken.the-variants.{Run, Refused}
-use Rattle.records.specs.declared.Refusal.the-variants.{Order}
-use Rattle.records.specs.declared.Session.{Session}
-use Rattle.records.specs.Record.{Rec, whole, cut, knownOf, sizedOf, dueOf, countableOf, imageTaken, masterOf, eventOf, takenOf}
-use Rattle.records.specs.Run.{Did, takenDid, didOf, endOf}
+use Rattle.pack.specs.declared.Verdict.{Verdict}
+use Rattle.pack.specs.declared.Verdict.the-variants as verdict
+use Rattle.pack.specs.Image.{verdictOf}
+use Rattle.pack.specs.Reach.{Reached, accepted, converted, read, powered, acted-on}
+use Rattle.events.specs.declared.Event.the-variants.{Image, Reading, Conversion, Transact, PowerOn}
+use Rattle.events.specs.declared.Taken.{Taken}
+use Rattle.events.specs.declared.Taken.the-variants.{Run, Refused}
+use Rattle.events.specs.declared.Refusal.the-variants.{Order}
+use Rattle.steps.specs.declared.Session.{Session}
+use Rattle.steps.specs.Step.{Rec, whole, cut, Did, takenDid, didOf}
+use Rattle.events.specs.Record.{knownOf, sizedOf, dueOf, countableOf, imageTaken, masterOf, eventOf, takenOf}
+use Rattle.records.specs.Run.{endOf}
 use Rattle.demands.proofs.Choice.{pick-of}
 
 -- An image is taken where none was accepted before, and only one that is accepted; any other event after one was

@@ -8,12 +8,14 @@ use native.Mathlib.Omega.{arith}
 use borrow.Author.Tests.{le-ltb}
 use lib.ListN.{length}
 use Rattle.gauge.specs.declared.Gauge.{Gauge}
-use Rattle.gauge.specs.Act.{listed, replyOf, sourceByte, sourceOf}
-use Rattle.records.specs.declared.Event.the-variants.{Image, Reading, Conversion, Transact, PowerOn}
-use Rattle.records.specs.declared.Taken.{Taken}
-use Rattle.records.specs.declared.Taken.the-variants.{Run, Refused}
-use Rattle.records.specs.Record.{Rec, whole, cut, masterOf, takenOf}
-use Rattle.records.specs.Run.{Line, loadedWith, takenDid, didOf, lineOf, linesOf, endOf}
+use Rattle.replies.specs.Reply.{listed}
+use Rattle.gauge.specs.Act.{replyOf}
+use Rattle.events.specs.declared.Event.the-variants.{Image, Reading, Conversion, Transact, PowerOn}
+use Rattle.events.specs.declared.Taken.{Taken}
+use Rattle.events.specs.declared.Taken.the-variants.{Run, Refused}
+use Rattle.steps.specs.Step.{Rec, whole, cut, loadedWith, takenDid, didOf}
+use Rattle.events.specs.Record.{masterOf, takenOf}
+use Rattle.records.specs.Run.{Line, lineOf, linesOf, endOf}
 use Rattle.demands.specs.Demand3.{takenAsks, asksOf, asksAll}
 use Rattle.demands.proofs.Mix.{endFrom, gotFrom}
 use Rattle.demands.proofs.Address.{did-stays}
@@ -44,7 +46,7 @@ taken-reply g p (Run Image) = refl
 taken-reply g p (Run (Reading volt temp)) = refl
 taken-reply g p (Run (Conversion raw)) = refl
 taken-reply g p (Run (Transact t)) =
-    rw (le-ltb (t .count) (t .count) (omega arith)) (length-listed (sourceByte g (sourceOf g t (masterOf p))) 0 (t .count))
+    rw (le-ltb (t .count) (t .count) (omega arith)) (length-listed _ 0 (t .count))
 taken-reply g p (Run PowerOn) = refl
 taken-reply g p (Refused r) = refl
 

@@ -6,8 +6,8 @@ use lib.ListN.{length, take, drop}
 use Rattle.parts.specs.Parts.{put}
 use Rattle.records.specs.declared.Outcome.the-variants.{Done}
 use Rattle.records.specs.declared.Ran.{Ran}
-use Rattle.records.specs.Record.{Rec, sizeOf, recsOf}
-use Rattle.records.specs.Run.{Line, sessionOf, repliesOf, codesOf, outcomeOf, Runs}
+use Rattle.steps.specs.Step.{Rec, sizeOf}
+use Rattle.records.specs.Run.{recsOf, Line, sessionOf, repliesOf, codesOf, outcomeOf, Runs}
 
 -- the bytes of a session, the reply room and the answers that are lent; what comes back, and what room and answers then hold
 pub record Call : Type 0 where

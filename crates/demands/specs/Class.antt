@@ -11,12 +11,13 @@ use Rattle.map.specs.Registers.{inLabel, inBlock}
 use Rattle.bus.specs.declared.Command.{Command}
 use Rattle.bus.specs.declared.Command.the-variants.{Read, Write, Copy, Recall, Lock, Nothing}
 use Rattle.bus.specs.declared.Transaction.{Transaction}
-use Rattle.gauge.specs.Act.{selectedOf}
-use Rattle.records.specs.declared.Event.{Event}
-use Rattle.records.specs.declared.Event.the-variants.{Image, Reading, Conversion, Transact, PowerOn}
-use Rattle.records.specs.declared.Taken.{Taken}
-use Rattle.records.specs.declared.Taken.the-variants.{Run, Refused}
-use Rattle.records.specs.Record.{Rec, whole, cut, refusalNumber, masterOf, takenOf}
+use Rattle.replies.specs.Reply.{selectedOf}
+use Rattle.events.specs.declared.Event.{Event}
+use Rattle.events.specs.declared.Event.the-variants.{Image, Reading, Conversion, Transact, PowerOn}
+use Rattle.events.specs.declared.Taken.{Taken}
+use Rattle.events.specs.declared.Taken.the-variants.{Run, Refused}
+use Rattle.steps.specs.Step.{Rec, whole, cut}
+use Rattle.events.specs.Record.{refusalNumber, masterOf, takenOf}
 use Rattle.demands.specs.Sections.{Class, labelling, gauging, fence}
 
 -- ---- what a transaction touches

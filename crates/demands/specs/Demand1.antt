@@ -13,7 +13,7 @@ use lib.Dec.{leb}
 use lib.ListN.{length}
 use Rattle.numbers.specs.Choice.{pick}
 use Rattle.records.specs.declared.Outcome.the-variants.{Over, Short}
-use Rattle.records.specs.Record.{Rec}
+use Rattle.steps.specs.Step.{Rec}
 use Rattle.records.specs.Run.{Line, Idle}
 use Rattle.demands.specs.Call.{Call, Allowed, Within, linesIn, Told, Taking}
 

@@ -9,8 +9,8 @@ use Prim.Native.Nat.{ℕ, _+_, _-_, _≤_}
 use lib.ListN.{length, take}
 use Rattle.parts.specs.Parts.{put}
 use Rattle.gauge.specs.Gauge.{powerOnOf}
-use Rattle.records.specs.Record.{Rec, whole, recsOf}
-use Rattle.records.specs.Run.{Did, Line, didOf, lineOf, endOf, emptyOf, loadedWith, codesOf, TakenOut}
+use Rattle.steps.specs.Step.{Rec, whole, Did, didOf, loadedWith}
+use Rattle.records.specs.Run.{recsOf, Line, lineOf, endOf, emptyOf, codesOf, TakenOut}
 use Rattle.demands.specs.Call.{Call, Within, gotOf, linesIn, Told, Stopped, Taking}
 
 -- ---- "after each event"

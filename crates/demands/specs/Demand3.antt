@@ -9,11 +9,13 @@ use mathlib.Core.Bool.{true, false}
 use mathlib.Core.List.{List, [], _∷_}
 use Prim.Native.Nat.{ℕ, _+_, _≤_}
 use lib.ListN.{length}
-use Rattle.gauge.specs.Image.{imageOf}
-use Rattle.records.specs.declared.Event.the-variants.{Image, Reading, Conversion, Transact, PowerOn}
-use Rattle.records.specs.declared.Taken.{Taken}
-use Rattle.records.specs.declared.Taken.the-variants.{Run, Refused}
-use Rattle.records.specs.Record.{Rec, whole, cut, takenOf, recsOf}
+use Rattle.pack.specs.Image.{imageOf}
+use Rattle.events.specs.declared.Event.the-variants.{Image, Reading, Conversion, Transact, PowerOn}
+use Rattle.events.specs.declared.Taken.{Taken}
+use Rattle.events.specs.declared.Taken.the-variants.{Run, Refused}
+use Rattle.steps.specs.Step.{Rec, whole, cut}
+use Rattle.events.specs.Record.{takenOf}
+use Rattle.records.specs.Run.{recsOf}
 use Rattle.demands.specs.Call.{Call, Within, gotOf, Told}
 use Rattle.demands.specs.Sections.{Sections}
 use Rattle.demands.specs.Class.{classOf}

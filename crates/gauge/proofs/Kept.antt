@@ -20,10 +20,12 @@ use Rattle.map.proofs.Kept.{label-written-sized, label-copied-sized, label-reca
 use Rattle.bus.specs.declared.Command.{Command}
 use Rattle.bus.specs.declared.Command.the-variants.{Read, Write, Copy, Recall, Lock, Nothing}
 use Rattle.bus.specs.declared.Transaction.{Transaction}
+use Rattle.writes.specs.Writes.{noneHeld}
+use Rattle.replies.specs.Reply.{selectedOf}
 use Rattle.gauge.specs.declared.Gauge.{Gauge}
 use Rattle.gauge.specs.Gauge.{Sized, withLabel, withMeter, conversionOf, readingOf, powerOnOf, writtenOf, writesOf, withBlockAt, copiedOf, recalledOf, lockedOf}
-use Rattle.gauge.specs.Act.{selectedOf, noneHeld, ranBy, ranOf, actOf}
-use Rattle.gauge.specs.Reach.{Kept}
+use Rattle.gauge.specs.Act.{ranBy, ranOf, actOf}
+use Rattle.gauge.specs.Kept.{Kept}
 
 -- ---- what a transaction keeps
 

@@ -11,7 +11,7 @@ use Rattle.meter.specs.Read.{readOf}
 use Rattle.map.specs.declared.Held.{Held}
 use Rattle.map.specs.declared.Label.{Label}
 use Rattle.map.specs.Sizes.{LabelSized, BlockSized}
-use Rattle.map.specs.Registers.{inLabel, inBlock, labelByte, meterByte}
+use Rattle.map.specs.Registers.{inLabel, inBlock}
 use Rattle.map.specs.Writes.{heldOf, meterWritten, labelWritten, labelCopied, meterCopied, labelRecalled, meterRecalled, blockLocked, labelLocked, lockUsed}
 use Rattle.gauge.specs.declared.Gauge.{Gauge}
 
@@ -42,11 +42,6 @@ readingOf g volt temp = withMeter g (readOf (g .meter) volt temp)
 -- shadow blocks take the EEPROM bytes; BL1 and BL0 stay
 unfoldable pub powerOnOf : Gauge → Gauge
 powerOnOf g = record { common = g .common; label = labelRecalled (g .label); meter = restartedOf (g .meter) }
-
--- ---- 69h: the byte that a read of the address a gives
-
-unfoldable pub byteOf : Gauge → ℕ → ℕ
-byteOf g a = pick (inLabel a) (labelByte (g .label) a) (meterByte (g .common) (g .meter) a)
 
 -- ---- 6Ch: bytes written from the address a upward, one by one
 

@@ -1,6 +1,3 @@
 pub mod Gauge
-pub mod Writes
 pub mod Act
-pub mod Image
-pub mod View
-pub mod Reach
+pub mod Kept

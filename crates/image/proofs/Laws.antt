@@ -6,8 +6,7 @@ use lib.ListN.{length}
 use Rattle.records.specs.declared.Outcome.{Outcome}
 use Rattle.records.specs.declared.Outcome.the-variants.{Done, Over, Short}
 use Rattle.records.specs.declared.Ran.{Ran}
-use Rattle.records.specs.Record.{recsOf}
-use Rattle.records.specs.Run.{emptyOf, endOf, outcomeOf, Runs, TakenOut}
+use Rattle.records.specs.Run.{recsOf, emptyOf, endOf, outcomeOf, Runs, TakenOut}
 use Rattle.image.specs.Image.{lastOf, imageNumber, imageRoom, ImageTaken}
 
 -- the outcome of a session, and its end where it was run

@@ -4,9 +4,8 @@ use mathlib.Core.List.{List}
 use Prim.Native.Nat.{ℕ}
 use Rattle.records.specs.declared.Outcome.{Outcome}
 use Rattle.records.specs.declared.Outcome.the-variants.{Done, Over, Short}
-use Rattle.records.specs.declared.Session.{Session}
-use Rattle.records.specs.Record.{recsOf}
-use Rattle.records.specs.Run.{emptyOf, endOf, outcomeOf, outcomeNumber, takeOutNumber, takeOutRoom}
+use Rattle.steps.specs.declared.Session.{Session}
+use Rattle.records.specs.Run.{recsOf, emptyOf, endOf, outcomeOf, outcomeNumber, takeOutNumber, takeOutRoom}
 
 -- the state at the end of a session, with 65,536 bytes of reply room
 unfoldable pub lastOf : List ℕ → Session

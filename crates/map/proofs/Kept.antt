@@ -5,7 +5,7 @@ use Prim.Native.Nat.{ℕ, _-_}
 use lib.ListN.{set, length-set}
 use Rattle.numbers.proofs.Bounds.{picked}
 use Rattle.meter.specs.declared.Block.{Block}
-use Rattle.meter.specs.declared.Saved.{Saved}
+use Rattle.reading.specs.declared.Saved.{Saved}
 use Rattle.meter.specs.declared.Meter.{Meter}
 use Rattle.map.specs.declared.Common.{Common}
 use Rattle.map.specs.declared.Label.{Label}

@@ -5,10 +5,11 @@ use lib.Dec.{eqb}
 use Rattle.numbers.proofs.Bounds.{picked}
 use Rattle.meter.specs.declared.Block.{Block}
 use Rattle.meter.specs.declared.Locks.{Locks}
-use Rattle.meter.specs.declared.Charge.{Charge}
-use Rattle.meter.specs.declared.Flags.{Flags}
+use Rattle.charge.specs.declared.Charge.{Charge}
+use Rattle.reading.specs.declared.Flags.{Flags}
 use Rattle.meter.specs.declared.Meter.{Meter}
-use Rattle.meter.specs.State.{ChargeWF, MeterWF}
+use Rattle.charge.specs.Charge.{ChargeWF}
+use Rattle.meter.specs.State.{MeterWF}
 use Rattle.map.specs.declared.Held.{Held}
 use Rattle.map.specs.Registers.{inBlock}
 use Rattle.map.specs.Writes.{withBlock, withLocks, withCharge, withFlags, statusWritten, acrWritten, asWritten, lockWritten, blockWritten, meterWritten, meterCopied, meterRecalled, blockLocked, lockUsed}
@@ -30,16 +31,16 @@ module _ (m : Meter) (w : MeterWF m) where
   -- ---- a meter with one of its parts replaced
 
   block-wf : (block : Block) → MeterWF (withBlock m block)
-  block-wf block = record { charge = w .charge; average = w .average; full = w .full; volt = w .volt }
+  block-wf block = record { charge = w .charge; average = w .average; full = w .full; volt = w .volt; temp = w .temp }
 
   locks-wf : (locks : Locks) → MeterWF (withLocks m locks)
-  locks-wf locks = record { charge = w .charge; average = w .average; full = w .full; volt = w .volt }
+  locks-wf locks = record { charge = w .charge; average = w .average; full = w .full; volt = w .volt; temp = w .temp }
 
   flags-wf : (flags : Flags) → MeterWF (withFlags m flags)
-  flags-wf flags = record { charge = w .charge; average = w .average; full = w .full; volt = w .volt }
+  flags-wf flags = record { charge = w .charge; average = w .average; full = w .full; volt = w .volt; temp = w .temp }
 
   charge-wf : (charge : Charge) → ChargeWF charge → MeterWF (withCharge m charge)
-  charge-wf charge g = record { charge = g; average = w .average; full = w .full; volt = w .volt }
+  charge-wf charge g = record { charge = g; average = w .average; full = w .full; volt = w .volt; temp = w .temp }
 
   -- ---- writes: ACR is of two bytes, AS is moved into 63..128
 

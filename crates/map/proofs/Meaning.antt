@@ -8,6 +8,7 @@ use lib.ListN.{length, getD}
 use Rattle.numbers.specs.Offset.{value, signed, joinedOf}
 use Rattle.numbers.proofs.Offset.{order, sub-eq, sub-pos, sub-neg, neg-sub, word, word-fits}
 use Rattle.meter.specs.declared.Meter.{Meter}
+use Rattle.meter.specs.State.{MeterWF}
 use Rattle.map.specs.declared.Common.{Common}
 use Rattle.map.specs.Registers.{highOf, lowOf, wordOf, tempRegister, registersOf}
 
@@ -56,9 +57,9 @@ module _ (k : Common) (m : Meter) where
   unfolding registersOf
   average-shown h = ap (signed 15) (joined-back (wordOf (m .average .iavg))) ∙ signed-word (m .average .iavg) h
 
-  pub temp-shown : m .reading .temp < 2 ^ 11 → signed 15 (registerAt k m 0x0a) ≡ pos 32 *ℤ value 10 (m .reading .temp)
+  pub temp-shown : MeterWF m → signed 15 (registerAt k m 0x0a) ≡ pos 32 *ℤ value 10 (m .reading .temp)
   unfolding registersOf
-  temp-shown h = ap (signed 15) (joined-back (tempRegister m)) ∙ signed-temp m h
+  temp-shown w = ap (signed 15) (joined-back (tempRegister m)) ∙ signed-temp m (w .temp)
 
   pub current-shown : m .trace .last < 2 ^ 16 → signed 15 (registerAt k m 0x0e) ≡ value 15 (m .trace .last)
   unfolding registersOf

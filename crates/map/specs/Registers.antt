@@ -6,10 +6,10 @@ use lib.Dec.{ltb, leb}
 use lib.ListN.{getD, set}
 use Rattle.numbers.specs.Choice.{pick, both}
 use Rattle.numbers.specs.Offset.{zeroAt}
-use Rattle.meter.specs.declared.Flags.{Flags}
+use Rattle.reading.specs.declared.Flags.{Flags}
 use Rattle.meter.specs.declared.Locks.{Locks}
 use Rattle.meter.specs.declared.Meter.{Meter}
-use Rattle.meter.specs.State.{acrOf, fractionOf}
+use Rattle.charge.specs.Charge.{acrOf, fractionOf}
 use Rattle.map.specs.declared.Common.{Common}
 use Rattle.map.specs.declared.Label.{Label}
 

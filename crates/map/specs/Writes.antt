@@ -8,8 +8,8 @@ use Rattle.numbers.specs.Choice.{pick, both}
 use Rattle.numbers.specs.Offset.{joinedOf}
 use Rattle.meter.specs.declared.Block.{Block}
 use Rattle.meter.specs.declared.Locks.{Locks}
-use Rattle.meter.specs.declared.Charge.{Charge}
-use Rattle.meter.specs.declared.Flags.{Flags}
+use Rattle.charge.specs.declared.Charge.{Charge}
+use Rattle.reading.specs.declared.Flags.{Flags}
 use Rattle.meter.specs.declared.Meter.{Meter}
 use Rattle.meter.specs.State.{asIn}
 use Rattle.map.specs.declared.Common.{Common}

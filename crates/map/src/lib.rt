@@ -1,8 +1,8 @@
 // The memory map: what a read finds and what a written byte does, copy, recall and lock, each on its own part of the gauge.
 use meter::Block;
-use meter::Flags;
 use meter::Locks;
 use meter::Meter;
+use reading::Flags;
 ghost use mathlib.Core.Path.{_≡_};
 ghost use mathlib.Core.Bool.{true};
 ghost use Prim.Native.Nat.{_*_, _≤_, _<_};

@@ -6,12 +6,16 @@ use mathlib.Core.List.{List, [], _∷_, map}
 use Prim.Native.Nat.{ℕ, _+_, _-_, _*_}
 use lib.ListN.{set}
 use Rattle.numbers.specs.Offset.{zeroAt}
-use Rattle.meter.specs.declared.Charge.{Charge}
+use Rattle.params.specs.Params.{countingOf, limitsOf, capacityOf, curvesOf}
+use Rattle.charge.specs.declared.Charge.{Charge}
+use Rattle.charge.specs.Charge.{acrOf, fractionOf, tracedOf, countedOf}
+use Rattle.full.specs.Full.{averagedOf, renewedOf, foundOf, learntOf, agedFullOf, shareOf, filledOf, settledOf, loweredOf}
+use Rattle.model.specs.Model.{slopeOf, slopesOver, linesOf}
+use Rattle.reading.specs.Reading.{degreesOf, drainingOf, pointOf, emptiedOf, leftOf, spanOf, percentOf, amountOf, resultsOf, ratedOf, flagsOf, keptOf, seenOf}
 use Rattle.meter.specs.declared.Meter.{Meter}
-use Rattle.meter.specs.Params.{countingOf, limitsOf, capacityOf, curvesOf}
-use Rattle.meter.specs.State.{acrOf, fractionOf, poweredOf}
-use Rattle.meter.specs.Convert.{tracedOf, countedOf, averagedOf, renewedOf, foundOf, learntOf, agedFullOf, shareOf, filledOf, settledOf, convertOf}
-use Rattle.meter.specs.Read.{degreesOf, slopeOf, slopesOver, linesOf, drainingOf, pointOf, emptiedOf, leftOf, spanOf, percentOf, amountOf, resultsOf, ratedOf, flagsOf, keptOf, loweredOf, seenOf, drainedOf, shownOf, readOf}
+use Rattle.meter.specs.State.{poweredOf}
+use Rattle.meter.specs.Convert.{convertOf}
+use Rattle.meter.specs.Read.{drainedOf, shownOf, readOf}
 
 -- ---- model M
 

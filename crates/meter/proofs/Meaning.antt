@@ -1,4 +1,4 @@
--- What the definitions of Convert and Read mean in signed numbers: each is the definition of Signed, which says it as document 01 does.
+-- What the definitions of the steps mean in signed numbers: each is the definition of Signed, which says it as document 01 does.
 -- Assumes nothing.
 use mathlib.Core.Path.{_≡_, refl, sym, ap, _∙_}
 use mathlib.Core.Bool.{Bool, not}
@@ -16,15 +16,16 @@ use Rattle.numbers.specs.Offset.{zeroAt, value, signed, clampZ, divZ}
 use Rattle.numbers.proofs.Bounds.{through}
 use Rattle.numbers.proofs.Offset as offset
 use Rattle.numbers.proofs.Offset.{order, sub-pos, sub-neg, sub-eq, sub-add, sub-none, neg-sub, compared, at-most}
-use Rattle.meter.specs.declared.Counting.{Counting}
-use Rattle.meter.specs.declared.Charge.{Charge}
-use Rattle.meter.specs.declared.Breaks.{Breaks}
-use Rattle.meter.specs.declared.Slopes.{Slopes}
-use Rattle.meter.specs.declared.Average.{Average}
-use Rattle.meter.specs.Params.{byteAt, signedAt}
-use Rattle.meter.specs.State.{acrOf}
-use Rattle.meter.specs.Convert.{currentOf, negative, turnedOf, blankedOf, grownOf, newCount, fallOf, averagedOf, taperOf}
-use Rattle.meter.specs.Read.{voltOf, tempOf, degreesOf, slopeOf, forty, slopesOver, slopesTo, fullLineOf, drainsOf, leftOf, spanOf, percentOf, amountOf}
+use Rattle.params.specs.declared.Counting.{Counting}
+use Rattle.params.specs.declared.Breaks.{Breaks}
+use Rattle.params.specs.declared.Slopes.{Slopes}
+use Rattle.params.specs.Params.{byteAt, signedAt}
+use Rattle.charge.specs.declared.Charge.{Charge}
+use Rattle.charge.specs.Charge.{acrOf, currentOf, negative, turnedOf, blankedOf, grownOf, newCount, fallOf}
+use Rattle.full.specs.declared.Average.{Average}
+use Rattle.full.specs.Full.{averagedOf, taperOf}
+use Rattle.model.specs.Model.{slopeOf, forty, slopesOver, slopesTo, fullLineOf}
+use Rattle.reading.specs.Reading.{voltOf, tempOf, degreesOf, drainsOf, leftOf, spanOf, percentOf, amountOf}
 use Rattle.meter.specs.Signed.{minus, orZero, atMostZ, atLeastZ, currentZ, negativeZ, turnedZ, blankedZ, grownZ, fallZ, sumZ, meanZ, taperZ, voltZ, tempZ, degreesZ, slopeZ, slopesOverZ, slopesZ, fullLineZ, averagedOver, drainsZ, leftZ, spanZ, percentZ, amountZ}
 
 -- ---- differences

@@ -1,14 +1,10 @@
 -- The contracts of this crate's public functions leave no choice. Assumes nothing.
 use mathlib.Core.Path.{refl, sym, _∙_}
 use Rattle.once.specs.Once.{Once}
-use Rattle.meter.proofs.rnaop
 use Rattle.meter.proofs.Meter.convert
 use Rattle.meter.proofs.Meter.read
 use Rattle.meter.proofs.Meter.powered
 use Rattle.meter.proofs.Meter.restarted
-
-pub rnaop-once : Once rnaop.ended rnaop.Reads.Pre rnaop.Reads.Learnt
-rnaop-once κs a r r′ w w′ p h h′ = (h ∙ sym h′, refl)
 
 pub convert-once : Once convert.ended convert.Reads.Pre convert.Reads.Learnt
 convert-once κs a r r′ w w′ p h h′ = (h .0 ∙ sym (h′ .0), refl)

@@ -1,4 +1,3 @@
-pub mod Params
 pub mod State
 pub mod Convert
 pub mod Read

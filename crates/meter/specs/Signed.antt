@@ -1,4 +1,4 @@
--- The steps of document 01 that work on signed numbers, over the integers and in its words. The definitions of Convert and Read keep these
+-- The steps of document 01 that work on signed numbers, over the integers and in its words. The definitions of the crates below keep these
 -- numbers in offset form, or take a difference that stops at 0; proofs/Meaning.antt has a law for each: it says the same as here.
 use Prim.Native.Nat.{ℕ, zero, suc, _+_, _-_, _*_, _^_}
 use mathlib.Core.Bool.{Bool, not}
@@ -7,10 +7,10 @@ use lib.IntN.{ℤ, pos, negsuc, negℤ, _+ℤ_, _-ℤ_, _*ℤ_}
 use lib.Signed.{ltZ, leZ}
 use Rattle.numbers.specs.Choice.{pick, both, either}
 use Rattle.numbers.specs.Offset.{value, clampZ, divZ}
-use Rattle.meter.specs.declared.Breaks.{Breaks}
-use Rattle.meter.specs.declared.Slopes.{Slopes}
-use Rattle.meter.specs.declared.Average.{Average}
-use Rattle.meter.specs.Convert.{averagedOf}
+use Rattle.params.specs.declared.Breaks.{Breaks}
+use Rattle.params.specs.declared.Slopes.{Slopes}
+use Rattle.full.specs.declared.Average.{Average}
+use Rattle.full.specs.Full.{averagedOf}
 
 -- ---- integers
 

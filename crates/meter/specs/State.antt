@@ -1,38 +1,21 @@
 -- What the meter remembers: what holds of it always, and what a power-on leaves.
 use mathlib.Core.Bool.{true, false}
-use Prim.Native.Nat.{ℕ, _*_, _/_, _%_, _^_, _≤_, _<_}
+use Prim.Native.Nat.{ℕ, _*_, _^_, _≤_, _<_}
 use Rattle.numbers.specs.Offset.{zeroAt, movedInto}
-use Rattle.meter.specs.declared.Charge.{Charge}
-use Rattle.meter.specs.declared.Average.{Average}
+use Rattle.charge.specs.Charge.{ChargeWF}
+use Rattle.full.specs.Full.{AverageWF}
+use Rattle.reading.specs.declared.Saved.{Saved}
 use Rattle.meter.specs.declared.Block.{Block}
 use Rattle.meter.specs.declared.Locks.{Locks}
-use Rattle.meter.specs.declared.Saved.{Saved}
 use Rattle.meter.specs.declared.Meter.{Meter}
 
--- ACR and its fraction, of the count ACR × 4,096 + fraction
-abbrev pub acrOf : ℕ → ℕ
-acrOf count = count / 4096
-
-abbrev pub fractionOf : ℕ → ℕ
-fractionOf count = count % 4096
-
--- ---- what holds of every meter: a power-on establishes it and every event keeps it
-
-pub record ChargeWF (g : Charge) : Type 0 where
-  pub count : g .count < 2 ^ 28
-  pub age : g .age < 32 * 65535
-  pub low : 63 ≤ g .aging
-  pub high : g .aging ≤ 128
-
-pub record AverageWF (a : Average) : Type 0 where
-  pub run : a .run < 8
-  pub sum : a .sum ≤ 65535 * a .run
-
+-- what holds of every meter: a power-on establishes it and every event keeps it
 pub record MeterWF (m : Meter) : Type 0 where
   pub charge : ChargeWF (m .charge)
   pub average : AverageWF (m .average)
   pub full : m .model .full ≤ 16384
   pub volt : m .reading .volt ≤ 1023
+  pub temp : m .reading .temp < 2 ^ 11
 
 -- ---- power-on: EEPROM bytes to the shadow; ACR and AS from the saved cells, AS moved into 63..128; PORF = 1; all else 0, and no
 -- previous reading, conversion or average. BL1 stays.

@@ -1,78 +1,22 @@
 -- Laws of a run: what is still to come, from where the loop stands, is the whole. Assumes nothing.
 use mathlib.Core.Path.{_≡_, refl, sym, ap, _∙_}
-use mathlib.Core.Bool.{Bool, true, false}
 use mathlib.Core.List.{List, [], _∷_, _++_}
 use Prim.Native.Nat.{ℕ, zero, suc, _+_, _-_, _*_, _/_, _≤_, _<_, zero-le}
 use native.Mathlib.Nat.{not-suc-le-zero, zero-add}
 use native.Mathlib.Numerals.{add-one}
 use native.Mathlib.Omega.{arith}
-use borrow.Author.Tests.{ltb-false}
-use lib.Dec.{ltb}
 use lib.ListN.{length, take, drop, set, length-drop, length-append, length-set, drop-of-length-le}
 use lib.Seq.{drop-drop}
-use Rattle.parts.specs.Parts.{pairAt, put}
+use Rattle.parts.specs.Parts.{put}
 use Rattle.parts.proofs.Laws.{put-next, put-length, put-part}
-use Rattle.bus.specs.declared.Transaction.{Transaction}
-use Rattle.gauge.specs.Act.{replyOf, sourceOf, sourceByte}
-use Rattle.gauge.proofs.Listed.{listed-length}
-use Rattle.records.specs.declared.Event.{Event}
-use Rattle.records.specs.declared.Event.the-variants.{Image, Reading, Conversion, Transact, PowerOn}
+use Rattle.steps.proofs.Bounds.{reply-fits, sizes}
 use Rattle.records.specs.declared.Outcome.the-variants.{Done}
-use Rattle.records.specs.declared.Session.{Session}
-use Rattle.records.specs.declared.Stepped.{Stepped}
-use Rattle.records.specs.declared.Taken.{Taken}
-use Rattle.records.specs.declared.Taken.the-variants as taken
-use Rattle.records.specs.Record.{Rec, whole, cut, masterOf, takenOf, wholeOf, recOf, sizeOf, recsFrom, recsOf}
-use Rattle.records.specs.Run.{SessionWF, Did, Line, eventDid, takenDid, recDid, didOf, kindOf, lineOf, linesOf, endOf, repliesOf, codeOf, codesOf, emptyOf, Stepping, Running, sessionOf}
-use Rattle.records.proofs.Steps.{whole-end}
+use Rattle.steps.specs.declared.Session.{Session}
+use Rattle.steps.specs.declared.Stepped.{Stepped}
+use Rattle.steps.specs.Step.{Rec, recOf, sizeOf, SessionWF, Did, didOf, kindOf, Stepping}
+use Rattle.records.specs.Run.{recsFrom, recsOf, Line, lineOf, linesOf, endOf, repliesOf, codeOf, codesOf, emptyOf, Running, sessionOf}
 
--- ---- a reply fits the room that is left
-
-pub reply-length : (σ : Session) (t : Transaction) (p : List ℕ) → length (replyOf (σ .gauge) t (masterOf p)) ≡ t .count
-unfolding replyOf
-reply-length σ t p = listed-length (sourceByte (σ .gauge) (sourceOf (σ .gauge) t (masterOf p))) 0 (t .count)
-
-fit-pick : (σ : Session) (n : ℕ) (p : List ℕ) (t : Transaction) (b : Bool) → ltb n (t .count) ≡ b → length (eventDid σ n p (Transact t) .reply) ≤ n
-fit-pick σ n p t true e = rw e zero-le
-fit-pick σ n p t false e = rw e (omega (arith, reply-length σ t p, ltb-false n (t .count) e))
-
-fit-event : (σ : Session) (n : ℕ) (p : List ℕ) (e : Event) → length (eventDid σ n p e .reply) ≤ n
-fit-event σ n p Image = zero-le
-fit-event σ n p (Reading volt temp) = zero-le
-fit-event σ n p (Conversion raw) = zero-le
-fit-event σ n p (Transact t) = fit-pick σ n p t (ltb n (t .count)) refl
-fit-event σ n p PowerOn = zero-le
-
-fit-taken : (σ : Session) (n : ℕ) (p : List ℕ) (t : Taken) → length (takenDid σ n p t .reply) ≤ n
-fit-taken σ n p (taken.Run e) = fit-event σ n p e
-fit-taken σ n p (taken.Refused r) = zero-le
-
-fit-rec : (σ : Session) (n : ℕ) (r : Rec) → length (recDid σ n r .reply) ≤ n
-fit-rec σ n (whole kind p) = fit-taken σ n p (takenOf kind (σ .loaded) p)
-fit-rec σ n cut = zero-le
-
-pub reply-fits : (σ : Session) (n : ℕ) (r : Rec) → length (didOf σ n r .reply) ≤ n
-unfolding didOf
-reply-fits σ n r = fit-rec σ n r
-
--- ---- a record takes some bytes, no more than there are, and four or all
-
-record Sizes (l : List ℕ) : Type 0 where
-  some : 0 < sizeOf l
-  fits : sizeOf l ≤ length l
-  four : sizeOf l < length l → 4 ≤ sizeOf l
-
-sizes-cases : (l : List ℕ) → 0 < length l → (b : Bool) → wholeOf l ≡ b → Sizes l
-unfolding sizeOf
-sizes-cases l h true w =
-    let e : sizeOf l ≡ 4 + pairAt l 0 = rw w refl in
-    record { some = omega arith; fits = omega (arith, whole-end l w); four = λ k. omega arith }
-sizes-cases l h false w =
-    let e : sizeOf l ≡ length l = rw w refl in
-    record { some = omega arith; fits = omega arith; four = λ k. omega arith }
-
-sizes : (l : List ℕ) → 0 < length l → Sizes l
-sizes l h = sizes-cases l h (wholeOf l) refl
+-- ---- the records, one after the other
 
 recs-skip : (k : ℕ) (l : List ℕ) → recsFrom k l ≡ recsFrom 0 (drop k l)
 recs-skip zero [] = refl
@@ -160,7 +104,7 @@ module _ {s room₀ answers₀ : List ℕ} {σ : Session} {at used lines : ℕ} 
         used-fits = omega (arith, reply-fits σ (length room₀ - used) (recOf left), g .used-fits);
         same-room = put-length room used (did .reply) ∙ g .same-room;
         same-answers = length-set answers lines code ∙ g .same-answers;
-        slots = λ h. omega (arith, g .slots more, sizes left left-some .four (omega (arith, length-drop at s)));
+        slots = λ h. omega (arith, g .slots more, sizes left left-some .four, length-drop at s);
         ends = sym (ap (endOf σ (length room₀ - used)) unroll ∙ ap (λ (m : ℕ). endOf (did .session) m (recsOf (drop (at + sizeOf left) s))) less) ∙ g .ends;
         counts = omega (arith, g .counts, ap length lines-more);
         sums = omega (arith, g .sums, ap (λ (ls : List Line). length (repliesOf ls)) lines-more, length-append (did .reply) (repliesOf rest));

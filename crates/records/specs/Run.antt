@@ -1,90 +1,37 @@
--- What a record does, and what a session does.
+-- What a session does: its records in order, a line for each, and the state at its end.
 use mathlib.Core.Path.{_≡_}
-use mathlib.Core.Bool.{true, false}
+use mathlib.Core.Bool.{false}
 use mathlib.Core.List.{List, [], _∷_, _++_}
-use Prim.Native.Nat.{ℕ, _+_, _-_, _*_, _/_, _≤_}
+use Prim.Native.Nat.{ℕ, zero, suc, _+_, _-_, _*_, _/_}
 use lib.Dec.{ltb, leb}
-use lib.ListN.{length, drop, replicate}
+use lib.ListN.{length, replicate}
 use Rattle.numbers.specs.Choice.{pick}
 use Rattle.parts.specs.Parts.{put}
-use Rattle.gauge.specs.declared.Gauge.{Gauge}
-use Rattle.gauge.specs.Gauge.{GaugeWF, conversionOf, readingOf, powerOnOf}
-use Rattle.gauge.specs.Act.{actOf, replyOf}
-use Rattle.gauge.specs.Image.{imageOf, roomAfter}
-use Rattle.records.specs.declared.Refusal.the-variants.{Order, Room}
-use Rattle.records.specs.declared.Event.{Event}
-use Rattle.records.specs.declared.Event.the-variants.{Image, Reading, Conversion, Transact, PowerOn}
-use Rattle.records.specs.declared.Taken.{Taken}
-use Rattle.records.specs.declared.Taken.the-variants as taken
-use Rattle.records.specs.declared.Session.{Session}
-use Rattle.records.specs.declared.Applied.{Applied}
-use Rattle.records.specs.declared.Stepped.{Stepped}
+use Rattle.pack.specs.Image.{imageOf, roomAfter}
+use Rattle.events.specs.declared.Refusal.the-variants.{Order, Room}
+use Rattle.events.specs.Record.{refusalNumber}
+use Rattle.steps.specs.declared.Session.{Session}
+use Rattle.steps.specs.Step.{Rec, recOf, sizeOf, Did, didOf, kindOf}
 use Rattle.records.specs.declared.Outcome.{Outcome}
 use Rattle.records.specs.declared.Outcome.the-variants.{Done, Over, Short}
 use Rattle.records.specs.declared.Ran.{Ran}
-use Rattle.records.specs.Record.{Rec, whole, cut, refusalNumber, takenOf, masterOf, recOf, sizeOf, recsOf}
 
--- ---- the state
+-- ---- the records
+
+-- the records of a list of bytes of which the first k belong to a record that was taken
+abbrev pub recsFrom : ℕ → List ℕ → List Rec
+recsFrom k [] = []
+recsFrom zero (x ∷ xs) = recOf (x ∷ xs) ∷ recsFrom (sizeOf (x ∷ xs) - 1) xs
+recsFrom (suc k) (x ∷ xs) = recsFrom k xs
+
+abbrev pub recsOf : List ℕ → List Rec
+recsOf s = recsFrom 0 s
+
+-- ---- what they do
 
 -- before the first record: no image was accepted, and the gauge is what all-zero cells power on to
 abbrev pub emptyOf : Session
 emptyOf = record { loaded = false; gauge = imageOf (replicate 60 0) }
-
-abbrev pub loadedWith : Gauge → Session
-loadedWith g = record { loaded = true; gauge = g }
-
-pub record SessionWF (σ : Session) : Type 0 where
-  pub gauge : GaugeWF (σ .gauge)
-
--- ---- one record
-
--- what a record did: the state after it, the answer, and the reply
-pub record Did : Type 0 where
-  pub session : Session
-  pub answer : ℕ
-  pub reply : List ℕ
-
--- an answer with no reply
-abbrev pub quiet : Session → ℕ → Did
-quiet σ answer = record { session = σ; answer = answer; reply = [] }
-
--- what the payload of an event has: an image its 60 bytes, a transaction its read count
-abbrev pub Fitting : Event → ℕ → Type 0
-Fitting Image n = n ≡ 60
-Fitting (Reading volt temp) n = n ≡ n
-Fitting (Conversion raw) n = n ≡ n
-Fitting (Transact t) n = 1 ≤ n
-Fitting PowerOn n = n ≡ n
-
--- an event, with so many bytes of reply room left. 9: reply room left is less than the read count
-abbrev pub eventDid : Session → ℕ → List ℕ → Event → Did
-eventDid σ room p Image = quiet (loadedWith (imageOf p)) 0
-eventDid σ room p (Reading volt temp) = quiet (loadedWith (readingOf (σ .gauge) volt temp)) 0
-eventDid σ room p (Conversion raw) = quiet (loadedWith (conversionOf (σ .gauge) raw)) 0
-eventDid σ room p (Transact t) =
-    pick (ltb room (t .count)) (quiet σ (refusalNumber Room))
-    (record { session = loadedWith (actOf (σ .gauge) t (masterOf p)); answer = 0; reply = replyOf (σ .gauge) t (masterOf p) })
-eventDid σ room p PowerOn = quiet (loadedWith (powerOnOf (σ .gauge))) 0
-
--- a refusal leaves gauge and room unchanged
-abbrev pub takenDid : Session → ℕ → List ℕ → Taken → Did
-takenDid σ room p (taken.Run e) = eventDid σ room p e
-takenDid σ room p (taken.Refused r) = quiet σ (refusalNumber r)
-
--- 2: a record that is cut
-abbrev pub recDid : Session → ℕ → Rec → Did
-recDid σ room (whole kind p) = takenDid σ room p (takenOf kind (σ .loaded) p)
-recDid σ room cut = quiet σ 2
-
-unfoldable pub didOf : Session → ℕ → Rec → Did
-didOf σ room r = recDid σ room r
-
--- ---- a session
-
--- the kind that a record's line shows; a cut one shows none
-abbrev pub kindOf : Rec → ℕ
-kindOf (whole kind p) = kind
-kindOf cut = 0
 
 pub record Line : Type 0 where
   pub kind : ℕ
@@ -116,28 +63,6 @@ sessionOf s room = linesOf emptyOf room (recsOf s)
 
 -- ---- what the code gives back
 
--- an answer with no reply, as the code hands it back
-abbrev pub appliedOf : Session → ℕ → Applied
-appliedOf σ answer = record { session = σ; answer = answer; replied = 0 }
-
--- of an event
-pub record Doing (d : Did) (room : List ℕ) (r : Applied) (after : List ℕ) : Type 0 where
-  pub session : r .session ≡ d .session
-  pub answer : r .answer ≡ d .answer
-  pub replied : r .replied ≡ length (d .reply)
-  pub rest : after ≡ d .reply ++ drop (length (d .reply)) room
-  pub kept : SessionWF (r .session)
-
--- of a step, with the bytes that are left and the room that is left
-pub record Stepping (σ : Session) (l room : List ℕ) (r : Stepped) (after : List ℕ) : Type 0 where
-  pub session : r .session ≡ didOf σ (length room) (recOf l) .session
-  pub kind : r .kind ≡ kindOf (recOf l)
-  pub answer : r .answer ≡ didOf σ (length room) (recOf l) .answer
-  pub used : r .used ≡ sizeOf l
-  pub replied : r .replied ≡ length (didOf σ (length room) (recOf l) .reply)
-  pub rest : after ≡ didOf σ (length room) (recOf l) .reply ++ drop (length (didOf σ (length room) (recOf l) .reply)) room
-  pub kept : SessionWF (r .session)
-
 -- a line as one number: kind, answer and the reply's length
 abbrev pub codeOf : ℕ → ℕ → ℕ → ℕ
 codeOf kind answer replied = kind + 65536 * answer + 16777216 * replied
@@ -165,8 +90,12 @@ pub record Running (s room answers : List ℕ) (r : Ran) (after told : List ℕ)
   pub replies : after ≡ put room 0 (repliesOf (sessionOf s (length room)))
   pub answered : told ≡ put answers 0 (codesOf (sessionOf s (length room)))
 
+-- a session that is not run, as the code hands it back
+abbrev pub idleOf : Outcome → Ran
+idleOf o = record { outcome = o; session = emptyOf; lines = 0; replied = 0 }
+
 pub record Idle (o : Outcome) (room answers : List ℕ) (r : Ran) (after told : List ℕ) : Type 0 where
-  pub ran : r ≡ record { outcome = o; session = emptyOf; lines = 0; replied = 0 }
+  pub ran : r ≡ idleOf o
   pub replies : after ≡ room
   pub answered : told ≡ answers
 

@@ -2,9 +2,11 @@
 use mathlib.Core.Path.{_≡_, refl}
 use mathlib.Core.List.{List, [], _∷_, _++_}
 use Prim.Native.Nat.{ℕ}
-use Rattle.records.specs.Record.{knownOf, sizedOf, dueOf, eventOf, takenOf, wholeOf, recOf, sizeOf}
-use Rattle.records.specs.Run.{didOf, sessionOf, outcomeOf}
-use Rattle.text.specs.Text.{shownOf, decimalOf, hexOf, kindText, replyText, answerText, lineText, headerText, textOf}
+use Rattle.events.specs.Record.{knownOf, sizedOf, dueOf, eventOf, takenOf}
+use Rattle.steps.specs.Step.{wholeOf, recOf, sizeOf, didOf}
+use Rattle.records.specs.Run.{sessionOf, outcomeOf}
+use Rattle.line.specs.Line.{shownOf, decimalOf, hexOf, kindText, replyText, answerText, lineText}
+use Rattle.text.specs.Text.{headerText, textOf}
 
 abbrev pub input : List ℕ
 input = 0 ∷ 0 ∷ 5 ∷ 0 ∷ 0 ∷ 0 ∷ 0x63 ∷ 0 ∷ 1 ∷ []

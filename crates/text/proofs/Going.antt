@@ -11,8 +11,9 @@ use lib.ListN.{length, getD, take, drop, length-drop, drop-of-length-le}
 use lib.Seq.{drop-cons, drop-drop, take-all}
 use Rattle.parts.specs.Parts.{part}
 use Rattle.parts.proofs.Laws.{part-length}
-use Rattle.text.specs.Text.{codeKind, codeAnswer, codeReplied, lineText, codesText, Writing}
-use Rattle.text.proofs.Laws.{kept, none, then, wider}
+use Rattle.text.specs.Text.{codeKind, codeAnswer, codeReplied, codesText}
+use Rattle.line.specs.Line.{lineText, Writing}
+use Rattle.line.proofs.Laws.{kept, none, then, wider}
 
 -- i lines are written, with so much of the replies: whatever is written behind them as the rest makes the whole
 pub record Going (codes replies before : List ℕ) (at : ℕ) (room : List ℕ) (next used i : ℕ) : Type 0 where

@@ -1,57 +1,18 @@
--- What follows of the text's definitions, and how pieces of text are joined. Assumes nothing.
-use mathlib.Core.Path.{_≡_, refl, sym, ap, _∙_}
+-- When a text fits the room, and what is said of it then. Assumes nothing.
+use mathlib.Core.Path.{_≡_, refl, sym, _∙_}
 use mathlib.Core.Bool.{Bool, true, false}
-use mathlib.Core.List.{List, [], _∷_, _++_}
-use Prim.Native.Nat.{ℕ, _+_, _*_, _-_, _/_, _≤_, _<_}
-use native.Mathlib.Nat.{add-zero, zero-add}
-use native.Mathlib.Numerals.{add-one}
+use mathlib.Core.List.{List}
+use Prim.Native.Nat.{ℕ, _+_, _*_, _-_, _/_, _≤_}
+use native.Mathlib.Nat.{zero-add}
 use native.Mathlib.Omega.{arith}
 use borrow.Author.Tests.{le-leb, lt-leb, leb-true, leb-false}
 use lib.Dec.{leb}
-use lib.ListN.{length, getD, take, length-append}
-use lib.Seq.{take-suc, length-take-le}
-use Rattle.parts.specs.Parts.{put}
-use Rattle.parts.proofs.Laws.{put-length, put-next}
+use lib.ListN.{length}
+use lib.Seq.{length-take-le}
 use Rattle.numbers.specs.Choice.{both}
-use Rattle.text.specs.Text.{hexOf, hexText, mostOf, Fitting, fitsOf, Writing, Reporting}
-
--- ---- writing
-
--- the buffer keeps its length
-pub kept : {m i j : ℕ} {xs l l′ : List ℕ} → Writing m xs l i j l′ → length l′ ≡ length l
-kept {m} {i} {j} {xs} {l} {l′} w = ap length (w .written) ∙ put-length l i xs
-
--- nothing
-pub none : (l : List ℕ) (i : ℕ) → Writing 0 [] l i i l
-none l i = record { onward = sym (add-zero i); written = refl; within = omega arith }
-
--- a piece of a known length
-pub piece : (n : ℕ) (xs l : List ℕ) (i : ℕ) (l′ : List ℕ) → length xs ≡ n → l′ ≡ put l i xs → Writing n xs l i (i + n) l′
-piece n xs l i l′ e w = record { onward = ap (λ (k : ℕ). i + k) (sym e); written = w; within = omega arith }
-
--- a piece, and one behind it
-pub then : {m n i j k : ℕ} {xs ys l l′ l″ : List ℕ} → Writing m xs l i j l′ → Writing n ys l′ j k l″ → Writing (m + n) (xs ++ ys) l i k l″
-then {m} {n} {i} {j} {k} {xs} {ys} {l} {l′} {l″} w v = record {
-  onward = omega (arith, length-append xs ys, w .onward, v .onward);
-  written = v .written ∙ ap (λ (r : List ℕ). put r j ys) (w .written) ∙ put-next l i j xs ys (w .onward);
-  within = omega (arith, w .within, v .within);
-}
-
--- a larger bound
-pub wider : {m n i j : ℕ} {xs l l′ : List ℕ} → Writing m xs l i j l′ → m ≤ n → Writing n xs l i j l′
-wider w h = record { onward = w .onward; written = w .written; within = omega (arith, w .within) }
-
--- ---- bytes in hex
-
-pub hex-append : (xs ys : List ℕ) → hexText (xs ++ ys) ≡ hexText xs ++ hexText ys
-hex-append [] ys = refl
-hex-append (x ∷ xs) ys = ap (λ (r : List ℕ). hexOf (x / 16) ∷ hexOf x ∷ r) (hex-append xs ys)
-
--- one byte more
-pub hex-more : (s : List ℕ) (i : ℕ) → i < length s → hexText (take i s) ++ hexText (getD s i 0 ∷ []) ≡ hexText (take (i + 1) s)
-hex-more s i h = sym (rw (add-one, take-suc s i 0) (hex-append (take i s) (getD s i 0 ∷ [])))
-
--- ---- the room
+use Rattle.line.specs.Line.{Writing}
+use Rattle.line.proofs.Laws.{kept}
+use Rattle.text.specs.Text.{mostOf, Fitting, fitsOf, Reporting}
 
 -- whether twice r fits behind a, tested without a product that could wrap
 pub half-test : (a r room : ℕ) → a ≤ room → leb r ((room - a) / 2) ≡ leb (a + 2 * r) room

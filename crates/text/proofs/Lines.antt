@@ -6,16 +6,8 @@ use native.Mathlib.Omega.{arith}
 use lib.ListN.{length}
 use lib.Seq.{take-at, drop-at}
 use Rattle.records.specs.Run.{Line, codeOf, codesOf, repliesOf}
+use Rattle.records.proofs.Sessions.{AllCoded}
 use Rattle.text.specs.Text.{codeKind, codeAnswer, codeReplied, linesText, codesText}
-
--- what a line's number holds whole
-pub record Coded (l : Line) : Type 0 where
-  pub narrow : l .kind < 65536
-  pub small : l .answer < 256
-
-abbrev pub AllCoded : List Line → Type 0
-AllCoded [] = Unit
-AllCoded (l ∷ ls) = Coded l × AllCoded ls
 
 code-kind : (kind answer replied : ℕ) → kind < 65536 → codeKind (codeOf kind answer replied) ≡ kind
 code-kind kind answer replied h = omega arith

@@ -16,7 +16,8 @@ use Rattle.records.specs.declared.Ran.{Ran}
 use Rattle.records.specs.Run.{Line, codesOf, repliesOf, sessionOf, outcomeOf, Running, Runs}
 use Rattle.text.specs.Text.{headerText, codedText, textOf, mostOf, fitsOf, reportOf}
 use Rattle.text.proofs.Lines.{codes-lines}
-use Rattle.text.proofs.Session.{Bytes, session-coded, session-few, session-fits}
+use Rattle.steps.proofs.Bounds.{Bytes}
+use Rattle.records.proofs.Sessions.{session-coded, session-few, session-fits}
 
 -- as many numbers as lines
 codes-length : (ls : List Line) → length (codesOf ls) ≡ length ls

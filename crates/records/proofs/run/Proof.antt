@@ -5,19 +5,22 @@ use borrow.Author.Needs.{needs}
 use Rattle.records.proofs.run.Statement.{statement}
 use Rattle.records.proofs.run.Tie as tie
 
-empty-requires : tie.Need-empty-requires
-empty-requires c κs = search needs
+idle-requires : tie.Need-idle-requires
+idle-requires c κs = search needs
 
 returns : tie.Need-returns
 unfolding outcomeOf
-returns c = rw (lt-ltb _ _ (c .if1 .taken)) (record { ran = rw (c .before .empty .ensures .0) refl; replies = refl; answered = refl })
+returns c = rw (lt-ltb _ _ (c .before .if1 .taken)) (record { ran = c .idle .ensures; replies = refl; answered = refl })
 
 add-if2 : tie.Need-add-if2
 add-if2 c = search needs
 
+idle-requires-2 : tie.Need-idle-requires-2
+idle-requires-2 c κs = search needs
+
 returns-2 : tie.Need-returns-2
 unfolding outcomeOf
-returns-2 c = rw (le-ltb _ _ (c .before .if1 .left), lt-ltb _ _ (c .if2 .taken)) (record { ran = rw (c .before .before .empty .ensures .0) refl; replies = refl; answered = refl })
+returns-2 c = rw (le-ltb _ _ (c .before .before .if1 .left), lt-ltb _ _ (c .before .if2 .taken)) (record { ran = c .idle2 .ensures; replies = refl; answered = refl })
 
 run-all-requires : tie.Need-run-all-requires
 run-all-requires c κs = search needs
@@ -36,9 +39,10 @@ pub run-spec : {M : Type 1} → statement M
 run-spec =
     tie.close
     (tie.spec
-    empty-requires
+    idle-requires
     returns
     add-if2
+    idle-requires-2
     returns-2
     run-all-requires
     same-length

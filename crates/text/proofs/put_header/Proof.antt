@@ -2,7 +2,7 @@
 use mathlib.Core.Path.{refl}
 use denote.Ref.{now}
 use Rattle.text.specs.Text.{headerText}
-use Rattle.text.proofs.Laws.{piece}
+use Rattle.line.proofs.Laws.{piece}
 use borrow.Author.Needs.{needs}
 use Rattle.text.proofs.put_header.Statement.{statement}
 use Rattle.text.proofs.put_header.Tie as tie

@@ -1,7 +1,7 @@
 -- `text::put_text` meets its contract, by joining its pieces. Assumes nothing.
 use native.Mathlib.Omega.{arith}
 use denote.Ref.{now}
-use Rattle.text.proofs.Laws.{none, then, wider}
+use Rattle.line.proofs.Laws.{none, then, wider}
 use borrow.Author.Needs.{needs}
 use Rattle.text.proofs.put_text.Statement.{statement}
 use Rattle.text.proofs.put_text.Tie as tie

@@ -4,7 +4,8 @@ use native.Mathlib.Omega.{arith}
 use lib.ListN.{length}
 use denote.Ref.{now}
 use Rattle.text.specs.Text.{Fitting, reportOf}
-use Rattle.text.proofs.Laws.{fits-room, reported, none}
+use Rattle.text.proofs.Laws.{fits-room, reported}
+use Rattle.line.proofs.Laws.{none}
 use borrow.Author.Needs.{needs}
 use Rattle.text.proofs.report.Statement.{statement}
 use Rattle.text.proofs.report.Tie as tie

@@ -7,7 +7,7 @@ use Rattle.gauge.proofs.Gauge.locked.Tie as tie
 returns : tie.Need-returns
 unfolding lockedOf
 returns c =
-    let test = c .before .before .before in (
+    let test = c .before .before in (
       simp (test .before .before .if1 .taken, sym (test .before .in-label .ensures) ∙ test .if2 .taken, c .before .locked .ensures, c .lock-used .ensures .0),
       record { meter = c .lock-used .ensures .1 },
     )
@@ -27,12 +27,12 @@ returns-3 c =
     let label = c .before .before in
     let lock = label .before .before in (
       simp (lock .if1 .taken, sym (label .before .in-label .ensures) ∙ label .if2 .left, sym (c .before .in-block .ensures) ∙ c .if3 .left),
-      lock .before .before .pre,
+      lock .before .pre,
     )
 
 returns-4 : tie.Need-returns-4
 unfolding lockedOf
-returns-4 c = (simp (c .if1 .left), c .before .before .pre)
+returns-4 c = (simp (c .if1 .left), c .before .pre)
 
 pub locked-spec : {M : Type 1} → statement M
 locked-spec =

@@ -1,10 +1,11 @@
 use Prim.Native.Nat.{_≤_}
 use native.Mathlib.Omega.{arith}
 use Rattle.numbers.proofs.Bounds.{also}
-use Rattle.meter.specs.Params.{countingOf, capacityOf}
+use Rattle.params.specs.Params.{countingOf, capacityOf}
 use Rattle.meter.specs.State.{MeterWF}
 use Rattle.meter.specs.Convert.{convertOf}
-use Rattle.meter.proofs.Laws.{counted-wf, convert-wf}
+use Rattle.charge.proofs.Laws.{counted-wf}
+use Rattle.meter.proofs.Laws.{convert-wf}
 use borrow.Author.Needs.{needs}
 use Rattle.meter.proofs.Meter.convert.Statement.{statement}
 use Rattle.meter.proofs.Meter.convert.Tie as tie

@@ -1,0 +1,15 @@
+-- The contracts of this crate's public functions leave no choice. Assumes nothing.
+use mathlib.Core.Path.{refl, sym, _∙_}
+use Rattle.once.specs.Once.{Once}
+use Rattle.charge.proofs.current
+use Rattle.charge.proofs.Trace.traced
+use Rattle.charge.proofs.Charge.counted
+
+pub current-once : Once current.ended current.Reads.Pre current.Reads.Learnt
+current-once κs a r r′ w w′ p h h′ = (h ∙ sym h′, refl)
+
+pub traced-once : Once traced.ended traced.Reads.Pre traced.Reads.Learnt
+traced-once κs a r r′ w w′ p h h′ = (h ∙ sym h′, refl)
+
+pub counted-once : Once counted.ended counted.Reads.Pre counted.Reads.Learnt
+counted-once κs a r r′ w w′ p h h′ = (h ∙ sym h′, refl)

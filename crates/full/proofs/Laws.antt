@@ -1,0 +1,47 @@
+-- What the definitions keep: bounds of what they give; charge and average are well-formed after step 6. Assumes nothing.
+use mathlib.Core.Bool.{Bool}
+use Prim.Native.Nat.{ℕ, _≤_}
+use native.Mathlib.Omega.{arith}
+use lib.Dec.{ltb}
+use borrow.Author.Tests.{eqb-false}
+use Rattle.numbers.specs.Choice.{both}
+use Rattle.numbers.proofs.Bounds.{times, picked}
+use Rattle.charge.specs.declared.Charge.{Charge}
+use Rattle.charge.specs.Charge.{ChargeWF}
+use Rattle.full.specs.declared.Average.{Average}
+use Rattle.full.specs.Full.{AverageWF, eighth, averagedOf, learntOf, taughtOf, agedFullOf, shareOf, filledOf, settledOf}
+
+pub aged-full-high : (full aging : ℕ) → full ≤ 16384 → aging ≤ 128 → agedFullOf full aging ≤ 16384
+unfolding agedFullOf
+aged-full-high full aging p q = omega (arith, times full aging 16384 128 p q)
+
+pub share-high : (x full40 : ℕ) → x ≤ 16384 → full40 ≤ 65535 → shareOf x full40 ≤ 65535
+unfolding shareOf
+share-high x full40 p q = omega (arith, times x full40 16384 65535 p q)
+
+module _ (g : Charge) (full full40 : ℕ) (w : ChargeWF g) where
+  taught-low : 63 ≤ taughtOf g full full40
+  unfolding learntOf
+  taught-low = picked (λ (x : ℕ). 63 ≤ x) (both (g .learnf) (ltb 0 full40)) _ _ (λ e. omega arith) (λ e. w .low)
+
+  taught-high : taughtOf g full full40 ≤ 128
+  unfolding learntOf
+  taught-high = picked (λ (x : ℕ). x ≤ 128) (both (g .learnf) (ltb 0 full40)) _ _ (λ e. omega arith) (λ e. w .high)
+
+  -- the charge at full is an ACR
+  pub filled-high : full ≤ 16384 → full40 ≤ 65535 → shareOf (agedFullOf full (taughtOf g full full40)) full40 ≤ 65535
+  filled-high p q = share-high _ full40 (aged-full-high full _ p taught-high) q
+
+  pub filled-wf : full ≤ 16384 → full40 ≤ 65535 → ChargeWF (filledOf g full full40)
+  unfolding filledOf
+  filled-wf p q = record { count = omega (arith, filled-high p q); age = w .age; low = taught-low; high = taught-high }
+
+  pub settled-wf : (found : Bool) → full ≤ 16384 → full40 ≤ 65535 → ChargeWF (settledOf g found full full40)
+  unfolding settledOf
+  settled-wf found p q = picked ChargeWF found _ _ (λ e. filled-wf p q) (λ e. w)
+
+pub averaged-wf : (a : Average) (c : ℕ) → c ≤ 65535 → AverageWF a → AverageWF (averagedOf a c)
+unfolding averagedOf
+averaged-wf a c h w =
+    picked AverageWF (eighth a) _ _ (λ e. record { run = omega arith; sum = omega arith })
+    (λ e. let d = eqb-false (a .run) 7 e in record { run = omega (arith, w .run); sum = omega (arith, w .sum) })

@@ -1,0 +1,31 @@
+-- The contracts of this crate's public functions leave no choice. Assumes nothing.
+use mathlib.Core.Path.{refl, sym, _∙_}
+use Rattle.once.specs.Once.{Once}
+use Rattle.full.proofs.Average.averaged
+use Rattle.full.proofs.Average.found
+use Rattle.full.proofs.Since.renewed
+use Rattle.full.proofs.Since.lowered
+use Rattle.full.proofs.aged_full
+use Rattle.full.proofs.share
+use Rattle.full.proofs.settled
+
+pub averaged-once : Once averaged.ended averaged.Reads.Pre averaged.Reads.Learnt
+averaged-once κs a r r′ w w′ p h h′ = (h ∙ sym h′, refl)
+
+pub found-once : Once found.ended found.Reads.Pre found.Reads.Learnt
+found-once κs a r r′ w w′ p h h′ = (h ∙ sym h′, refl)
+
+pub renewed-once : Once renewed.ended renewed.Reads.Pre renewed.Reads.Learnt
+renewed-once κs a r r′ w w′ p h h′ = (h ∙ sym h′, refl)
+
+pub lowered-once : Once lowered.ended lowered.Reads.Pre lowered.Reads.Learnt
+lowered-once κs a r r′ w w′ p h h′ = (h ∙ sym h′, refl)
+
+pub aged-full-once : Once aged_full.ended aged_full.Reads.Pre aged_full.Reads.Learnt
+aged-full-once κs a r r′ w w′ p h h′ = (h ∙ sym h′, refl)
+
+pub share-once : Once share.ended share.Reads.Pre share.Reads.Learnt
+share-once κs a r r′ w w′ p h h′ = (h .0 ∙ sym (h′ .0), refl)
+
+pub settled-once : Once settled.ended settled.Reads.Pre settled.Reads.Learnt
+settled-once κs a r r′ w w′ p h h′ = (h ∙ sym h′, refl)

@@ -1,0 +1,81 @@
+-- Full detection: step 6 of a conversion. Currents are kept as z + 2^15.
+use mathlib.Core.Bool.{Bool, true, false}
+use Prim.Native.Nat.{ℕ, _+_, _*_, _/_, _^_, _≤_, _<_, min}
+use lib.Dec.{ltb, eqb}
+use Rattle.numbers.specs.Offset.{zeroAt, movedInto}
+use Rattle.numbers.specs.Choice.{pick, both}
+use Rattle.params.specs.declared.Limits.{Limits}
+use Rattle.charge.specs.declared.Charge.{Charge}
+use Rattle.charge.specs.Charge.{acrOf}
+use Rattle.full.specs.declared.Average.{Average}
+use Rattle.full.specs.declared.Since.{Since}
+
+-- what holds of every average
+pub record AverageWF (a : Average) : Type 0 where
+  pub run : a .run < 8
+  pub sum : a .sum ≤ 65535 * a .run
+
+-- the eighth conversion of a run
+abbrev pub eighth : Average → Bool
+eighth a = eqb (a .run) 7
+
+-- the sum of eight c divided by 8, rounded down
+abbrev pub meanOf : Average → ℕ → ℕ
+meanOf a c = (a .sum + c) / 8
+
+unfoldable pub averagedOf : Average → ℕ → Average
+averagedOf a c =
+    pick (eighth a) (record { run = 0; sum = 0; iavg = meanOf a c; known = true })
+    (record { run = a .run + 1; sum = a .sum + c; iavg = a .iavg; known = a .known })
+
+-- the readings since the previous IAVG: none yet after an eighth conversion
+unfoldable pub renewedOf : Since → Bool → Since
+renewedOf s eighth = pick eighth (record { any = false; lowest = 0 }) s
+
+-- a reading adds its VOLT to them: the lowest since the previous IAVG
+unfoldable pub loweredOf : Since → ℕ → Since
+loweredOf s volt = record { any = true; lowest = pick (s .any) (min (s .lowest) volt) volt }
+
+-- in 1..32 × IMIN - 1
+abbrev pub taperOf : ℕ → ℕ → Bool
+taperOf imin x = both (ltb (zeroAt 15) x) (ltb x (zeroAt 15 + 32 * imin))
+
+-- this and the previous IAVG both lie there
+abbrev pub tapersOf : Average → ℕ → ℕ → Bool
+tapersOf a imin c = both (taperOf imin (meanOf a c)) (both (a .known) (taperOf imin (a .iavg)))
+
+-- at least one reading came since the previous IAVG, all above 4 × VCHG
+abbrev pub highOf : Since → ℕ → Bool
+highOf s vchg = both (s .any) (ltb (4 * vchg) (s .lowest))
+
+-- full is found
+unfoldable pub foundOf : Average → Since → Limits → ℕ → Bool
+foundOf a s p c = both (eighth a) (both (tapersOf a (p .imin) c) (highOf s (p .vchg)))
+
+-- AS = ACR × 2^21 / (FULL × Full40), rounded down, moved into 63..128
+unfoldable pub learntOf : ℕ → ℕ → ℕ → ℕ
+learntOf acr full full40 = movedInto 63 128 (acr * 2 ^ 21 / (full * full40))
+
+-- that, if LEARNF and Full40 > 0
+abbrev pub taughtOf : Charge → ℕ → ℕ → ℕ
+taughtOf g full full40 = pick (both (g .learnf) (ltb 0 full40)) (learntOf (acrOf (g .count)) full full40) (g .aging)
+
+-- AF = FULL × AS / 128 rounded down
+unfoldable pub agedFullOf : ℕ → ℕ → ℕ
+agedFullOf full aging = full * aging / 128
+
+-- a share of Full40 in units of 2^-14, as ACR: rounded down
+unfoldable pub shareOf : ℕ → ℕ → ℕ
+shareOf share full40 = share * full40 / 16384
+
+-- ACR = AF × Full40 / 16,384 rounded down, fraction 0; LEARNF clears
+unfoldable pub filledOf : Charge → ℕ → ℕ → Charge
+filledOf g full full40 = record {
+  count = shareOf (agedFullOf full (taughtOf g full full40)) full40 * 4096;
+  age = g .age;
+  aging = taughtOf g full full40;
+  learnf = false;
+}
+
+unfoldable pub settledOf : Charge → Bool → ℕ → ℕ → Charge
+settledOf g found full full40 = pick found (filledOf g full full40) g

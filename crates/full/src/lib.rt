@@ -1,0 +1,147 @@
+// Full detection: step 6 of a conversion.
+use charge::Charge;
+use params::Limits;
+ghost use mathlib.Core.Path.{_≡_};
+ghost use Prim.Native.Nat.{_*_, _≤_};
+ghost use Rattle.charge.specs.Charge.{ChargeWF};
+ghost use Rattle.full.specs.Full.{AverageWF, averagedOf, renewedOf, loweredOf, taperOf, foundOf, learntOf, agedFullOf, shareOf, filledOf, settledOf};
+
+// What a current of 0 is kept as.
+const ZERO: u16 = 32768;
+
+// The run of eight: how many c it has and their sum; IAVG, and whether there is one.
+pub struct Average {
+    pub run: u8,
+    pub sum: u32,
+    pub iavg: u16,
+    pub known: bool,
+}
+
+// The readings since the previous IAVG: whether there is one, and their lowest VOLT.
+pub struct Since {
+    pub any: bool,
+    pub lowest: u16,
+}
+
+// Step 6: whether an average is in 1..32 × IMIN - 1.
+fn tapers(imin: u8, x: u16) -> bool
+    ensures { λ r. ⌜ r ≡ taperOf imin x ⌝ }
+{
+    let top = ZERO + 32 * (imin as u16);
+    numbers::and(ZERO < x, x < top)
+}
+
+impl Average {
+    // Step 6: the run of eight goes on, or ends with IAVG.
+    pub fn averaged(self, c: u16) -> Average
+        requires { ⌜ AverageWF self ⌝ }
+        ensures { λ r. ⌜ r ≡ averagedOf self c ⌝ }
+    {
+        let sum = self.sum + (c as u32);
+        if self.run == 7 {
+            Average {
+                run: 0,
+                sum: 0,
+                iavg: (sum / 8) as u16,
+                known: true,
+            }
+        } else {
+            Average {
+                run: self.run + 1,
+                sum: sum,
+                iavg: self.iavg,
+                known: self.known,
+            }
+        }
+    }
+
+    // Step 6: whether full is found.
+    pub fn found(self, s: Since, p: Limits, c: u16) -> bool
+        requires { ⌜ AverageWF self ⌝ }
+        ensures { λ r. ⌜ r ≡ foundOf self s p c ⌝ }
+    {
+        let mean = ((self.sum + (c as u32)) / 8) as u16;
+        let before = numbers::and(self.known, tapers(p.imin, self.iavg));
+        let low = numbers::and(tapers(p.imin, mean), before);
+        let high = numbers::and(s.any, 4 * (p.vchg as u16) < s.lowest);
+        numbers::and(self.run == 7, numbers::and(low, high))
+    }
+}
+
+impl Since {
+    // Step 6: after an eighth conversion there is no reading yet.
+    pub fn renewed(self, eighth: bool) -> Since
+        ensures { λ r. ⌜ r ≡ renewedOf self eighth ⌝ }
+    {
+        if eighth {
+            Since {
+                any: false,
+                lowest: 0,
+            }
+        } else {
+            self
+        }
+    }
+
+    // A reading adds its VOLT.
+    pub fn lowered(self, volt: u16) -> Since
+        ensures { λ r. ⌜ r ≡ loweredOf self volt ⌝ }
+    {
+        let lower = numbers::at_most(volt as u64, self.lowest as u64) as u16;
+        Since {
+            any: true,
+            lowest: numbers::choose16(self.any, lower, volt),
+        }
+    }
+}
+
+// Step 6: AS that a full charge teaches.
+fn learnt(acr: u16, full: u16, full40: u16) -> u8
+    ensures { λ r. ⌜ r ≡ learntOf acr full full40 ⌝ }
+{
+    let n = (acr as u64) * 2097152;
+    let d = (full as u64) * (full40 as u64);
+    numbers::moved_into(63, 128, numbers::quotient(n, d))
+}
+
+// AF, of FULL and AS.
+pub fn aged_full(full: u16, aging: u8) -> u32
+    ensures { λ r. ⌜ r ≡ agedFullOf full aging ⌝ }
+{
+    (full as u32) * (aging as u32) / 128
+}
+
+// A share of Full40 in units of 2^-14, as ACR.
+pub fn share(x: u32, full40: u16) -> u64
+    ensures { λ r. ⌜ r ≡ shareOf x full40 ⌝ }
+    ensures small { λ r. ⌜ r ≤ 4 * x ⌝ }
+{
+    (x as u64) * (full40 as u64) / 16384
+}
+
+// Step 6, where full is found.
+fn filled(g: Charge, full: u16, full40: u16) -> Charge
+    requires { ⌜ ChargeWF g ⌝ }
+    requires { ⌜ full ≤ 16384 ⌝ }
+    ensures { λ r. ⌜ r ≡ filledOf g full full40 ⌝ }
+{
+    let acr = (g.count / 4096) as u16;
+    let teach = numbers::and(g.learnf, 0 < full40);
+    let aging = numbers::choose8(teach, learnt(acr, full, full40), g.aging);
+    let charge = share(aged_full(full, aging), full40) as u32;
+    Charge {
+        count: charge * 4096,
+        age: g.age,
+        aging: aging,
+        learnf: false,
+    }
+}
+
+// Step 6: the charge afterwards.
+pub fn settled(g: Charge, found: bool, full: u16, full40: u16) -> Charge
+    requires { ⌜ ChargeWF g ⌝ }
+    requires { ⌜ full ≤ 16384 ⌝ }
+    ensures { λ r. ⌜ r ≡ settledOf g found full full40 ⌝ }
+{
+    if found { filled(g, full, full40) } else { g }
+}

@@ -1,0 +1,104 @@
+-- The image, taken out and read in again: a power-on, and accepted. Assumes nothing.
+use mathlib.Core.Path.{_≡_, refl, sym, ap, _∙_}
+use mathlib.Core.Bool.{Bool, true, false}
+use mathlib.Core.List.{List, _++_}
+use Prim.Native.Nat.{ℕ, _+_, _/_, _%_, _≤_}
+use native.Mathlib.Omega.{arith}
+use lib.Dec.{leb, eqb}
+use lib.ListN.{length, getD, drop, length-append}
+use lib.Seq.{take-at, drop-at, drop-drop, getD-drop}
+use borrow.Author.Tests.{eq-eqb}
+use Rattle.parts.specs.Parts.{part, put, pairAt}
+use Rattle.parts.proofs.Laws.{put-next, put-front}
+use Rattle.meter.specs.State.{poweredOf}
+use Rattle.map.specs.Writes.{labelRecalled}
+use Rattle.gauge.specs.declared.Gauge.{Gauge}
+use Rattle.pack.specs.declared.Verdict.the-variants.{Accepted}
+use Rattle.gauge.specs.Gauge.{Sized, powerOnOf}
+use Rattle.pack.specs.Image.{addressedOf, verdictOf, imageOf, lockByte, tailOf, bytesOf}
+
+-- ---- four parts of 8, 16, 32 and 4 bytes
+
+module _ (a e b t : List ℕ) (la : length a ≡ 8) (le : length e ≡ 16) (lb : length b ≡ 32) (lt : length t ≡ 4) where
+  abbrev pub joint : List ℕ
+  joint = a ++ (e ++ (b ++ t))
+
+  pub joint-length : length joint ≡ 60
+  joint-length = simp length-append (omega arith)
+
+  -- four stores are the image at the front of the room
+  pub joint-put : (room : List ℕ) → 60 ≤ length room → put (put (put (put room 0 a) 8 e) 24 b) 56 t ≡ joint ++ drop 60 room
+  joint-put room h =
+      put-next (put (put room 0 a) 8 e) 24 56 b t (omega arith)
+      ∙ put-next (put room 0 a) 8 24 e (b ++ t) (omega arith)
+      ∙ put-next room 0 8 a (e ++ (b ++ t)) (omega arith)
+      ∙ put-front room joint (omega (arith, joint-length))
+      ∙ ap (λ (n : ℕ). joint ++ drop n room) joint-length
+
+  -- the parts are found again
+  pub joint-address : part 8 joint 0 ≡ a
+  joint-address = take-at a _ 8 la
+
+  pub joint-label : part 16 joint 8 ≡ e
+  joint-label = rw (drop-at a (e ++ (b ++ t)) 8 la) (take-at e _ 16 le)
+
+  pub joint-block : part 32 joint 24 ≡ b
+  joint-block = rw (← (drop-drop 16 8 joint)) (rw (drop-at a (e ++ (b ++ t)) 8 la, drop-at e (b ++ t) 16 le) (take-at b _ 32 lb))
+
+  joint-tail : drop 56 joint ≡ t
+  joint-tail =
+      rw (← (drop-drop 48 8 joint)) (rw (drop-at a (e ++ (b ++ t)) 8 la)
+      (rw (← (drop-drop 32 16 (e ++ (b ++ t)))) (rw (drop-at e (b ++ t) 16 le) (drop-at b t 32 lb))))
+
+  pub joint-byte : (i : ℕ) → getD joint (56 + i) 0 ≡ getD t i 0
+  joint-byte i = sym (getD-drop 56 joint i 0) ∙ ap (λ (l : List ℕ). getD l i 0) joint-tail
+
+-- ---- the image of a gauge
+
+-- the two lock bits of a byte
+bits : (x y : Bool) → (eqb (lockByte x y % 2) 1 ≡ y) × (eqb (lockByte x y / 2 % 2) 1 ≡ x) × (leb (lockByte x y) 3 ≡ true)
+bits true true = (refl, refl, refl)
+bits true false = (refl, refl, refl)
+bits false true = (refl, refl, refl)
+bits false false = (refl, refl, refl)
+
+-- what stands in the image of a gauge
+record Holds (g : Gauge) (p : List ℕ) : Type 0 where
+  size : length p ≡ 60
+  address : part 8 p 0 ≡ g .common .address
+  label : part 16 p 8 ≡ g .label .eeprom
+  block : part 32 p 24 ≡ g .meter .block .eeprom
+  byte : (i : ℕ) → getD p (56 + i) 0 ≡ getD (tailOf g) i 0
+
+image-holds : (g : Gauge) → Sized g → Holds g (bytesOf g)
+unfolding bytesOf
+image-holds g z =
+    let a = g .common .address in
+    let e = g .label .eeprom in
+    let b = g .meter .block .eeprom in
+    record {
+      size = joint-length a e b (tailOf g) (z .address) (z .label .eeprom) (z .block .eeprom) refl;
+      address = joint-address a e b (tailOf g) (z .address) (z .label .eeprom) (z .block .eeprom) refl;
+      label = joint-label a e b (tailOf g) (z .address) (z .label .eeprom) (z .block .eeprom) refl;
+      block = joint-block a e b (tailOf g) (z .address) (z .label .eeprom) (z .block .eeprom) refl;
+      byte = joint-byte a e b (tailOf g) (z .address) (z .label .eeprom) (z .block .eeprom) refl;
+    }
+
+-- read in again it is a power-on
+pub round-trip : (g : Gauge) → Sized g → imageOf (bytesOf g) ≡ powerOnOf g
+unfolding imageOf powerOnOf poweredOf labelRecalled
+round-trip g z =
+    let p = image-holds g z in
+    let l = bits (g .meter .locks .bl1) (g .common .bl0) in
+    let acr : pairAt (bytesOf g) 56 ≡ g .meter .saved .acr = omega (arith, p .byte 0, p .byte 1) in
+    rw (p .address, p .label, p .block, acr, p .byte 2, p .byte 3, l .0, l .1) refl
+
+-- and accepted, where the address is one
+pub image-accepted : (g : Gauge) → Sized g → addressedOf (g .common .address) ≡ true → verdictOf (bytesOf g) ≡ Accepted
+unfolding verdictOf
+image-accepted g z h =
+    let p = image-holds g z in
+    rw (eq-eqb (length (bytesOf g)) 60 (p .size), p .address, h, p .byte 3, bits (g .meter .locks .bl1) (g .common .bl0) .2) refl
+
+pub image-length : (g : Gauge) → Sized g → length (bytesOf g) ≡ 60
+image-length g z = image-holds g z .size

@@ -1,0 +1,124 @@
+-- Reading, step by step: 1 and 3 to 6. Voltage and temperature come as z + 2^31, currents are kept as z + 2^15.
+use Prim.Native.Nat.{ℕ, _-_, _*_, _/_, _^_, min}
+use mathlib.Core.Bool.{Bool, not}
+use lib.Dec.{ltb, leb, eqb}
+use Rattle.numbers.specs.Choice.{pick, both, either, butNot}
+use Rattle.numbers.specs.Offset.{zeroAt}
+use Rattle.params.specs.declared.Curves.{Curves}
+use Rattle.params.specs.declared.Limits.{Limits}
+use Rattle.params.specs.declared.Capacity.{Capacity}
+use Rattle.charge.specs.declared.Charge.{Charge}
+use Rattle.charge.specs.declared.Trace.{Trace}
+use Rattle.charge.specs.Charge.{acrOf}
+use Rattle.full.specs.Full.{agedFullOf}
+use Rattle.model.specs.declared.Model.{Model}
+use Rattle.model.specs.Model.{linesOf}
+use Rattle.reading.specs.declared.Results.{Results}
+use Rattle.reading.specs.declared.Reading.{Reading}
+use Rattle.reading.specs.declared.Flags.{Flags}
+use Rattle.reading.specs.declared.Saved.{Saved}
+use Rattle.reading.specs.declared.Seen.{Seen}
+
+-- ---- step 1
+
+-- voltage clamped to 0..1,023
+abbrev pub voltOf : ℕ → ℕ
+voltOf raw = min (raw - zeroAt 31) 1023
+
+-- temperature clamped to -1,024..1,023 eighths of a degree, kept as z + 2^10
+abbrev pub tempOf : ℕ → ℕ
+tempOf raw = min (raw - (zeroAt 31 - zeroAt 10)) (2 ^ 11 - 1)
+
+-- T = whole degrees, rounded down, kept as z + 2^7
+abbrev pub degreesOf : ℕ → ℕ
+degreesOf temp = temp / 8
+
+-- ---- step 3
+
+-- VOLT ≥ 4 × VAE
+abbrev pub holdsOf : ℕ → ℕ → Bool
+holdsOf volt vae = leb (4 * vae) volt
+
+-- a current that is below -128 × IAE
+abbrev pub drainsOf : ℕ → ℕ → Bool
+drainsOf c iae = ltb c (zeroAt 15 - 128 * iae)
+
+-- the last two CURRENTs exist and are both < -128 × IAE
+unfoldable pub drainingOf : Trace → ℕ → Bool
+drainingOf t iae = both (both (t .any) (t .two)) (both (drainsOf (t .last) iae) (drainsOf (t .before) iae))
+
+-- the previous reading exists and was ≥ 4 × VAE, and the currents are such
+unfoldable pub pointOf : Reading → Trace → Limits → Bool
+pointOf previous t p = both (both (previous .known) (holdsOf (previous .volt) (p .vae))) (drainingOf t (p .iae))
+
+-- ACR = E, fraction 0: at the empty point, or with LEARNF 0 and ACR > E; LEARNF = (E > 0) at the empty point. Skipped where VOLT holds.
+unfoldable pub emptiedOf : Charge → Bool → Bool → ℕ → Charge
+emptiedOf g low point e = record {
+  count = pick (both low (either point (butNot (ltb e (acrOf (g .count))) (g .learnf)))) (e * 4096) (g .count);
+  age = g .age;
+  aging = g .aging;
+  learnf = pick (both low point) (ltb 0 e) (g .learnf);
+}
+
+-- ---- step 4. With N ≤ 0 or D ≤ 0 the truncating difference is 0, and so is what is divided, or divided by 0
+
+-- N = 16,384 × ACR - AE × Full40
+unfoldable pub leftOf : ℕ → ℕ → ℕ → ℕ
+leftOf acr empty full40 = 16384 * acr - empty * full40
+
+-- D = (AF - AE) × Full40
+unfoldable pub spanOf : ℕ → ℕ → ℕ → ℕ
+spanOf agedFull empty full40 = (agedFull - empty) * full40
+
+-- RARC = 100 × N / D rounded down, at most 100
+unfoldable pub percentOf : ℕ → ℕ → ℕ
+percentOf n d = min (100 * n / d) 100
+
+-- RAAC = N × RSNSP / 2^22 rounded down
+unfoldable pub amountOf : ℕ → ℕ → ℕ
+amountOf n rsnsp = n * rsnsp / 2 ^ 22
+
+unfoldable pub resultsOf : Model → ℕ → ℕ → Capacity → Results
+resultsOf l acr agedFull p = record {
+  rarc = percentOf (leftOf acr (l .ae) (p .full40)) (spanOf agedFull (l .ae) (p .full40));
+  rsrc = percentOf (leftOf acr (l .se) (p .full40)) (spanOf agedFull (l .se) (p .full40));
+  raac = amountOf (leftOf acr (l .ae) (p .full40)) (p .rsnsp);
+  rsac = amountOf (leftOf acr (l .se) (p .full40)) (p .rsnsp);
+}
+
+-- AF of the lines, and ACR as step 3 left it
+unfoldable pub ratedOf : Charge → Model → Capacity → Results
+ratedOf g l p = resultsOf l (acrOf (g .count)) (agedFullOf (l .full) (g .aging)) p
+
+-- ---- step 5, and AEF of step 3
+
+unfoldable pub flagsOf : Flags → Bool → Results → Flags
+flagsOf f low r = record {
+  porf = f .porf;
+  chgtf = butNot (f .chgtf) (ltb (r .rarc) 90);
+  aef = either low (butNot (f .aef) (ltb 5 (r .rarc)));
+  sef = either (ltb (r .rsrc) 10) (butNot (f .sef) (ltb 15 (r .rsrc)));
+}
+
+-- ---- step 6: unless first since power-on, if RARC divided by 4, rounded down, has changed
+
+abbrev pub savesOf : Bool → ℕ → ℕ → Bool
+savesOf known before rarc = butNot known (eqb (before / 4) (rarc / 4))
+
+-- ACR and AS go to the saved cells
+unfoldable pub keptOf : Saved → Bool → Charge → Saved
+keptOf s save g = record {
+  acr = pick save (acrOf (g .count)) (s .acr);
+  aging = pick save (g .aging) (s .aging);
+}
+
+-- ---- what a reading sees
+
+-- steps 1 and 2, with the test of step 3
+unfoldable pub seenOf : Limits → Curves → ℕ → ℕ → Seen
+seenOf p curves v t = record {
+  volt = voltOf v;
+  temp = tempOf t;
+  low = not (holdsOf (voltOf v) (p .vae));
+  lines = linesOf curves (degreesOf (tempOf t));
+}

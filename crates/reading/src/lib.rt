@@ -1,0 +1,199 @@
+// A reading: what it sees, the empty point, the results, the flags and the saved cells.
+use charge::Charge;
+use charge::Trace;
+use model::Model;
+use params::Capacity;
+use params::Curves;
+use params::Limits;
+ghost use mathlib.Core.Path.{_≡_};
+ghost use Prim.Native.Nat.{_*_, _≤_};
+ghost use Rattle.charge.specs.Charge.{ChargeWF};
+ghost use Rattle.reading.specs.Reading.{voltOf, tempOf, seenOf, drainingOf, pointOf, emptiedOf, leftOf, spanOf, percentOf, amountOf, resultsOf, ratedOf, flagsOf, keptOf};
+
+// What 0 is kept as: in a 32-bit count and in a current.
+const RAW_ZERO: u64 = 2147483648;
+
+const ZERO: u16 = 32768;
+
+pub struct Results {
+    pub rarc: u8,
+    pub rsrc: u8,
+    pub raac: u16,
+    pub rsac: u16,
+}
+
+// VOLT and TEMP as counts, and whether there was a reading since power-on.
+pub struct Reading {
+    pub volt: u16,
+    pub temp: u16,
+    pub known: bool,
+}
+
+pub struct Flags {
+    pub porf: bool,
+    pub chgtf: bool,
+    pub aef: bool,
+    pub sef: bool,
+}
+
+// The saved cells: ACR and AS.
+pub struct Saved {
+    pub acr: u16,
+    pub aging: u8,
+}
+
+// What a reading sees: steps 1 and 2, and whether the voltage is below 4 × VAE.
+pub struct Seen {
+    pub volt: u16,
+    pub temp: u16,
+    pub low: bool,
+    pub lines: Model,
+}
+
+// Step 1.
+fn volt_of(raw: u32) -> u16
+    ensures { λ r. ⌜ r ≡ voltOf raw ⌝ }
+{
+    numbers::at_most(1023, numbers::less(raw as u64, RAW_ZERO)) as u16
+}
+
+fn temp_of(raw: u32) -> u16
+    ensures { λ r. ⌜ r ≡ tempOf raw ⌝ }
+{
+    numbers::at_most(2047, numbers::less(raw as u64, RAW_ZERO - 1024)) as u16
+}
+
+// Steps 1 and 2, and the test of step 3.
+pub fn observed(p: Limits, curves: Curves, v: u32, t: u32) -> Seen
+    ensures { λ r. ⌜ r ≡ seenOf p curves v t ⌝ }
+{
+    let volt = volt_of(v);
+    let temp = temp_of(t);
+    let lines = model::lines(curves, (temp / 8) as u8);
+    let holds = 4 * (p.vae as u16) <= volt;
+    Seen {
+        volt: volt,
+        temp: temp,
+        low: !holds,
+        lines: lines,
+    }
+}
+
+// Step 3: the last two currents are there and both below -128 × IAE.
+fn draining(trace: Trace, iae: u8) -> bool
+    ensures { λ r. ⌜ r ≡ drainingOf trace iae ⌝ }
+{
+    let top = ZERO - 128 * (iae as u16);
+    let there = numbers::and(trace.any, trace.two);
+    numbers::and(there, numbers::and(trace.last < top, trace.before < top))
+}
+
+impl Reading {
+    // Step 3: the empty point is found.
+    pub fn point(self, trace: Trace, p: Limits) -> bool
+        ensures { λ r. ⌜ r ≡ pointOf self trace p ⌝ }
+    {
+        let held = numbers::and(self.known, 4 * (p.vae as u16) <= self.volt);
+        numbers::and(held, draining(trace, p.iae))
+    }
+}
+
+// Step 3: low says that the voltage is below 4 × VAE, point that the empty point is found, and e is E.
+pub fn emptied(g: Charge, low: bool, point: bool, e: u16) -> Charge
+    requires { ⌜ ChargeWF g ⌝ }
+    ensures { λ r. ⌜ r ≡ emptiedOf g low point e ⌝ }
+{
+    let count = (e as u32) * 4096;
+    let over = numbers::and_not((e as u32) < g.count / 4096, g.learnf);
+    let cut = numbers::and(low, numbers::or(point, over));
+    Charge {
+        count: numbers::choose(cut, count, g.count),
+        age: g.age,
+        aging: g.aging,
+        learnf: numbers::choose_bool(numbers::and(low, point), 0 < e, g.learnf),
+    }
+}
+
+// Step 4: N, or 0 where it is not above 0.
+fn left(acr: u16, empty: u16, full40: u16) -> u32
+    ensures { λ r. ⌜ r ≡ leftOf acr empty full40 ⌝ }
+    ensures small { λ r. ⌜ r ≤ 16384 * 65535 ⌝ }
+{
+    let spent = (empty as u64) * (full40 as u64);
+    numbers::less(16384 * (acr as u64), spent) as u32
+}
+
+// Step 4: D, or 0 where it is not above 0.
+fn span(af: u16, empty: u16, full40: u16) -> u32
+    ensures { λ r. ⌜ r ≡ spanOf af empty full40 ⌝ }
+{
+    (numbers::less(af as u64, empty as u64) as u32) * (full40 as u32)
+}
+
+fn percent(n: u32, d: u32) -> u8
+    ensures { λ r. ⌜ r ≡ percentOf n d ⌝ }
+{
+    numbers::at_most(100, numbers::quotient(100 * (n as u64), d as u64)) as u8
+}
+
+fn amount(n: u32, rsnsp: u8) -> u16
+    requires { ⌜ n ≤ 16384 * 65535 ⌝ }
+    ensures { λ r. ⌜ r ≡ amountOf n rsnsp ⌝ }
+{
+    ((n as u64) * (rsnsp as u64) / 4194304) as u16
+}
+
+// Step 4: the four results, of the lines, ACR and AF.
+fn results_of(lines: Model, acr: u16, af: u16, p: Capacity) -> Results
+    ensures { λ r. ⌜ r ≡ resultsOf lines acr af p ⌝ }
+{
+    let active = left(acr, lines.ae, p.full40);
+    let standby = left(acr, lines.se, p.full40);
+    Results {
+        rarc: percent(active, span(af, lines.ae, p.full40)),
+        rsrc: percent(standby, span(af, lines.se, p.full40)),
+        raac: amount(active, p.rsnsp),
+        rsac: amount(standby, p.rsnsp),
+    }
+}
+
+// Step 4: AF comes of FULL and AS.
+pub fn rated(g: Charge, lines: Model, p: Capacity) -> Results
+    requires { ⌜ ChargeWF g ⌝ }
+    requires { ⌜ lines .full ≤ 16384 ⌝ }
+    ensures { λ r. ⌜ r ≡ ratedOf g lines p ⌝ }
+{
+    let acr = (g.count / 4096) as u16;
+    let af = full::aged_full(lines.full, g.aging) as u16;
+    results_of(lines, acr, af, p)
+}
+
+impl Flags {
+    // Step 5, and AEF of step 3.
+    pub fn shown(self, low: bool, r: Results) -> Flags
+        ensures { λ f. ⌜ f ≡ flagsOf self low r ⌝ }
+    {
+        let aef = numbers::and_not(self.aef, 5 < r.rarc);
+        let sef = numbers::and_not(self.sef, 15 < r.rsrc);
+        Flags {
+            porf: self.porf,
+            chgtf: numbers::and_not(self.chgtf, r.rarc < 90),
+            aef: numbers::or(low, aef),
+            sef: numbers::or(r.rsrc < 10, sef),
+        }
+    }
+}
+
+impl Saved {
+    // Step 6.
+    pub fn kept(self, save: bool, g: Charge) -> Saved
+        requires { ⌜ ChargeWF g ⌝ }
+        ensures { λ r. ⌜ r ≡ keptOf self save g ⌝ }
+    {
+        let acr = (g.count / 4096) as u16;
+        Saved {
+            acr: numbers::choose16(save, acr, self.acr),
+            aging: numbers::choose8(save, g.aging, self.aging),
+        }
+    }
+}

@@ -1,0 +1,3 @@
+pub mod Listed
+pub mod Viewing
+pub mod Unique
