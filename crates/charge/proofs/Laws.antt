@@ -1,14 +1,14 @@
--- What the definitions keep: a charge is well-formed after steps 1 to 5. Assumes nothing.
+-- What the definitions keep: a charge is well-formed after steps 1 to 5, and bounds of AF and of a share. Assumes nothing.
 use mathlib.Core.Path.{_≡_}
 use mathlib.Core.Bool.{false}
 use Prim.Native.Nat.{ℕ, _+_, _*_, _^_, _≤_, _<_}
 use native.Mathlib.Omega.{arith}
 use lib.Dec.{eqb}
 use borrow.Author.Tests.{lt-ltb, leb-false, eqb-false}
-use Rattle.numbers.proofs.Bounds.{picked}
+use Rattle.numbers.proofs.Bounds.{times, picked}
 use Rattle.params.specs.declared.Counting.{Counting}
 use Rattle.charge.specs.declared.Charge.{Charge}
-use Rattle.charge.specs.Charge.{ChargeWF, blankedOf, grownOf, fallOf, dueOf, ageLeftOf, newAge, countedOf}
+use Rattle.charge.specs.Charge.{ChargeWF, blankedOf, grownOf, fallOf, dueOf, ageLeftOf, newAge, countedOf, agedFullOf, shareOf}
 
 -- one conversion takes at most 9 steps off ACR
 fall-small : (count counted ab : ℕ) → count < 2 ^ 28 → fallOf count (grownOf count counted ab) ≤ 9
@@ -40,3 +40,11 @@ counted-wf p g last c h w =
       low = picked (λ (x : ℕ). 63 ≤ x) due _ (g .aging) (λ e. omega arith) (λ e. w .low);
       high = picked (λ (x : ℕ). x ≤ 128) due _ (g .aging) (λ e. omega (arith, w .high)) (λ e. w .high);
     }
+
+pub aged-full-high : (full aging : ℕ) → full ≤ 16384 → aging ≤ 128 → agedFullOf full aging ≤ 16384
+unfolding agedFullOf
+aged-full-high full aging p q = omega (arith, times full aging 16384 128 p q)
+
+pub share-high : (x full40 : ℕ) → x ≤ 16384 → full40 ≤ 65535 → shareOf x full40 ≤ 65535
+unfolding shareOf
+share-high x full40 p q = omega (arith, times x full40 16384 65535 p q)

@@ -4,6 +4,8 @@ use Rattle.once.specs.Once.{Once}
 use Rattle.charge.proofs.current
 use Rattle.charge.proofs.Trace.traced
 use Rattle.charge.proofs.Charge.counted
+use Rattle.charge.proofs.aged_full
+use Rattle.charge.proofs.share
 
 pub current-once : Once current.ended current.Reads.Pre current.Reads.Learnt
 current-once κs a r r′ w w′ p h h′ = (h ∙ sym h′, refl)
@@ -13,3 +15,9 @@ traced-once κs a r r′ w w′ p h h′ = (h ∙ sym h′, refl)
 
 pub counted-once : Once counted.ended counted.Reads.Pre counted.Reads.Learnt
 counted-once κs a r r′ w w′ p h h′ = (h ∙ sym h′, refl)
+
+pub aged-full-once : Once aged_full.ended aged_full.Reads.Pre aged_full.Reads.Learnt
+aged-full-once κs a r r′ w w′ p h h′ = (h ∙ sym h′, refl)
+
+pub share-once : Once share.ended share.Reads.Pre share.Reads.Learnt
+share-once κs a r r′ w w′ p h h′ = (h .0 ∙ sym (h′ .0), refl)

@@ -1,4 +1,4 @@
--- The charge count: steps 1 to 5 of a conversion. Currents are kept as z + 2^15.
+-- The charge count: steps 1 to 5 of a conversion; AF, and a share of Full40 as ACR. Currents are kept as z + 2^15.
 use mathlib.Core.Bool.{Bool, true, not}
 use Prim.Native.Nat.{ℕ, _+_, _-_, _*_, _/_, _%_, _^_, _≤_, _<_, min, max}
 use lib.Dec.{ltb, leb, eqb}
@@ -86,3 +86,13 @@ countedOf p g last c = record {
   aging = agedOf (dueOf (p .ac) (newAge p g c)) (g .aging);
   learnf = butNot (butNot (g .learnf) (turnedOf last c)) (eqb (acrOf (newCount p g c)) 0);
 }
+
+-- ---- what full detection and a reading take of FULL
+
+-- AF = FULL × AS / 128 rounded down
+unfoldable pub agedFullOf : ℕ → ℕ → ℕ
+agedFullOf full aging = full * aging / 128
+
+-- a share of Full40 in units of 2^-14, as ACR: rounded down
+unfoldable pub shareOf : ℕ → ℕ → ℕ
+shareOf share full40 = share * full40 / 16384

@@ -1,8 +1,8 @@
-// The charge count: steps 1 to 5 of a conversion.
+// The charge count: steps 1 to 5 of a conversion; AF, and a share of Full40 as ACR.
 use params::Counting;
 ghost use mathlib.Core.Path.{_≡_};
-ghost use Prim.Native.Nat.{_≤_};
-ghost use Rattle.charge.specs.Charge.{ChargeWF, currentOf, tracedOf, blankedOf, grownOf, dueOf, ageLeftOf, agedOf, countedOf};
+ghost use Prim.Native.Nat.{_*_, _≤_};
+ghost use Rattle.charge.specs.Charge.{ChargeWF, currentOf, tracedOf, blankedOf, grownOf, dueOf, ageLeftOf, agedOf, countedOf, agedFullOf, shareOf};
 
 // What 0 is kept as: in a 32-bit count, in a current and in a signed byte.
 const RAW_ZERO: u64 = 2147483648;
@@ -113,4 +113,19 @@ impl Charge {
             learnf: numbers::and_not(learnf, count / 4096 == 0),
         }
     }
+}
+
+// AF, of FULL and AS.
+pub fn aged_full(full: u16, aging: u8) -> u32
+    ensures { λ r. ⌜ r ≡ agedFullOf full aging ⌝ }
+{
+    (full as u32) * (aging as u32) / 128
+}
+
+// A share of Full40 in units of 2^-14, as ACR.
+pub fn share(x: u32, full40: u16) -> u64
+    ensures { λ r. ⌜ r ≡ shareOf x full40 ⌝ }
+    ensures small { λ r. ⌜ r ≤ 4 * x ⌝ }
+{
+    (x as u64) * (full40 as u64) / 16384
 }

@@ -6,7 +6,7 @@ use mathlib.Core.List.{List, [], _∷_}
 use Prim.Native.Nat.{ℕ, _-_}
 use lib.Dec.{ltb}
 use lib.ListN.{length}
-use Rattle.map.specs.declared.Common.{Common}
+use Rattle.blocks.specs.declared.Common.{Common}
 use Rattle.bus.specs.declared.Rom.{Rom}
 use Rattle.bus.specs.declared.Rom.the-variants.{Net33, Net39, Skip, Match, Quiet}
 use Rattle.bus.specs.declared.Transaction.{Transaction}

@@ -3,7 +3,7 @@ use mathlib.Core.Path.{_≡_, refl}
 use mathlib.Core.List.{List, [], _∷_, _++_, map}
 use Prim.Native.Nat.{ℕ}
 use lib.ListN.{replicate}
-use Rattle.map.specs.Registers.{inLabel, inBlock}
+use Rattle.blocks.specs.Blocks.{inLabel, inBlock}
 use Rattle.bus.specs.Ask.{romBy, commandOf, askedAt, askedOf, ownOf}
 use Rattle.replies.specs.Reply.{selectedOf}
 use Rattle.steps.specs.Step.{Rec, whole, cut}

@@ -11,9 +11,10 @@ use borrow.Author.Tests.{le-leb, eq-eqb}
 use Rattle.parts.specs.Parts.{put}
 use Rattle.parts.proofs.Laws.{put-append}
 use Rattle.gauge.specs.declared.Gauge.{Gauge}
-use Rattle.pack.specs.declared.Verdict.the-variants.{Accepted}
+use Rattle.events.specs.declared.Verdict.the-variants.{Accepted}
 use Rattle.gauge.specs.Gauge.{powerOnOf}
-use Rattle.pack.specs.Image.{verdictOf, bytesOf}
+use Rattle.events.specs.Verdict.{verdictOf}
+use Rattle.pack.specs.Image.{bytesOf}
 use Rattle.pack.specs.Reach.{Reached}
 use Rattle.pack.proofs.Image.{image-length}
 use Rattle.pack.proofs.Reached.{reached-sized, out-accepted, out-in}

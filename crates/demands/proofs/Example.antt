@@ -12,13 +12,14 @@ use Rattle.params.specs.Params.{countingOf}
 use Rattle.meter.specs.State.{poweredOf}
 use Rattle.charge.specs.Charge.{tracedOf}
 use Rattle.meter.specs.Convert.{convertOf}
-use Rattle.map.specs.Registers.{inLabel, registersOf, labelByte, meterByte}
-use Rattle.map.specs.Writes.{labelWritten, labelCopied, labelRecalled}
+use Rattle.blocks.specs.Blocks.{inLabel, labelByte, labelWritten, labelCopied, labelRecalled}
+use Rattle.map.specs.Registers.{registersOf, meterByte}
 use Rattle.bus.specs.Ask.{romBy, commandOf, askedAt, askedOf}
 use Rattle.gauge.specs.Gauge.{conversionOf, powerOnOf, writtenOf, copiedOf}
 use Rattle.replies.specs.Reply.{byteOf, selectedOf, sourceByte}
 use Rattle.gauge.specs.Act.{ranOf, actOf, replyOf}
-use Rattle.pack.specs.Image.{imageOf, addressedOf, verdictOf}
+use Rattle.pack.specs.Image.{imageOf}
+use Rattle.events.specs.Verdict.{addressedOf, verdictOf}
 use Rattle.records.specs.declared.Outcome.the-variants.{Done}
 use Rattle.steps.specs.Step.{Rec, whole, cut, wholeOf, recOf, sizeOf, didOf}
 use Rattle.events.specs.Record.{knownOf, sizedOf, dueOf, eventOf, takenOf}

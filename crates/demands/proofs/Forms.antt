@@ -13,11 +13,12 @@ use Rattle.meter.specs.declared.Meter.{Meter}
 use Rattle.params.specs.Params.{rnaopOf}
 use Rattle.meter.specs.Convert.{convertOf}
 use Rattle.meter.specs.Read.{readOf}
-use Rattle.map.specs.declared.Common.{Common}
-use Rattle.map.specs.declared.Label.{Label}
-use Rattle.map.specs.declared.Held.{Held}
-use Rattle.map.specs.Registers.{inLabel, inBlock, labelByte, meterByte}
-use Rattle.map.specs.Writes.{heldOf, labelWritten, meterWritten, labelCopied, meterCopied, labelRecalled, meterRecalled, blockLocked}
+use Rattle.blocks.specs.declared.Common.{Common}
+use Rattle.blocks.specs.declared.Label.{Label}
+use Rattle.stores.specs.declared.Held.{Held}
+use Rattle.blocks.specs.Blocks.{inLabel, inBlock, labelByte, labelWritten, labelCopied, labelRecalled}
+use Rattle.map.specs.Registers.{meterByte}
+use Rattle.stores.specs.Stores.{heldOf, meterWritten, meterCopied, meterRecalled, blockLocked}
 use Rattle.bus.specs.declared.Rom.{Rom}
 use Rattle.bus.specs.declared.Rom.the-variants.{Net33, Net39, Skip, Match, Quiet}
 use Rattle.bus.specs.declared.Command.{Command}

@@ -6,9 +6,9 @@ use Prim.Native.Nat.{ℕ, _-_}
 use lib.Dec.{ltb, eqb}
 use lib.ListN.{length}
 use Rattle.numbers.specs.Choice.{pick}
-use Rattle.pack.specs.declared.Verdict.{Verdict}
-use Rattle.pack.specs.declared.Verdict.the-variants as verdict
-use Rattle.pack.specs.Image.{verdictOf}
+use Rattle.events.specs.declared.Verdict.{Verdict}
+use Rattle.events.specs.declared.Verdict.the-variants as verdict
+use Rattle.events.specs.Verdict.{verdictOf}
 use Rattle.pack.specs.Reach.{Reached, accepted, converted, read, powered, acted-on}
 use Rattle.events.specs.declared.Event.the-variants.{Image, Reading, Conversion, Transact, PowerOn}
 use Rattle.events.specs.declared.Taken.{Taken}

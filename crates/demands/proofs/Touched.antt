@@ -7,7 +7,7 @@ use native.Mathlib.Omega.{arith}
 use borrow.Author.Tests.{leb-true, leb-false, le-leb, le-ltb, not-true, eqb-true, eqb-false}
 use lib.Dec.{leb, eqb}
 use Rattle.numbers.specs.Choice.{pick, both}
-use Rattle.map.specs.Registers.{inLabel, inBlock}
+use Rattle.blocks.specs.Blocks.{inLabel, inBlock}
 use Rattle.bus.specs.declared.Command.{Command}
 use Rattle.demands.specs.Sections.{labelling, gauging, fence}
 use Rattle.demands.specs.Class.{spanOf, blockOf, someOf, allOf, outside, locks, labelsOf, touchedClass}

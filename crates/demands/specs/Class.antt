@@ -6,8 +6,8 @@ use Prim.Native.Nat.{ℕ, zero, suc, _+_}
 use lib.ListN.{length, drop}
 use lib.Dec.{leb, eqb}
 use Rattle.numbers.specs.Choice.{pick, both, either}
-use Rattle.map.specs.declared.Common.{Common}
-use Rattle.map.specs.Registers.{inLabel, inBlock}
+use Rattle.blocks.specs.declared.Common.{Common}
+use Rattle.blocks.specs.Blocks.{inLabel, inBlock}
 use Rattle.bus.specs.declared.Command.{Command}
 use Rattle.bus.specs.declared.Command.the-variants.{Read, Write, Copy, Recall, Lock, Nothing}
 use Rattle.bus.specs.declared.Transaction.{Transaction}

@@ -9,9 +9,9 @@ use borrow.Author.Tests.{eqb-true, eqb-false}
 use lib.Dec.{eqb}
 use lib.ListN.{length}
 use Rattle.numbers.specs.Choice.{pick}
-use Rattle.pack.specs.declared.Verdict.{Verdict}
-use Rattle.pack.specs.declared.Verdict.the-variants as verdict
-use Rattle.pack.specs.Image.{verdictOf, verdictNumber}
+use Rattle.events.specs.declared.Verdict.{Verdict}
+use Rattle.events.specs.declared.Verdict.the-variants as verdict
+use Rattle.events.specs.Verdict.{verdictOf, verdictNumber}
 use Rattle.events.specs.declared.Refusal.{Refusal}
 use Rattle.events.specs.declared.Refusal.the-variants as refusal
 use Rattle.events.specs.declared.Event.{Event}

@@ -9,9 +9,9 @@ use Rattle.numbers.specs.Choice.{pick, both}
 use Rattle.numbers.specs.Offset.{offset32Of}
 use Rattle.parts.specs.Parts.{quadAt}
 use Rattle.bus.specs.Ask.{askedOf}
-use Rattle.pack.specs.declared.Verdict.{Verdict}
-use Rattle.pack.specs.declared.Verdict.the-variants as verdict
-use Rattle.pack.specs.Image.{verdictOf}
+use Rattle.events.specs.declared.Verdict.{Verdict}
+use Rattle.events.specs.declared.Verdict.the-variants as verdict
+use Rattle.events.specs.Verdict.{verdictOf}
 use Rattle.events.specs.declared.Refusal.{Refusal}
 use Rattle.events.specs.declared.Refusal.the-variants.{Kind, Size, Order, Address, Locks, Count, Room}
 use Rattle.events.specs.declared.Event.{Event}

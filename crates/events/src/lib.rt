@@ -1,11 +1,19 @@
 // What a record asks: the event of a kind and a payload, or the first refusal that applies, and its number.
 use bus::Transaction;
-use pack::Verdict;
 ghost use mathlib.Core.Path.{_≡_};
 ghost use mathlib.Core.Bool.{true};
 ghost use Prim.Native.Nat.{_≤_};
 ghost use lib.ListN.{length};
+ghost use Rattle.events.specs.Verdict.{addressedOf, verdictOf};
 ghost use Rattle.events.specs.Record.{takenNumber, knownOf, sizedOf, dueOf, imageTaken, transactionOf, eventOf, takenOf};
+
+// What is said of an image: accepted, or the first refusal that applies.
+pub enum Verdict {
+    Accepted,
+    Size,
+    Address,
+    Locks,
+}
 
 // What a record is refused with.
 pub enum Refusal {
@@ -66,6 +74,31 @@ fn due(kind: u16, loaded: bool) -> bool
     loaded
 }
 
+// The address of eight bytes has the family code 3Dh and its own CRC.
+fn addressed(address: &[u8]) -> bool
+    requires { ⌜ length (now address) ≡ 8 ⌝ }
+    ensures { λ r. ⌜ r ≡ addressedOf (now (address .entry)) ⌝ }
+{
+    let c = crc::crc(&address[0..7]);
+    numbers::and(address[0] == 0x3d, address[7] == c)
+}
+
+// An image, judged by itself: whether it comes in its time is not asked here.
+pub fn judged(p: &[u8]) -> Verdict
+    ensures { λ r. ⌜ r ≡ verdictOf (now (p .entry)) ⌝ }
+{
+    if p.len() == 60 {
+        if addressed(&p[0..8]) {
+            if p[59] <= 3 {
+                return Verdict::Accepted;
+            }
+            return Verdict::Locks;
+        }
+        return Verdict::Address;
+    }
+    Verdict::Size
+}
+
 fn image_taken(v: Verdict) -> Taken
     ensures { λ r. ⌜ r ≡ imageTaken v ⌝ }
 {
@@ -96,7 +129,7 @@ fn event_of(kind: u16, p: &[u8]) -> Taken
     ensures { λ r. ⌜ r ≡ eventOf kind (now (p .entry)) ⌝ }
 {
     if kind == 1 {
-        return image_taken(pack::judged(p));
+        return image_taken(judged(p));
     }
     if kind == 2 {
         let volt = numbers::offset32(parts::quad(p, 0));

@@ -5,19 +5,12 @@ use native.Mathlib.Omega.{arith}
 use lib.Dec.{ltb}
 use borrow.Author.Tests.{eqb-false}
 use Rattle.numbers.specs.Choice.{both}
-use Rattle.numbers.proofs.Bounds.{times, picked}
+use Rattle.numbers.proofs.Bounds.{picked}
 use Rattle.charge.specs.declared.Charge.{Charge}
-use Rattle.charge.specs.Charge.{ChargeWF}
+use Rattle.charge.specs.Charge.{ChargeWF, agedFullOf, shareOf}
+use Rattle.charge.proofs.Laws.{aged-full-high, share-high}
 use Rattle.full.specs.declared.Average.{Average}
-use Rattle.full.specs.Full.{AverageWF, eighth, averagedOf, learntOf, taughtOf, agedFullOf, shareOf, filledOf, settledOf}
-
-pub aged-full-high : (full aging : ℕ) → full ≤ 16384 → aging ≤ 128 → agedFullOf full aging ≤ 16384
-unfolding agedFullOf
-aged-full-high full aging p q = omega (arith, times full aging 16384 128 p q)
-
-pub share-high : (x full40 : ℕ) → x ≤ 16384 → full40 ≤ 65535 → shareOf x full40 ≤ 65535
-unfolding shareOf
-share-high x full40 p q = omega (arith, times x full40 16384 65535 p q)
+use Rattle.full.specs.Full.{AverageWF, eighth, averagedOf, learntOf, taughtOf, filledOf, settledOf}
 
 module _ (g : Charge) (full full40 : ℕ) (w : ChargeWF g) where
   taught-low : 63 ≤ taughtOf g full full40

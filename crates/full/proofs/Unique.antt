@@ -5,8 +5,6 @@ use Rattle.full.proofs.Average.averaged
 use Rattle.full.proofs.Average.found
 use Rattle.full.proofs.Since.renewed
 use Rattle.full.proofs.Since.lowered
-use Rattle.full.proofs.aged_full
-use Rattle.full.proofs.share
 use Rattle.full.proofs.settled
 
 pub averaged-once : Once averaged.ended averaged.Reads.Pre averaged.Reads.Learnt
@@ -20,12 +18,6 @@ renewed-once κs a r r′ w w′ p h h′ = (h ∙ sym h′, refl)
 
 pub lowered-once : Once lowered.ended lowered.Reads.Pre lowered.Reads.Learnt
 lowered-once κs a r r′ w w′ p h h′ = (h ∙ sym h′, refl)
-
-pub aged-full-once : Once aged_full.ended aged_full.Reads.Pre aged_full.Reads.Learnt
-aged-full-once κs a r r′ w w′ p h h′ = (h ∙ sym h′, refl)
-
-pub share-once : Once share.ended share.Reads.Pre share.Reads.Learnt
-share-once κs a r r′ w w′ p h h′ = (h .0 ∙ sym (h′ .0), refl)
 
 pub settled-once : Once settled.ended settled.Reads.Pre settled.Reads.Learnt
 settled-once κs a r r′ w w′ p h h′ = (h ∙ sym h′, refl)

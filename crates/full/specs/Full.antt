@@ -6,7 +6,7 @@ use Rattle.numbers.specs.Offset.{zeroAt, movedInto}
 use Rattle.numbers.specs.Choice.{pick, both}
 use Rattle.params.specs.declared.Limits.{Limits}
 use Rattle.charge.specs.declared.Charge.{Charge}
-use Rattle.charge.specs.Charge.{acrOf}
+use Rattle.charge.specs.Charge.{acrOf, agedFullOf, shareOf}
 use Rattle.full.specs.declared.Average.{Average}
 use Rattle.full.specs.declared.Since.{Since}
 
@@ -59,14 +59,6 @@ learntOf acr full full40 = movedInto 63 128 (acr * 2 ^ 21 / (full * full40))
 -- that, if LEARNF and Full40 > 0
 abbrev pub taughtOf : Charge → ℕ → ℕ → ℕ
 taughtOf g full full40 = pick (both (g .learnf) (ltb 0 full40)) (learntOf (acrOf (g .count)) full full40) (g .aging)
-
--- AF = FULL × AS / 128 rounded down
-unfoldable pub agedFullOf : ℕ → ℕ → ℕ
-agedFullOf full aging = full * aging / 128
-
--- a share of Full40 in units of 2^-14, as ACR: rounded down
-unfoldable pub shareOf : ℕ → ℕ → ℕ
-shareOf share full40 = share * full40 / 16384
 
 -- ACR = AF × Full40 / 16,384 rounded down, fraction 0; LEARNF clears
 unfoldable pub filledOf : Charge → ℕ → ℕ → Charge

@@ -2,9 +2,9 @@
 use charge::Charge;
 use params::Limits;
 ghost use mathlib.Core.Path.{_≡_};
-ghost use Prim.Native.Nat.{_*_, _≤_};
+ghost use Prim.Native.Nat.{_≤_};
 ghost use Rattle.charge.specs.Charge.{ChargeWF};
-ghost use Rattle.full.specs.Full.{AverageWF, averagedOf, renewedOf, loweredOf, taperOf, foundOf, learntOf, agedFullOf, shareOf, filledOf, settledOf};
+ghost use Rattle.full.specs.Full.{AverageWF, averagedOf, renewedOf, loweredOf, taperOf, foundOf, learntOf, filledOf, settledOf};
 
 // What a current of 0 is kept as.
 const ZERO: u16 = 32768;
@@ -104,21 +104,6 @@ fn learnt(acr: u16, full: u16, full40: u16) -> u8
     numbers::moved_into(63, 128, numbers::quotient(n, d))
 }
 
-// AF, of FULL and AS.
-pub fn aged_full(full: u16, aging: u8) -> u32
-    ensures { λ r. ⌜ r ≡ agedFullOf full aging ⌝ }
-{
-    (full as u32) * (aging as u32) / 128
-}
-
-// A share of Full40 in units of 2^-14, as ACR.
-pub fn share(x: u32, full40: u16) -> u64
-    ensures { λ r. ⌜ r ≡ shareOf x full40 ⌝ }
-    ensures small { λ r. ⌜ r ≤ 4 * x ⌝ }
-{
-    (x as u64) * (full40 as u64) / 16384
-}
-
 // Step 6, where full is found.
 fn filled(g: Charge, full: u16, full40: u16) -> Charge
     requires { ⌜ ChargeWF g ⌝ }
@@ -128,7 +113,7 @@ fn filled(g: Charge, full: u16, full40: u16) -> Charge
     let acr = (g.count / 4096) as u16;
     let teach = numbers::and(g.learnf, 0 < full40);
     let aging = numbers::choose8(teach, learnt(acr, full, full40), g.aging);
-    let charge = share(aged_full(full, aging), full40) as u32;
+    let charge = charge::share(charge::aged_full(full, aging), full40) as u32;
     Charge {
         count: charge * 4096,
         age: g.age,

@@ -10,13 +10,13 @@ use Rattle.meter.specs.declared.Meter.{Meter}
 use Rattle.meter.specs.State.{poweredOf}
 use Rattle.meter.specs.Convert.{convertOf}
 use Rattle.meter.specs.Read.{readOf, drainedOf, shownOf}
-use Rattle.map.specs.declared.Common.{Common}
-use Rattle.map.specs.declared.Held.{Held}
-use Rattle.map.specs.declared.Label.{Label}
-use Rattle.map.specs.Sizes.{LabelSized, BlockSized}
-use Rattle.map.specs.Registers.{inLabel, inBlock}
-use Rattle.map.specs.Writes.{withLocks, heldOf, meterWritten, labelWritten, labelCopied, meterCopied, labelRecalled, meterRecalled, labelLocked, blockLocked, lockUsed}
-use Rattle.map.proofs.Kept.{label-written-sized, label-copied-sized, label-recalled-sized, written-sized, written-eeprom, written-lock, write-saved, copied-sized, copied-saved, recalled-sized}
+use Rattle.blocks.specs.declared.Common.{Common}
+use Rattle.stores.specs.declared.Held.{Held}
+use Rattle.blocks.specs.declared.Label.{Label}
+use Rattle.blocks.specs.Blocks.{LabelSized, inLabel, inBlock, labelWritten, labelCopied, labelRecalled, labelLocked}
+use Rattle.stores.specs.Stores.{BlockSized, withLocks, heldOf, meterWritten, meterCopied, meterRecalled, blockLocked, lockUsed}
+use Rattle.blocks.proofs.Kept.{label-written-sized, label-copied-sized, label-recalled-sized}
+use Rattle.stores.proofs.Kept.{written-sized, written-eeprom, written-lock, write-saved, copied-sized, copied-saved, recalled-sized}
 use Rattle.bus.specs.declared.Command.{Command}
 use Rattle.bus.specs.declared.Command.the-variants.{Read, Write, Copy, Recall, Lock, Nothing}
 use Rattle.bus.specs.declared.Transaction.{Transaction}

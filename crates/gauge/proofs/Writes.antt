@@ -5,10 +5,10 @@ use mathlib.Core.List.{List, [], _∷_}
 use Prim.Native.Nat.{ℕ, _+_, _-_}
 use Rattle.numbers.specs.Choice.{pick}
 use Rattle.meter.specs.declared.Meter.{Meter}
-use Rattle.map.specs.declared.Held.{Held}
-use Rattle.map.specs.declared.Label.{Label}
-use Rattle.map.specs.Registers.{inLabel}
-use Rattle.map.specs.Writes.{heldOf}
+use Rattle.stores.specs.declared.Held.{Held}
+use Rattle.blocks.specs.declared.Label.{Label}
+use Rattle.blocks.specs.Blocks.{inLabel}
+use Rattle.stores.specs.Stores.{heldOf}
 use Rattle.writes.specs.Writes.{labelAt, meterAt, labelWrites, meterWrites}
 use Rattle.gauge.specs.declared.Gauge.{Gauge}
 use Rattle.gauge.specs.Gauge.{withLabel, withMeter, writtenOf, writesOf}

@@ -8,11 +8,10 @@ use Rattle.meter.specs.declared.Meter.{Meter}
 use Rattle.meter.specs.State.{MeterWF, restartedOf}
 use Rattle.meter.specs.Convert.{convertOf}
 use Rattle.meter.specs.Read.{readOf}
-use Rattle.map.specs.declared.Held.{Held}
-use Rattle.map.specs.declared.Label.{Label}
-use Rattle.map.specs.Sizes.{LabelSized, BlockSized}
-use Rattle.map.specs.Registers.{inLabel, inBlock}
-use Rattle.map.specs.Writes.{heldOf, meterWritten, labelWritten, labelCopied, meterCopied, labelRecalled, meterRecalled, blockLocked, labelLocked, lockUsed}
+use Rattle.stores.specs.declared.Held.{Held}
+use Rattle.blocks.specs.declared.Label.{Label}
+use Rattle.blocks.specs.Blocks.{LabelSized, inLabel, inBlock, labelWritten, labelCopied, labelRecalled, labelLocked}
+use Rattle.stores.specs.Stores.{BlockSized, heldOf, meterWritten, meterCopied, meterRecalled, blockLocked, lockUsed}
 use Rattle.gauge.specs.declared.Gauge.{Gauge}
 
 -- what holds of every gauge: its meter is well-formed

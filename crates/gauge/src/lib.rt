@@ -1,8 +1,8 @@
 // The gauge: its events and what a transaction does.
+use blocks::Common;
+use blocks::Label;
 use bus::Command;
 use bus::Transaction;
-use map::Common;
-use map::Label;
 use meter::Meter;
 ghost use mathlib.Core.Path.{_≡_};
 ghost use mathlib.Core.List.{_++_};
@@ -83,11 +83,11 @@ impl Gauge {
         ensures { λ r. ⌜ r ≡ withBlockAt self a label meter ⌝ }
         ensures kept { λ r. ⌜ GaugeWF r ⌝ }
     {
-        if map::in_label(a) {
+        if blocks::in_label(a) {
             self.label = label;
             return self;
         }
-        if map::in_block(a) {
+        if blocks::in_block(a) {
             self.meter = meter;
             return self;
         }
@@ -102,7 +102,7 @@ impl Gauge {
         self.with_block(
             a,
             self.label.copied(self.common),
-            map::meter_copied(self.meter),
+            stores::meter_copied(self.meter),
         )
     }
 
@@ -111,7 +111,7 @@ impl Gauge {
         ensures { λ r. ⌜ r ≡ recalledOf self a ⌝ }
         ensures kept { λ r. ⌜ GaugeWF r ⌝ }
     {
-        self.with_block(a, self.label.recalled(), map::meter_recalled(self.meter))
+        self.with_block(a, self.label.recalled(), stores::meter_recalled(self.meter))
     }
 
     fn locked(mut self, a: usize) -> Gauge
@@ -120,15 +120,15 @@ impl Gauge {
         ensures kept { λ r. ⌜ GaugeWF r ⌝ }
     {
         if self.meter.locks.lock {
-            if map::in_label(a) {
+            if blocks::in_label(a) {
                 let common = self.common.locked();
-                let used = map::lock_used(self.meter);
+                let used = stores::lock_used(self.meter);
                 self.common = common;
                 self.meter = used;
                 return self;
             }
-            if map::in_block(a) {
-                let locked = map::block_locked(self.meter);
+            if blocks::in_block(a) {
+                let locked = stores::block_locked(self.meter);
                 self.meter = locked;
                 return self;
             }

@@ -1,5 +1,2 @@
-pub mod Addresses
-pub mod Laws
-pub mod Kept
 pub mod Meaning
 pub mod Unique

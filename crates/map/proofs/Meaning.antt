@@ -9,7 +9,7 @@ use Rattle.numbers.specs.Offset.{value, signed, joinedOf}
 use Rattle.numbers.proofs.Offset.{order, sub-eq, sub-pos, sub-neg, neg-sub, word, word-fits}
 use Rattle.meter.specs.declared.Meter.{Meter}
 use Rattle.meter.specs.State.{MeterWF}
-use Rattle.map.specs.declared.Common.{Common}
+use Rattle.blocks.specs.declared.Common.{Common}
 use Rattle.map.specs.Registers.{highOf, lowOf, wordOf, tempRegister, registersOf}
 
 -- two's complement: the register of a number kept as z + 2^15 is z

@@ -1,3 +1,1 @@
 pub mod Registers
-pub mod Writes
-pub mod Sizes

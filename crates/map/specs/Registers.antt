@@ -2,24 +2,16 @@
 use Prim.Native.Nat.{ℕ, _+_, _-_, _*_, _/_, _%_, _^_}
 use mathlib.Core.Bool.{Bool}
 use mathlib.Core.List.{List, [], _∷_}
-use lib.Dec.{ltb, leb}
+use lib.Dec.{ltb}
 use lib.ListN.{getD, set}
-use Rattle.numbers.specs.Choice.{pick, both}
+use Rattle.numbers.specs.Choice.{pick}
 use Rattle.numbers.specs.Offset.{zeroAt}
 use Rattle.reading.specs.declared.Flags.{Flags}
 use Rattle.meter.specs.declared.Locks.{Locks}
 use Rattle.meter.specs.declared.Meter.{Meter}
 use Rattle.charge.specs.Charge.{acrOf, fractionOf}
-use Rattle.map.specs.declared.Common.{Common}
-use Rattle.map.specs.declared.Label.{Label}
-
--- 20h..2Fh: block 0, the label
-unfoldable pub inLabel : ℕ → Bool
-inLabel a = both (leb 0x20 a) (ltb a 0x30)
-
--- 60h..7Fh: block 1, the parameters
-unfoldable pub inBlock : ℕ → Bool
-inBlock a = both (leb 0x60 a) (ltb a 0x80)
+use Rattle.blocks.specs.declared.Common.{Common}
+use Rattle.blocks.specs.Blocks.{inBlock}
 
 abbrev pub highOf : ℕ → ℕ
 highOf x = x / 256
@@ -82,10 +74,6 @@ registersOf k m =
     ∷ 0xff ∷ 0xff ∷ 0xff
     ∷ eepromOf k (m .locks)
     ∷ []
-
--- the byte at an address of the label
-unfoldable pub labelByte : Label → ℕ → ℕ
-labelByte l a = getD (l .shadow) (a - 0x20) 0
 
 -- the byte at any other address: a register, a parameter, or FFh where there is nothing, past FFh too
 unfoldable pub meterByte : Common → Meter → ℕ → ℕ

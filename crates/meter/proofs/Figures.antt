@@ -8,8 +8,8 @@ use lib.ListN.{set}
 use Rattle.numbers.specs.Offset.{zeroAt}
 use Rattle.params.specs.Params.{countingOf, limitsOf, capacityOf, curvesOf}
 use Rattle.charge.specs.declared.Charge.{Charge}
-use Rattle.charge.specs.Charge.{acrOf, fractionOf, tracedOf, countedOf}
-use Rattle.full.specs.Full.{averagedOf, renewedOf, foundOf, learntOf, agedFullOf, shareOf, filledOf, settledOf, loweredOf}
+use Rattle.charge.specs.Charge.{acrOf, fractionOf, tracedOf, countedOf, agedFullOf, shareOf}
+use Rattle.full.specs.Full.{averagedOf, renewedOf, foundOf, learntOf, filledOf, settledOf, loweredOf}
 use Rattle.model.specs.Model.{slopeOf, slopesOver, linesOf}
 use Rattle.reading.specs.Reading.{degreesOf, drainingOf, pointOf, emptiedOf, leftOf, spanOf, percentOf, amountOf, resultsOf, ratedOf, flagsOf, keptOf, seenOf}
 use Rattle.meter.specs.declared.Meter.{Meter}

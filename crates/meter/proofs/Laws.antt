@@ -5,8 +5,8 @@ use Rattle.params.specs.declared.Curves.{Curves}
 use Rattle.params.specs.declared.Limits.{Limits}
 use Rattle.params.specs.Params.{countingOf, limitsOf, capacityOf, curvesOf}
 use Rattle.charge.specs.Charge.{ChargeWF}
-use Rattle.charge.proofs.Laws.{counted-wf}
-use Rattle.full.proofs.Laws.{share-high, settled-wf, averaged-wf}
+use Rattle.charge.proofs.Laws.{counted-wf, share-high}
+use Rattle.full.proofs.Laws.{settled-wf, averaged-wf}
 use Rattle.reading.specs.declared.Saved.{Saved}
 use Rattle.reading.specs.Reading.{pointOf, seenOf}
 use Rattle.reading.proofs.Laws.{emptied-wf, seen-full, seen-ae, seen-volt, seen-temp}

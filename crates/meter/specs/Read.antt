@@ -4,7 +4,8 @@ use mathlib.Core.Bool.{true}
 use Rattle.params.specs.declared.Limits.{Limits}
 use Rattle.params.specs.Params.{limitsOf, capacityOf, curvesOf}
 use Rattle.charge.specs.declared.Charge.{Charge}
-use Rattle.full.specs.Full.{shareOf, loweredOf}
+use Rattle.charge.specs.Charge.{shareOf}
+use Rattle.full.specs.Full.{loweredOf}
 use Rattle.reading.specs.declared.Results.{Results}
 use Rattle.reading.specs.declared.Seen.{Seen}
 use Rattle.reading.specs.Reading.{pointOf, emptiedOf, ratedOf, flagsOf, savesOf, keptOf, seenOf}

@@ -75,7 +75,7 @@ impl Meter {
         requires { ⌜ s .lines .ae ≤ 8191 ⌝ }
         ensures { λ r. ⌜ r ≡ drainedOf self p full40 s ⌝ }
     {
-        let e = full::share(s.lines.ae as u32, full40) as u16;
+        let e = charge::share(s.lines.ae as u32, full40) as u16;
         let point = self.reading.point(self.trace, p);
         reading::emptied(self.charge, s.low, point, e)
     }

@@ -11,11 +11,12 @@ use borrow.Author.Tests.{eq-eqb}
 use Rattle.parts.specs.Parts.{part, put, pairAt}
 use Rattle.parts.proofs.Laws.{put-next, put-front}
 use Rattle.meter.specs.State.{poweredOf}
-use Rattle.map.specs.Writes.{labelRecalled}
+use Rattle.blocks.specs.Blocks.{labelRecalled}
 use Rattle.gauge.specs.declared.Gauge.{Gauge}
-use Rattle.pack.specs.declared.Verdict.the-variants.{Accepted}
+use Rattle.events.specs.declared.Verdict.the-variants.{Accepted}
+use Rattle.events.specs.Verdict.{addressedOf, verdictOf}
 use Rattle.gauge.specs.Gauge.{Sized, powerOnOf}
-use Rattle.pack.specs.Image.{addressedOf, verdictOf, imageOf, lockByte, tailOf, bytesOf}
+use Rattle.pack.specs.Image.{imageOf, lockByte, tailOf, bytesOf}
 
 -- ---- four parts of 8, 16, 32 and 4 bytes
 

@@ -16,8 +16,9 @@ use Rattle.gauge.specs.declared.Gauge.{Gauge}
 use Rattle.gauge.specs.Gauge.{Sized, powerOnOf}
 use Rattle.gauge.specs.Kept.{Kept}
 use Rattle.gauge.proofs.Kept.{address-kept, sized-kept}
-use Rattle.pack.specs.declared.Verdict.the-variants.{Accepted, Size, Address, Locks as BadLocks}
-use Rattle.pack.specs.Image.{addressedOf, lockableOf, verdictOf, imageOf, bytesOf}
+use Rattle.events.specs.declared.Verdict.the-variants.{Accepted, Size, Address, Locks as BadLocks}
+use Rattle.events.specs.Verdict.{addressedOf, lockableOf, verdictOf}
+use Rattle.pack.specs.Image.{imageOf, bytesOf}
 use Rattle.pack.specs.Reach.{Reached}
 use Rattle.pack.specs.Reach.Reached.{accepted, converted, read, powered, acted-on}
 use Rattle.pack.proofs.Image.{round-trip, image-accepted}

@@ -1,12 +1,8 @@
 -- The contracts of this crate's public functions leave no choice. Assumes nothing.
 use mathlib.Core.Path.{refl, sym, _∙_}
 use Rattle.once.specs.Once.{Once}
-use Rattle.pack.proofs.judged
 use Rattle.pack.proofs.image_in
 use Rattle.pack.proofs.image_out
-
-pub judged-once : Once judged.ended judged.Reads.Pre judged.Reads.Learnt
-judged-once κs a r r′ w w′ p h h′ = (h ∙ sym h′, refl)
 
 pub image-in-once : Once image_in.ended image_in.Reads.Pre image_in.Reads.Learnt
 image-in-once κs a r r′ w w′ p h h′ = (h .0 ∙ sym (h′ .0), refl)

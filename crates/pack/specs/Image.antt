@@ -5,37 +5,13 @@ use mathlib.Core.List.{List, [], _∷_, _++_}
 use Prim.Native.Nat.{ℕ, _+_, _/_, _%_}
 use lib.Dec.{leb, eqb}
 use lib.ListN.{length, getD, drop}
-use Rattle.numbers.specs.Choice.{pick, both}
 use Rattle.parts.specs.Parts.{part, pairAt}
-use Rattle.crc.specs.Crc.{crcOf}
 use Rattle.reading.specs.declared.Saved.{Saved}
 use Rattle.meter.specs.State.{poweredOf}
 use Rattle.map.specs.Registers.{bitOf}
 use Rattle.gauge.specs.declared.Gauge.{Gauge}
-use Rattle.pack.specs.declared.Verdict.{Verdict}
-use Rattle.pack.specs.declared.Verdict.the-variants.{Accepted, Size, Address, Locks}
 
 -- ---- in
-
--- first address byte 3Dh, and the eighth the CRC of the first seven
-unfoldable pub addressedOf : List ℕ → Bool
-addressedOf address = both (eqb (getD address 0 0) 0x3d) (eqb (getD address 7 0) (crcOf (part 7 address 0)))
-
--- lock byte not above 3
-abbrev pub lockableOf : List ℕ → Bool
-lockableOf p = leb (getD p 59 0) 3
-
--- the first refusal that applies, in the order of checking
-unfoldable pub verdictOf : List ℕ → Verdict
-verdictOf p =
-    pick (eqb (length p) 60) (pick (addressedOf (part 8 p 0)) (pick (lockableOf p) Accepted Locks) Address) Size
-
--- its answer number
-abbrev pub verdictNumber : Verdict → ℕ
-verdictNumber Accepted = 0
-verdictNumber Size = 4
-verdictNumber Address = 6
-verdictNumber Locks = 7
 
 -- the saved ACR is little-endian
 abbrev pub savedOf : List ℕ → Saved

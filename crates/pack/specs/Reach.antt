@@ -6,8 +6,9 @@ use Rattle.bus.specs.declared.Transaction.{Transaction}
 use Rattle.gauge.specs.declared.Gauge.{Gauge}
 use Rattle.gauge.specs.Gauge.{conversionOf, readingOf, powerOnOf}
 use Rattle.gauge.specs.Act.{actOf}
-use Rattle.pack.specs.declared.Verdict.the-variants.{Accepted}
-use Rattle.pack.specs.Image.{verdictOf, imageOf}
+use Rattle.events.specs.declared.Verdict.the-variants.{Accepted}
+use Rattle.events.specs.Verdict.{verdictOf}
+use Rattle.pack.specs.Image.{imageOf}
 
 pub data Reached : Gauge → Type 0 where
   accepted : (p : List ℕ) → verdictOf p ≡ Accepted → Reached (imageOf p)

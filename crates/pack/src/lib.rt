@@ -1,7 +1,7 @@
-// The pack image: judged, read into a gauge, and written out of one.
+// The pack image: read into a gauge, and written out of one.
+use blocks::Common;
+use blocks::Label;
 use gauge::Gauge;
-use map::Common;
-use map::Label;
 use meter::Block;
 use meter::Locks;
 use meter::Meter;
@@ -9,42 +9,9 @@ use reading::Saved;
 ghost use mathlib.Core.Path.{_≡_};
 ghost use lib.ListN.{length};
 ghost use Rattle.gauge.specs.Gauge.{GaugeWF};
-ghost use Rattle.pack.specs.Image.{addressedOf, verdictOf, imageOf, lockByte, cellsOf, tailOf, ImageOut};
-
-// What is said of an image: accepted, or the first refusal that applies.
-pub enum Verdict {
-    Accepted,
-    Size,
-    Address,
-    Locks,
-}
+ghost use Rattle.pack.specs.Image.{imageOf, lockByte, cellsOf, tailOf, ImageOut};
 
 // ---- in
-
-// The address of eight bytes has the family code 3Dh and its own CRC.
-fn addressed(address: &[u8]) -> bool
-    requires { ⌜ length (now address) ≡ 8 ⌝ }
-    ensures { λ r. ⌜ r ≡ addressedOf (now (address .entry)) ⌝ }
-{
-    let c = crc::crc(&address[0..7]);
-    numbers::and(address[0] == 0x3d, address[7] == c)
-}
-
-// An image, judged by itself: whether it comes in its time is not asked here.
-pub fn judged(p: &[u8]) -> Verdict
-    ensures { λ r. ⌜ r ≡ verdictOf (now (p .entry)) ⌝ }
-{
-    if p.len() == 60 {
-        if addressed(&p[0..8]) {
-            if p[59] <= 3 {
-                return Verdict::Accepted;
-            }
-            return Verdict::Locks;
-        }
-        return Verdict::Address;
-    }
-    Verdict::Size
-}
 
 // The gauge that the 60 bytes of an image power on to.
 pub fn image_in(p: &[u8]) -> Gauge

@@ -9,8 +9,7 @@ use Rattle.params.specs.declared.Limits.{Limits}
 use Rattle.params.specs.declared.Capacity.{Capacity}
 use Rattle.charge.specs.declared.Charge.{Charge}
 use Rattle.charge.specs.declared.Trace.{Trace}
-use Rattle.charge.specs.Charge.{acrOf}
-use Rattle.full.specs.Full.{agedFullOf}
+use Rattle.charge.specs.Charge.{acrOf, agedFullOf}
 use Rattle.model.specs.declared.Model.{Model}
 use Rattle.model.specs.Model.{linesOf}
 use Rattle.reading.specs.declared.Results.{Results}

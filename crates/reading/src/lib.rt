@@ -164,7 +164,7 @@ pub fn rated(g: Charge, lines: Model, p: Capacity) -> Results
     ensures { λ r. ⌜ r ≡ ratedOf g lines p ⌝ }
 {
     let acr = (g.count / 4096) as u16;
-    let af = full::aged_full(lines.full, g.aging) as u16;
+    let af = charge::aged_full(lines.full, g.aging) as u16;
     results_of(lines, acr, af, p)
 }
 

@@ -6,9 +6,10 @@ use lib.Dec.{ltb}
 use borrow.Author.Tests.{ltb-true, lt-leb}
 use Rattle.numbers.specs.Choice.{pick}
 use Rattle.meter.specs.declared.Meter.{Meter}
-use Rattle.map.specs.declared.Common.{Common}
-use Rattle.map.specs.declared.Label.{Label}
-use Rattle.map.specs.Registers.{inLabel, registersOf, labelByte, meterByte}
+use Rattle.blocks.specs.declared.Common.{Common}
+use Rattle.blocks.specs.declared.Label.{Label}
+use Rattle.blocks.specs.Blocks.{inLabel, labelByte}
+use Rattle.map.specs.Registers.{registersOf, meterByte}
 use Rattle.replies.specs.Reply.{byteOf}
 use Rattle.replies.specs.View.{viewByte}
 

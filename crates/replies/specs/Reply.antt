@@ -7,9 +7,10 @@ use lib.ListN.{getD}
 use Rattle.numbers.specs.Choice.{pick}
 use Rattle.meter.specs.declared.Meter.{Meter}
 use Rattle.params.specs.Params.{rnaopOf}
-use Rattle.map.specs.declared.Common.{Common}
-use Rattle.map.specs.declared.Label.{Label}
-use Rattle.map.specs.Registers.{inLabel, labelByte, meterByte}
+use Rattle.blocks.specs.declared.Common.{Common}
+use Rattle.blocks.specs.declared.Label.{Label}
+use Rattle.blocks.specs.Blocks.{inLabel, labelByte}
+use Rattle.map.specs.Registers.{meterByte}
 use Rattle.bus.specs.declared.Rom.{Rom}
 use Rattle.bus.specs.declared.Rom.the-variants.{Net33, Net39, Skip, Match, Quiet}
 use Rattle.bus.specs.declared.Command.{Command}

@@ -5,7 +5,7 @@ use mathlib.Core.List.{List}
 use lib.Dec.{ltb}
 use lib.ListN.{getD}
 use Rattle.numbers.specs.Choice.{pick}
-use Rattle.map.specs.Registers.{inLabel, inBlock}
+use Rattle.blocks.specs.Blocks.{inLabel, inBlock}
 
 -- 00h to 1Fh, the label's shadow and that of block 1
 unfoldable pub viewByte : List ℕ → List ℕ → List ℕ → ℕ → ℕ

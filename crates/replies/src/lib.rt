@@ -1,9 +1,9 @@
 // Whom a transaction selects, and the bytes that it is answered with.
+use blocks::Common;
+use blocks::Label;
 use bus::Command;
 use bus::Rom;
 use bus::Transaction;
-use map::Common;
-use map::Label;
 use meter::Meter;
 ghost use mathlib.Core.Path.{_≡_};
 ghost use mathlib.Core.List.{_++_};
@@ -98,11 +98,11 @@ fn view_byte(registers: &[u8; 32], label: &[u8; 16], block: &[u8; 32], a: usize)
     if a < 0x20 {
         return registers[a];
     }
-    if map::in_label(a) {
+    if blocks::in_label(a) {
         let i = a - 0x20;
         return label[i];
     }
-    if map::in_block(a) {
+    if blocks::in_block(a) {
         let i = a - 0x60;
         return block[i];
     }

@@ -9,9 +9,9 @@ use lib.ListN.{length, length-drop, drop}
 use borrow.Author.Tests.{leb-true, le-leb, lt-ltb}
 use Rattle.numbers.specs.Choice.{both}
 use Rattle.meter.specs.declared.Meter.{Meter}
-use Rattle.map.specs.declared.Held.{Held}
-use Rattle.map.specs.Registers.{inLabel}
-use Rattle.map.specs.Writes.{heldOf}
+use Rattle.stores.specs.declared.Held.{Held}
+use Rattle.blocks.specs.Blocks.{inLabel}
+use Rattle.stores.specs.Stores.{heldOf}
 use Rattle.writes.specs.Writes.{meterAt, meterWrites}
 
 in-label-between : (a : ℕ) → 0x20 ≤ a → a < 0x30 → inLabel a ≡ true

@@ -4,11 +4,11 @@ use mathlib.Core.Bool.{false}
 use mathlib.Core.List.{List, [], _∷_}
 use Rattle.numbers.specs.Choice.{pick}
 use Rattle.meter.specs.declared.Meter.{Meter}
-use Rattle.map.specs.declared.Common.{Common}
-use Rattle.map.specs.declared.Held.{Held}
-use Rattle.map.specs.declared.Label.{Label}
-use Rattle.map.specs.Registers.{inLabel}
-use Rattle.map.specs.Writes.{heldOf, meterWritten, labelWritten}
+use Rattle.blocks.specs.declared.Common.{Common}
+use Rattle.stores.specs.declared.Held.{Held}
+use Rattle.blocks.specs.declared.Label.{Label}
+use Rattle.blocks.specs.Blocks.{inLabel, labelWritten}
+use Rattle.stores.specs.Stores.{heldOf, meterWritten}
 
 -- nothing is held where a transaction starts
 abbrev pub noneHeld : Held

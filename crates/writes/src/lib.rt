@@ -1,8 +1,8 @@
 // What the bytes of a write do to the label and to the meter, each found from its own part alone.
-use map::Common;
-use map::Held;
-use map::Label;
+use blocks::Common;
+use blocks::Label;
 use meter::Meter;
+use stores::Held;
 ghost use mathlib.Core.Path.{_≡_};
 ghost use Prim.Native.Nat.{_<_};
 ghost use lib.ListN.{drop};
@@ -13,7 +13,7 @@ ghost use Rattle.writes.specs.Writes.{labelAt, meterAt, noneHeld, labelW
 fn label_byte(k: Common, l: Label, a: usize, b: u8) -> Label
     ensures { λ r. ⌜ r ≡ labelAt k l a b ⌝ }
 {
-    if map::in_label(a) {
+    if blocks::in_label(a) {
         return l.written(k, a, b);
     }
     l
@@ -25,10 +25,10 @@ fn meter_byte(h: Held, m: Meter, a: usize, b: u8) -> Meter
     ensures { λ r. ⌜ r ≡ meterAt h m a b ⌝ }
     ensures kept { λ r. ⌜ MeterWF r ⌝ }
 {
-    if map::in_label(a) {
+    if blocks::in_label(a) {
         return m;
     }
-    map::meter_written(h, m, a, b)
+    stores::meter_written(h, m, a, b)
 }
 
 // What the master bytes from `from` on, written from the address a upward, make of the label. Each part has a loop of its own, so that no
@@ -66,7 +66,7 @@ pub fn meter_writes(meter: Meter, a: usize, master: &[u8], from: usize) -> Meter
     while i < master.len() {
         let b = master[i];
         m = meter_byte(h, m, x, b);
-        h = map::held_after(h, x, b);
+        h = stores::held_after(h, x, b);
         x += 1;
         i += 1;
     }

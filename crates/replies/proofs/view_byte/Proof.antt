@@ -1,7 +1,7 @@
 use mathlib.Core.Path.{sym, _∙_}
 use native.Mathlib.Omega.{arith}
 use borrow.Author.Tests.{lt-ltb, le-ltb}
-use Rattle.map.proofs.Addresses.{in-label-high, in-block-low, in-block-high}
+use Rattle.blocks.proofs.Addresses.{in-label-high, in-block-low, in-block-high}
 use Rattle.replies.specs.View.{viewByte}
 use borrow.Author.Needs.{needs}
 use Rattle.replies.proofs.view_byte.Statement.{statement}

@@ -7,8 +7,8 @@ use native.Mathlib.Omega.{arith}
 use lib.ListN.{length, getD, drop, drop-of-length-le}
 use lib.Seq.{drop-cons}
 use denote.Ref.{now}
-use Rattle.map.specs.declared.Common.{Common}
-use Rattle.map.specs.declared.Label.{Label}
+use Rattle.blocks.specs.declared.Common.{Common}
+use Rattle.blocks.specs.declared.Label.{Label}
 use Rattle.writes.specs.Writes.{labelAt, labelWrites}
 use borrow.Author.Needs.{needs}
 use Rattle.writes.proofs.label_writes.Statement.{statement}

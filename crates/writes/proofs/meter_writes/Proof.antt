@@ -9,8 +9,8 @@ use lib.Seq.{drop-cons}
 use denote.Ref.{now}
 use Rattle.meter.specs.declared.Meter.{Meter}
 use Rattle.meter.specs.State.{MeterWF}
-use Rattle.map.specs.declared.Held.{Held}
-use Rattle.map.specs.Writes.{heldOf}
+use Rattle.stores.specs.declared.Held.{Held}
+use Rattle.stores.specs.Stores.{heldOf}
 use Rattle.writes.specs.Writes.{meterAt, meterWrites}
 use borrow.Author.Needs.{needs}
 use Rattle.writes.proofs.meter_writes.Statement.{statement}

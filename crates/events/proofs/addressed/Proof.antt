@@ -1,0 +1,21 @@
+use Rattle.events.specs.Verdict.{addressedOf}
+use borrow.Author.Needs.{needs}
+use Rattle.events.proofs.addressed.Statement.{statement}
+use Rattle.events.proofs.addressed.Tie as tie
+
+returns : tie.Need-returns
+unfolding addressedOf
+returns c = simp (c .and .ensures, c .before .before .before .crc .ensures)
+
+pub addressed-spec : {M : Type 1} → statement M
+addressed-spec =
+    tie.close
+    (tie.spec
+    (λ c. search needs)
+    (λ c. search needs)
+    (λ c. search needs)
+    (λ c κs. search needs)
+    (λ c. search needs)
+    (λ c. search needs)
+    (λ c κs. search needs)
+    returns)
