@@ -11,7 +11,7 @@ use lib.ListN.{length, getD, take, drop, length-append}
 use lib.Seq.{drop-cons, take-at}
 use lib.Dec.{ltb, eqb}
 use Rattle.numbers.specs.Choice.{both}
-use Rattle.numbers.proofs.Bounds.{picked}
+use Rattle.numbers.proofs.Bounds.{picked, both-true}
 use Rattle.bus.specs.declared.Rom.{Rom}
 use Rattle.bus.specs.declared.Rom.the-variants.{Net33, Net39, Skip, Match, Quiet}
 use Rattle.bus.specs.declared.Transaction.{Transaction}
@@ -22,10 +22,6 @@ use Rattle.bus.specs.Ask.{romOf, commandOf, plainOf, askedAt, askedBy, a
 pub equal-same : (a : List ℕ) → sameBytes a a ≡ true
 equal-same [] = refl
 equal-same (x ∷ xs) = simp (eq-eqb x x refl) (equal-same xs)
-
-both-true : (s t : Bool) → both s t ≡ true → (s ≡ true) × (t ≡ true)
-both-true true t e = (refl, e)
-both-true false t e = (e, cc)
 
 never : false ≡ true → ⊥
 never e = let z : _≡_ {A = ℕ} 0 1 = cc in omega arith

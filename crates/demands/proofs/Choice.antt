@@ -9,10 +9,6 @@ use Rattle.numbers.specs.Choice.{pick, both}
 pub contrary : {A : Type 0} → _≡_ {A = ℕ} 0 1 → A
 contrary z = absurd (omega arith)
 
-pub both-true : (s t : Bool) → both s t ≡ true → (s ≡ true) × (t ≡ true)
-both-true true t e = (refl, e)
-both-true false t e = contrary cc
-
 pub both-false : (t : Bool) → both t false ≡ false
 both-false true = refl
 both-false false = refl

@@ -11,7 +11,8 @@ use Rattle.blocks.specs.Blocks.{inLabel, inBlock}
 use Rattle.bus.specs.declared.Command.{Command}
 use Rattle.demands.specs.Sections.{labelling, gauging, fence}
 use Rattle.demands.specs.Class.{spanOf, blockOf, someOf, allOf, outside, locks, labelsOf, touchedClass}
-use Rattle.demands.proofs.Choice.{contrary, both-true, both-false}
+use Rattle.numbers.proofs.Bounds.{both-true}
+use Rattle.demands.proofs.Choice.{contrary, both-false}
 
 -- Classes
 

@@ -1,15 +1,11 @@
 -- What the size of a payload says, kind by kind. Assumes nothing.
-use mathlib.Core.Path.{_≡_, refl}
-use mathlib.Core.Bool.{Bool, true, false}
+use mathlib.Core.Path.{_≡_}
+use mathlib.Core.Bool.{true}
 use Prim.Native.Nat.{ℕ, _≤_}
 use lib.Dec.{leb}
 use borrow.Author.Tests.{eq-eqb, ne-eqb, eqb-true, leb-true}
-use Rattle.numbers.specs.Choice.{both}
+use Rattle.numbers.proofs.Bounds.{both-true}
 use Rattle.events.specs.Record.{sizedOf}
-
-both-left : (a b : Bool) → both a b ≡ true → a ≡ true
-both-left true b e = refl
-both-left false b e = e
 
 module _ {kind n : ℕ} (e : sizedOf kind n ≡ true) where
   pub size-1 : kind ≡ 1 → n ≡ 60
@@ -29,4 +25,4 @@ module _ {kind n : ℕ} (e : sizedOf kind n ≡ true) where
       pub size-4 : (kind ≡ 3 → ⊥) → kind ≡ 4 → 1 ≤ n
       unfolding sizedOf
       size-4 not-3 h =
-          leb-true 1 n (both-left (leb 1 n) (leb n 65) (rw (ne-eqb kind 1 not-1, ne-eqb kind 2 not-2, ne-eqb kind 3 not-3, eq-eqb kind 4 h) at e))
+          leb-true 1 n (both-true (leb 1 n) (leb n 65) (rw (ne-eqb kind 1 not-1, ne-eqb kind 2 not-2, ne-eqb kind 3 not-3, eq-eqb kind 4 h) at e) .0)

@@ -1,9 +1,9 @@
--- Bounds of products, and what holds of the one that a test picks. Assumes nothing.
+-- Bounds of products, what holds of the one that a test picks, and tests that hold together. Assumes nothing.
 use mathlib.Core.Path.{_≡_, refl, sym, subst}
 use mathlib.Core.Bool.{Bool, true, false}
 use Prim.Native.Nat.{ℕ, _*_, _≤_}
 use native.Mathlib.Nat.{mul-le-mul}
-use Rattle.numbers.specs.Choice.{pick}
+use Rattle.numbers.specs.Choice.{pick, both}
 
 pub times : (a b m n : ℕ) → a ≤ m → b ≤ n → a * b ≤ m * n
 times a b m n p q = mul-le-mul p q
@@ -21,3 +21,8 @@ picked P false a b f g = g refl
 pub through : {A B : Type 0} (f : A → B) (t : Bool) (a b : A) → f (pick t a b) ≡ pick t (f a) (f b)
 through f true a b = refl
 through f false a b = refl
+
+-- where both tests hold, each does
+pub both-true : (s t : Bool) → both s t ≡ true → (s ≡ true) × (t ≡ true)
+both-true true t e = (refl, e)
+both-true false t e = (e, cc)

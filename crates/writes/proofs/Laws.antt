@@ -1,6 +1,6 @@
 -- Bytes of the label leave the meter. Assumes nothing.
 use mathlib.Core.Path.{_≡_, refl}
-use mathlib.Core.Bool.{Bool, true, false}
+use mathlib.Core.Bool.{true}
 use mathlib.Core.List.{List, [], _∷_}
 use Prim.Native.Nat.{ℕ, _+_, _-_, _≤_, _<_}
 use native.Mathlib.Omega.{arith}
@@ -8,6 +8,7 @@ use lib.Dec.{leb}
 use lib.ListN.{length, length-drop, drop}
 use borrow.Author.Tests.{leb-true, le-leb, lt-ltb}
 use Rattle.numbers.specs.Choice.{both}
+use Rattle.numbers.proofs.Bounds.{both-true}
 use Rattle.meter.specs.declared.Meter.{Meter}
 use Rattle.stores.specs.declared.Held.{Held}
 use Rattle.blocks.specs.Blocks.{inLabel}
@@ -25,10 +26,6 @@ label-bytes h m a [] low high = refl
 label-bytes h m a (b ∷ bytes) low high =
     rw (in-label-between a low (omega (arith, high)))
     (label-bytes (heldOf h a b) m (a + 1) bytes (omega (arith, low)) (omega (arith, high)))
-
-both-true : (t u : Bool) → both t u ≡ true → (t ≡ true) × (u ≡ true)
-both-true true u e = (refl, e)
-both-true false u e = (e, cc)
 
 -- as the code asks for it
 pub label-only : (h : Held) (m : Meter) (a from : ℕ) (s : List ℕ) →
