@@ -3,18 +3,18 @@
 use mathlib.Core.Path.{_≡_, refl, ap}
 use mathlib.Core.Bool.{true}
 use mathlib.Core.List.{List, [], _∷_, zip, zipWith}
-use Prim.Native.Nat.{ℕ, zero, suc, _+_, _-_, _≤_}
+use Prim.Native.Nat.{ℕ, _-_, _≤_}
 use native.Mathlib.Omega.{arith}
 use borrow.Author.Tests.{le-ltb}
 use lib.ListN.{length}
 use Rattle.gauge.specs.declared.Gauge.{Gauge}
-use Rattle.replies.specs.Reply.{listed}
+use Rattle.replies.proofs.Listed.{listed-length}
 use Rattle.gauge.specs.Act.{replyOf}
 use Rattle.events.specs.declared.Event.the-variants.{Image, Reading, Conversion, Transact, PowerOn}
 use Rattle.events.specs.declared.Taken.{Taken}
 use Rattle.events.specs.declared.Taken.the-variants.{Run, Refused}
 use Rattle.steps.specs.Step.{Rec, whole, cut, loadedWith, takenDid, didOf}
-use Rattle.events.specs.Record.{masterOf, takenOf}
+use Rattle.events.specs.Record.{takenOf}
 use Rattle.records.specs.Run.{Line, lineOf, linesOf, endOf}
 use Rattle.demands.specs.Demand3.{takenAsks, asksOf, asksAll}
 use Rattle.demands.proofs.Mix.{endFrom, gotFrom}
@@ -36,17 +36,13 @@ unfolding didOf
 did-room g room (whole kind p) h = taken-room g room p (takenOf kind true p) h
 did-room g room cut h = refl
 
-length-listed : (f : ℕ → ℕ) (i n : ℕ) → length (listed f i n) ≡ n
-length-listed f i zero = refl
-length-listed f i (suc n) = ap suc (length-listed f (i + 1) n)
-
 taken-reply : (g : Gauge) (p : List ℕ) (t : Taken) → length (takenDid (loadedWith g) (takenAsks t) p t .reply) ≡ takenAsks t
 unfolding replyOf
 taken-reply g p (Run Image) = refl
 taken-reply g p (Run (Reading volt temp)) = refl
 taken-reply g p (Run (Conversion raw)) = refl
 taken-reply g p (Run (Transact t)) =
-    rw (le-ltb (t .count) (t .count) (omega arith)) (length-listed _ 0 (t .count))
+    rw (le-ltb (t .count) (t .count) (omega arith)) (listed-length _ 0 (t .count))
 taken-reply g p (Run PowerOn) = refl
 taken-reply g p (Refused r) = refl
 

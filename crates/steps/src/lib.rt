@@ -32,7 +32,7 @@ pub struct Stepped {
     pub replied: u16,
 }
 
-fn quiet(g: Gauge) -> Applied
+fn done(g: Gauge) -> Applied
     ensures { λ r. ⌜ r ≡ appliedOf (loadedWith g) 0 ⌝ }
 {
     Applied {
@@ -78,11 +78,11 @@ fn apply(s: Session, e: Event, p: &[u8], room: &mut [u8]) -> Applied
 {
     let g = s.gauge;
     match e {
-        Event::Image => quiet(pack::image_in(p)),
-        Event::Reading(volt, temp) => quiet(g.read(volt, temp)),
-        Event::Conversion(raw) => quiet(g.convert(raw)),
+        Event::Image => done(pack::image_in(p)),
+        Event::Reading(volt, temp) => done(g.read(volt, temp)),
+        Event::Conversion(raw) => done(g.convert(raw)),
         Event::Transact(t) => transacted(s, t, p, room),
-        Event::PowerOn => quiet(g.power_on()),
+        Event::PowerOn => done(g.power_on()),
     }
 }
 
