@@ -1,0 +1,191 @@
+"""What sessions are made of: records, images, transactions, and a session under construction; and the lists into which scenes enter themselves.
+
+A scene is a function that adds records to a session; a profile is one that makes a whole session. A file of scenes/ enters its own by
+`@scene(walk=2)`, twice among those that the profile `walk` plays, and `@profile(turns=2)`, two of the sessions of each round of seeds.
+"""
+
+SESSION_LIMIT = 32768
+REPLY_ROOM = 65536
+IMAGE, READING, CONVERSION, TRANSACTION, POWER_ON = 1, 2, 3, 4, 5
+READ, WRITE, COPY, RECALL, LOCK = 0x69, 0x6C, 0x48, 0xB8, 0x6A
+
+# The kinds below 256 that are meant as unknown. A request that gives a number a meaning takes it out of here, and nowhere else.
+UNKNOWN = [0, 6, 7, 8, 9, 18, 19, 20, 21, 22, 99]
+HIGH_UNKNOWN = [0x0100, 0x0101, 0x0501, 0xFFFF]
+
+# Table 3 of the DS2781 sheet.
+CONTROL, AB, AC, VCHG, IMIN, VAE, IAE, EMPTY_40 = 0x60, 0x61, 0x62, 0x64, 0x65, 0x66, 0x67, 0x68
+RSNSP, FULL_40, FULL_SLOPES, AE_SLOPES, SE_SLOPES, COB, TBP34 = 0x69, 0x6A, 0x6C, 0x70, 0x74, 0x7B, 0x7C
+
+# Where the map changes its manners.
+EDGES = [0x00, 0x01, 0x02, 0x0E, 0x0F, 0x10, 0x11, 0x12, 0x13, 0x14, 0x15, 0x16, 0x1B, 0x1C, 0x1E, 0x1F, 0x20, 0x21, 0x2E,
+         0x2F, 0x30, 0x5F, 0x60, 0x61, 0x7B, 0x7E, 0x7F, 0x80, 0xB0, 0xB1, 0xC0, 0xFE, 0xFF]
+
+FINISH_BYTES = 64  # what finish() needs at most
+
+
+
+def crc(data):
+    total = 0
+    for value in data:
+        total ^= value
+        for _ in range(8):
+            total = total >> 1 ^ (0x8C if total & 1 else 0)
+    return total
+
+
+def signed(value):
+    return value - 256 if value >= 128 else value
+
+
+def little(value, size):
+    return (value % 256 ** size).to_bytes(size, "little")
+
+
+def record(kind, payload):
+    return little(len(payload), 2) + little(kind, 2) + bytes(payload)
+
+
+class Session:
+    """The bytes of a session as they grow."""
+
+    def __init__(self, chance):
+        self.chance = chance
+        self.records = bytearray()
+        self.room = REPLY_ROOM  # what is left if every transaction so far was accepted
+        self.address = self.new_address()
+        self.block_0 = bytearray(chance.randbytes(16))
+        self.block_1 = bytearray(32)
+        self.run = 0  # conversions since power-on, modulo eight
+
+    def new_address(self):
+        serial = bytes([0x3D]) + self.chance.randbytes(6)
+        return serial + bytes([crc(serial)])
+
+    def parameter(self, address, size=1):
+        return int.from_bytes(self.block_1[address - 0x60:address - 0x60 + size], "big")
+
+    def set_parameter(self, address, value, size=1):
+        self.block_1[address - 0x60:address - 0x60 + size] = value.to_bytes(size, "big")
+
+    def room_for(self, size):
+        return len(self.records) + size <= SESSION_LIMIT
+
+    # Records.
+
+    def add(self, kind, payload=b""):
+        self.records += record(kind, payload)
+
+    def image(self, saved_acr=0, saved_as=128, locks=0, address=None):
+        cells = little(saved_acr, 2) + bytes([saved_as, locks])
+        self.add(IMAGE, (address or self.address) + self.block_0 + self.block_1 + cells)
+        self.run = 0
+
+    def power_on(self):
+        self.add(POWER_ON)
+        self.run = 0
+
+    def reading(self, voltage, temperature):
+        self.add(READING, little(voltage, 4) + little(temperature, 4))
+
+    def conversion(self, raw):
+        self.add(CONVERSION, little(raw, 4))
+        self.run = (self.run + 1) % 8
+
+    def current(self, c):
+        """A conversion whose c is the one wanted."""
+        self.conversion(c - signed(self.parameter(COB)))
+
+    def transaction(self, count, master=b""):
+        self.add(TRANSACTION, bytes([count]) + bytes(master))
+        if count <= 64 and count <= self.room:
+            self.room -= count
+
+    def select(self):
+        return b"\xCC" if self.chance.random() < 0.8 else b"\x55" + self.address
+
+    def read(self, address, count):
+        self.transaction(count, self.select() + bytes([READ, address]))
+
+    def write(self, address, data):
+        self.transaction(0, self.select() + bytes([WRITE, address]) + bytes(data))
+
+    def command(self, command, address):
+        self.transaction(0, self.select() + bytes([command, address]))
+
+    # What most profiles do.
+
+    def registers(self):
+        if self.room >= 32 + 256:
+            self.read(0x00, 32)
+
+    def whole_map(self):
+        self.read(0x00, 64)
+        self.read(0x40, 64)
+
+    def change(self, address, value, size=1):
+        self.set_parameter(address, value, size)
+        self.write(address, value.to_bytes(size, "big"))
+
+    def write_acr(self, value):
+        self.write(0x10, value.to_bytes(2, "big"))
+
+    def write_as(self, value):
+        self.write(0x14, bytes([value]))
+
+    def finish(self):
+        """Everything that the gauge shows, and in half of the sessions the saved cells too."""
+        self.whole_map()
+        if self.chance.random() < 0.5:
+            self.power_on()
+            self.whole_map()
+        return bytes(self.records)
+
+
+def some(chance, *choices):
+    """One of the choices; a callable is called."""
+    choice = chance.choice(choices)
+    return choice() if callable(choice) else choice
+
+
+def unknown(chance):
+    """A kind that is refused with 3."""
+    return chance.choice(UNKNOWN + HIGH_UNKNOWN + 4 * [chance.randint(0x0100, 0xFFFF)])
+
+
+def boundaries(session):
+    """Where its records start, as far as they are whole, and where the last of them ends."""
+    places = [0]
+    while len(session) - places[-1] >= 4:
+        after = places[-1] + 4 + int.from_bytes(session[places[-1]:places[-1] + 2], "little")
+        if after > len(session):
+            break
+        places.append(after)
+    return places
+
+
+# Where scenes enter themselves.
+
+PROFILES, TURNS, SCENES = {}, {}, {}
+
+
+def profile(turns=1):
+    """Enters a function from chance to the bytes of a session, under its name."""
+    def enter(made):
+        PROFILES[made.__name__], TURNS[made.__name__] = made, turns
+        return made
+    return enter
+
+
+def scene(**often):
+    """Enters a function that adds to a session into the profiles named, each as often as is said."""
+    def enter(added):
+        for name, times in often.items():
+            SCENES.setdefault(name, []).extend([added] * times)
+        return added
+    return enter
+
+
+def play(session, name):
+    """One of the scenes of this profile."""
+    session.chance.choice(SCENES[name])(session)

@@ -1,0 +1,92 @@
+"""Records that are refused, and a reply room that is used up."""
+from builder import (
+    CONVERSION, IMAGE, POWER_ON, READING, REPLY_ROOM, TRANSACTION, Session, crc, profile, record, some, unknown)
+from scenes.bus import any_event, any_transaction
+from scenes.pack import battery, start
+
+
+def wrong_image(session):
+    """An image that is refused, also where none was accepted before."""
+    chance = session.chance
+    good = session.address + bytes(48) + b"\x00\x00\x80\x00"
+    flipped = bytearray(good)
+    flipped[chance.randrange(8)] ^= 1 << chance.randrange(8)
+    family = bytes([chance.choice([0x00, 0x32, 0x3C, 0x3E])]) + session.address[1:7]
+    other_family = family + bytes([crc(family)]) + good[8:]
+    lock = bytes([chance.choice([4, 4, 5, 8, 255])])
+    session.add(IMAGE, some(chance, flipped, other_family, good[:59] + lock, bytes(flipped[:59]) + lock, good[:59],
+                            good + b"\x00"))
+
+
+def wrong_record(session):
+    """A record that some number from 3 to 9 refuses, often for two reasons at once."""
+    chance = session.chance
+    some(chance,
+         lambda: session.add(unknown(chance), chance.randbytes(chance.choice([0, 1, 4, 8, 60, 70]))),
+         lambda: session.add(unknown(chance), chance.randbytes(chance.choice([0, chance.randrange(10)]))),
+         lambda: session.add(READING, chance.randbytes(chance.choice([0, 4, 7, 9, 60]))),
+         lambda: session.add(CONVERSION, chance.randbytes(chance.choice([0, 2, 3, 5, 8]))),
+         lambda: session.add(TRANSACTION, b""),
+         lambda: session.add(TRANSACTION, chance.randbytes(chance.choice([66, 67, 100]))),
+         lambda: session.add(TRANSACTION, bytes([200]) + bytes(65)),
+         lambda: session.add(POWER_ON, chance.randbytes(chance.choice([1, 4, 60]))),
+         lambda: wrong_image(session),
+         lambda: wrong_image(session),
+         lambda: session.transaction(chance.choice([65, 66, 100, 200, 255]),
+                                     chance.choice([b"", b"\xCC\x69\x00", b"\xCC\x6C\x10\x12\x34"])))
+
+
+def early_event(session):
+    """Any record but a good image; refused while no image was accepted."""
+    chance = session.chance
+    some(chance,
+         lambda: session.reading(500, 200),
+         lambda: session.conversion(-5000),
+         lambda: session.add(TRANSACTION, bytes([chance.choice([0, 8, 64, 65, 200])]) + b"\xCC\x69\x00"),
+         lambda: session.power_on())
+
+
+def cut(chance):
+    """Bytes at which a session stops: a header or a payload that is not whole."""
+    whole = record(chance.choice([2, 3, 4, unknown(chance)]), chance.randbytes(chance.choice([1, 4, 8])))
+    return whole[:chance.choice([1, 2, 3, 4, -1, -1])]
+
+
+@profile()
+def refusals(chance):
+    session = Session(chance)
+    battery(session)
+    for _ in range(chance.randint(0, 40)):
+        some(chance, lambda: wrong_record(session), lambda: wrong_image(session), lambda: early_event(session))
+    start(session)
+    session.room = REPLY_ROOM
+    for _ in range(chance.randint(50, 250)):
+        some(chance, lambda: wrong_record(session), lambda: wrong_record(session), lambda: any_event(session),
+             lambda: any_transaction(session), lambda: session.image(), lambda: session.registers())
+        if not session.room_for(1000):
+            break
+    return session.finish() + (cut(chance) if chance.random() < 0.7 else b"")
+
+
+@profile()
+def room(chance):
+    """The reply room used up, refused reads, and smaller ones after them."""
+    session = Session(chance)
+    battery(session)
+    start(session)
+    usual = chance.choice([64, 64, 63, 48, 40])
+    while session.room > 0 and session.room_for(300):
+        count = usual if session.room > 600 else chance.randrange(65)
+        if chance.random() < 0.1:
+            count = chance.randrange(66)
+        some(chance,
+             lambda: session.read(chance.choice([0x00, 0x60, 0xF0, chance.randrange(256)]), count),
+             lambda: session.read(0x00, count),
+             lambda: session.transaction(count, chance.choice([b"", b"\x33", b"\x39", b"\xA5"])))
+        if chance.random() < 0.02:
+            any_event(session)
+    for count in [chance.randrange(65) for _ in range(8)] + [1, 0, 65, 0]:
+        session.read(0x01, count)
+        any_event(session)
+        session.write(0x10, chance.randbytes(2))
+    return session.finish()
