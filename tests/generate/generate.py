@@ -17,6 +17,7 @@ for file in sorted(pathlib.Path(__file__).with_name("scenes").glob("*.py")):
     importlib.import_module(f"scenes.{file.stem}")
 
 ROUND = [name for turn in range(max(TURNS.values())) for name in sorted(PROFILES) if TURNS[name] > turn]
+SEEDS, LONG_SEEDS = 24 * len(ROUND), 300 * len(ROUND)  # how many sessions are compared, usually and with --long
 
 
 def profile_of(seed):

@@ -5,6 +5,7 @@
  *   second dump     prints the session's lines and after each the whole state
  *   second figures  holds the rules against the paper's "Figures to hold"
  *
+ * Built with -DREACHED it also tells on standard error how often it came to what generated sessions aim at (reached.h).
  * All arithmetic is on signed 32 and 64-bit integers. Ids such as C4 are the rows of docs/MAP.md, rules of the paper. */
 
 #include <stdbool.h>
@@ -45,6 +46,13 @@ typedef struct {
     int32_t run, run_sum;                             /* conversions since the last average, and the sum of their c */
     bool read_since_average; int32_t lowest_voltage;  /* of the readings since the last average */
 } Gauge;
+
+#ifdef REACHED
+#include "reached.h"
+#define WATCH(what) what
+#else
+#define WATCH(what) ((void)0)
+#endif
 
 /* ---- Numbers ---- */
 
@@ -193,6 +201,7 @@ static void accumulate_and_age(Gauge *g, int32_t c)
 static void full_found(Gauge *g)
 {
     int64_t full_40 = wide_parameter(g, FULL_40);
+    WATCH(saw_full(g));
     g->chgtf = true;
     if (g->learnf && full_40 > 0)
         g->as = moved_into_as_range((int32_t)divided_down((int64_t)g->acr * 2097152, g->full * full_40));
@@ -282,12 +291,14 @@ static void active_empty(Gauge *g, bool previous_was_above)
 
     g->aef = true;
     if (previous_was_above && discharging) {
+        WATCH(saw_point(g, e));
         g->acr = e;
         g->fraction = 0;
         g->learnf = e > 0;
     } else if (!g->learnf && g->acr > e) {
         g->acr = e;
         g->fraction = 0;
+        WATCH(SAW(true, "empty: ACR is cut to E without the point"));
     }
 }
 
@@ -545,12 +556,14 @@ static void run_session(Gauge *g, const byte *session, int32_t size, int printin
     if (printing != PRINT_NOTHING)
         printf("record kind answer reply\n");
     if (size > SESSION_LIMIT) {
+        WATCH(saw_end(size, 1));
         print_line(printing, g, 0, "----", 1, NULL, 0);
         return;
     }
     for (int32_t number = 1; at < size; number++) {
         const byte *header = session + at;
         if (size - at < 4 || size - at - 4 < little_endian_16(header)) {
+            WATCH(saw_end(size - at, 2));
             print_line(printing, g, number, "----", 2, NULL, 0);
             return;
         }
@@ -558,7 +571,9 @@ static void run_session(Gauge *g, const byte *session, int32_t size, int printin
         byte reply[READ_LIMIT];
         char kind_text[8];
         int32_t answer = judged(g, room_left, kind, header + 4, length);
+        WATCH(before_record(g));
         int32_t replied = answer == 0 ? event(g, kind, header + 4, length, reply) : 0;
+        WATCH(after_record(g, kind, header + 4, length, answer));
         room_left -= replied;
         at += 4 + length;
         snprintf(kind_text, sizeof kind_text, "%04x", (unsigned)kind);
@@ -766,5 +781,6 @@ int main(int count, char **arguments)
         return image_at_end(size);
     }
     run_session(&gauge, session, size, strcmp(mode, "dump") == 0 ? PRINT_STATES : PRINT_LINES);
+    WATCH(tell_reached());
     return 0;
 }

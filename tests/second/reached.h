@@ -1,0 +1,474 @@
+/* What generated sessions are to reach, counted as the second program runs them: part of second.c where REACHED is defined.
+ *
+ * SAW(condition, "thing") counts a thing each time its line is run and the condition holds. At the end each thing that was
+ * reached is told on standard error, its count first. tests/cases/reached adds up many sessions and takes the list of all
+ * things from the texts here and in second.c, so a new one is a line. Ids such as C4 are the rows of docs/MAP.md. */
+
+typedef struct Thing {
+    const char *name;
+    long long times;
+    struct Thing *next;
+} Thing;
+
+static Thing *things;
+static long long reads_of[256], writes_of[256];
+
+#define SAW(condition, text)                            \
+    do {                                                \
+        static Thing thing = {text, 0, NULL};           \
+        if ((condition) && thing.times++ == 0) {        \
+            thing.next = things;                        \
+            things = &thing;                            \
+        }                                               \
+    } while (0)
+
+static void tell_reached(void)
+{
+    for (const Thing *thing = things; thing != NULL; thing = thing->next)
+        fprintf(stderr, "%lld %s\n", thing->times, thing->name);
+    for (int at = 0; at < 256; at++) {
+        fprintf(stderr, "%lld read: %02Xh\n", reads_of[at], at);
+        fprintf(stderr, "%lld write: %02Xh\n", writes_of[at], at);
+    }
+}
+
+/* Rules of second.c that are used here. */
+static int32_t little_endian_16(const byte *from);
+static int32_t little_endian_signed_32(const byte *from);
+static int32_t crc(const byte *from, int32_t count);
+static int32_t parameter(const Gauge *g, int32_t address);
+static int32_t signed_parameter(const Gauge *g, int32_t address);
+static int32_t wide_parameter(const Gauge *g, int32_t address);
+static int32_t age_scaled_full(const Gauge *g);
+static int32_t counted(const Gauge *g, int32_t c);
+static int32_t segment(const Gauge *g, int32_t t);
+static int32_t whole_degrees(int32_t temperature);
+static bool in_block_0(int32_t address);
+static bool in_block_1(int32_t address);
+static bool length_fits(int32_t kind, int32_t length);
+
+/* ---- Answers and classes ---- */
+
+static void saw_answer(const Gauge *g, int32_t kind, const byte *payload, int32_t length, int32_t answer)
+{
+    bool known = kind >= 1 && kind <= 5, sized = known && length_fits(kind, length);
+    bool wrong_family = sized && kind == 1 && payload[0] != 0x3D;
+    bool wrong_crc = sized && kind == 1 && payload[7] != crc(payload, 7);
+    bool wrong_lock_byte = sized && kind == 1 && payload[59] > 3;
+    bool wrong_count = sized && kind == 4 && payload[0] > READ_LIMIT;
+
+    SAW(answer == 0, "answer: 0");
+    SAW(answer == 3, "answer: 3");
+    SAW(answer == 3 && kind < 256, "answer: 3 for a kind below 256");
+    SAW(answer == 3 && kind % 256 >= 1 && kind % 256 <= 5, "answer: 3 for a kind whose low byte is known");
+    SAW(answer == 4 && kind == 1, "answer: 4 for an image");
+    SAW(answer == 4 && kind == 2, "answer: 4 for a reading");
+    SAW(answer == 4 && kind == 3, "answer: 4 for a conversion");
+    SAW(answer == 4 && kind == 4 && length == 0, "answer: 4 for a transaction without a count");
+    SAW(answer == 4 && kind == 4 && length == 66, "answer: 4 for a transaction of 66 bytes");
+    SAW(answer == 4 && kind == 5, "answer: 4 for a power-on");
+    SAW(answer == 0 && kind == 4 && length == 65, "answer: 0 for a transaction of 65 bytes");
+    SAW(answer == 5 && kind == 1, "answer: 5 for a second image");
+    SAW(answer == 5 && kind == 2, "answer: 5 for a reading before an image");
+    SAW(answer == 5 && kind == 3, "answer: 5 for a conversion before an image");
+    SAW(answer == 5 && kind == 4, "answer: 5 for a transaction before an image");
+    SAW(answer == 5 && kind == 5, "answer: 5 for a power-on before an image");
+    SAW(answer == 6 && wrong_family && !wrong_crc, "answer: 6 for the family alone");
+    SAW(answer == 6 && wrong_crc && !wrong_family, "answer: 6 for the CRC alone");
+    SAW(answer == 7, "answer: 7");
+    SAW(answer == 7 && payload[59] == 4, "answer: 7 for the lock byte 4");
+    SAW(answer == 8, "answer: 8");
+    SAW(answer == 8 && payload[0] == 65, "answer: 8 for a count of 65");
+    SAW(answer == 9, "answer: 9");
+    SAW(answer == 4 && !g->accepted, "answer: 4 where 5 would come next");
+    SAW(answer == 5 && (wrong_family || wrong_crc), "answer: 5 where 6 would come next");
+    SAW(answer == 5 && wrong_count, "answer: 5 where 8 would come next");
+    SAW(answer == 6 && wrong_lock_byte, "answer: 6 where 7 would come next");
+}
+
+static void saw_end(int32_t left, int32_t answer)
+{
+    SAW(answer == 1, "answer: 1");
+    SAW(answer == 2, "answer: 2");
+    SAW(answer == 2 && left < 4, "answer: 2 for a header that is cut");
+    SAW(answer == 2 && left >= 4, "answer: 2 for a payload that is cut");
+}
+
+/* K1 to K13, of a record after the image; first and last are what it touches, where first is not above last. */
+static void saw_class(int32_t kind, int32_t answer, int32_t first, int32_t last, bool lock)
+{
+    bool touches = first <= last, inside = first >= 0x20 && last <= 0x2F, meets = first <= 0x2F && last >= 0x20;
+    bool refused = answer == 3 || answer == 4 || answer == 8;
+    SAW(refused, "class: gauge event, a record refused with 3, 4 or 8");
+    SAW(answer == 5 || answer == 9, "class: fence, a record refused with 5 or 9");
+    if (answer != 0)
+        return;
+    SAW(kind == 2, "class: gauge event, a reading");
+    SAW(kind == 3, "class: gauge event, a conversion");
+    SAW(kind == 5, "class: fence, a power-on");
+    SAW(kind == 4 && !touches, "class: gauge event, a transaction that touches nothing");
+    SAW(kind == 4 && touches && !meets, "class: gauge event, a transaction that touches nothing of the label");
+    SAW(kind == 4 && touches && inside && !lock, "class: label event");
+    SAW(kind == 4 && touches && inside && lock, "class: fence, a lock of the label");
+    SAW(kind == 4 && touches && meets && !inside, "class: fence, a transaction that touches the label and more");
+}
+
+/* ---- Flags ---- */
+
+static void saw_flags(const Gauge *was, const Gauge *is)
+{
+    SAW(!was->porf && is->porf, "flag: PORF set");
+    SAW(was->porf && !is->porf, "flag: PORF cleared");
+    SAW(!was->chgtf && is->chgtf, "flag: CHGTF set");
+    SAW(was->chgtf && !is->chgtf, "flag: CHGTF cleared");
+    SAW(!was->aef && is->aef, "flag: AEF set");
+    SAW(was->aef && !is->aef, "flag: AEF cleared");
+    SAW(!was->sef && is->sef, "flag: SEF set");
+    SAW(was->sef && !is->sef, "flag: SEF cleared");
+    SAW(!was->learnf && is->learnf, "flag: LEARNF set");
+    SAW(was->learnf && !is->learnf, "flag: LEARNF cleared");
+    SAW(!was->lock && is->lock, "flag: LOCK set");
+    SAW(was->lock && !is->lock, "flag: LOCK cleared");
+    SAW(!was->bl0 && is->bl0, "flag: BL0 set");
+    SAW(!was->bl1 && is->bl1, "flag: BL1 set");
+}
+
+/* ---- Power-on ---- */
+
+static void saw_power_on(const Gauge *was, const Gauge *is)
+{
+    bool again = was->accepted;
+    SAW(is->saved_as < 63, "power-on: AS moved up to 63");
+    SAW(is->saved_as > 128, "power-on: AS moved down to 128");
+    SAW(is->saved_as >= 63 && is->saved_as <= 128, "power-on: AS as it was saved");
+    SAW(is->bl0 && !is->bl1, "power-on: block 0 locked alone");
+    SAW(is->bl1 && !is->bl0, "power-on: block 1 locked alone");
+    SAW(is->bl1 && is->bl0, "power-on: both blocks locked");
+    SAW(again && was->acr != is->acr, "power-on: ACR goes back to the saved one");
+    SAW(again && was->as != is->as, "power-on: AS goes back to the saved one");
+    SAW(again && was->fraction > 0, "power-on: a fraction is lost");
+    SAW(again && was->age_counter > 0, "power-on: an age counter is lost");
+    SAW(again && was->run > 0, "power-on: a run of conversions is cut");
+    SAW(again && was->learnf, "power-on: LEARNF cleared");
+    SAW(again && was->lock, "power-on: LOCK cleared");
+    SAW(again && memcmp(was->shadow + 0x20, is->shadow + 0x20, 16) != 0, "power-on: a label that was not copied is lost");
+    SAW(again && memcmp(was->shadow + 0x60, is->shadow + 0x60, 32) != 0, "power-on: parameters that were not copied are lost");
+}
+
+/* ---- Conversion ---- */
+
+/* C29 to C35, as full is found. */
+static void saw_full(const Gauge *g)
+{
+    int64_t full_40 = wide_parameter(g, FULL_40), whole = g->full * full_40;
+    int64_t learnt = whole > 0 ? (int64_t)g->acr * 2097152 / whole : 0;
+    bool learns = g->learnf && full_40 > 0;
+    SAW(true, "full: found");
+    SAW(g->chgtf, "full: found again, CHGTF is set");
+    SAW(!g->learnf, "full: nothing is learnt, LEARNF is 0");
+    SAW(g->learnf && full_40 == 0, "full: nothing is learnt, Full40 is 0");
+    SAW(learns && learnt >= 63 && learnt <= 128, "full: AS learnt");
+    SAW(learns && learnt < 63, "full: AS learnt, moved up to 63");
+    SAW(learns && learnt > 128, "full: AS learnt, moved down to 128");
+}
+
+/* An average that just does not find full, or just does. */
+static void saw_average(const Gauge *was, int32_t sum)
+{
+    int32_t limit = 32 * parameter(was, IMIN) - 1, average = (sum - (sum % 8 + 8) % 8) / 8;
+    bool small = 1 <= average && average <= limit, was_small = 1 <= was->iavg && was->iavg <= limit;
+    bool above = was->lowest_voltage > 4 * parameter(was, VCHG);
+    bool read = was->read_since_average, formed = was->had_average;
+    SAW(sum < 0 && sum % 8 != 0, "conversion: IAVG rounded down below 0");
+    SAW(small && !formed && read && above, "full: not found, the average is the first");
+    SAW(formed && small && !was_small && read && above, "full: not found, the average before does not fit");
+    SAW(formed && was_small && average == 0 && read && above, "full: not found, the average is 0");
+    SAW(formed && was_small && average == limit + 1 && read && above, "full: not found, the average is 32 x IMIN");
+    SAW(formed && small && average == limit && was_small && read && above, "full: found at an average of 32 x IMIN - 1");
+    SAW(formed && small && was_small && !read, "full: not found, no reading came");
+    SAW(formed && small && was_small && read && was->lowest_voltage == 4 * parameter(was, VCHG),
+        "full: not found, a reading is at 4 x VCHG");
+}
+
+static void saw_conversion(const Gauge *was, const Gauge *is, int32_t raw)
+{
+    int64_t sum = (int64_t)raw + signed_parameter(was, COB);
+    int32_t c = is->current, bias = signed_parameter(was, AB), step = 32 * wide_parameter(was, AC);
+    int64_t count = (int64_t)was->acr * 4096 + was->fraction + counted(was, c) + bias;
+    bool negative_blanking = (parameter(was, CONTROL) & NBEN) != 0, blanked = counted(was, c) != c;
+    bool turned = c < 0 && !(was->currents > 0 && was->current < 0), emptied = count < 4096;
+
+    SAW(sum > 32767, "conversion: c clamped to 32,767");
+    SAW(sum < -32768, "conversion: c clamped to -32,768");
+    SAW(sum > 2147483647 || sum < -2147483648LL, "conversion: raw and COB leave 32 bits");
+    SAW(blanked && c == 63, "conversion: 63 is blanked");
+    SAW(!blanked && c == 64, "conversion: 64 is counted");
+    SAW(blanked && c == -15, "conversion: -15 is blanked with NBEN");
+    SAW(!blanked && c == -16 && negative_blanking, "conversion: -16 is counted with NBEN");
+    SAW(!blanked && c < 0 && c > -16, "conversion: a small negative c is counted without NBEN");
+    SAW(blanked && bias != 0, "conversion: AB is counted though c is blanked");
+    SAW(count < 0, "conversion: the count clamped to 0");
+    SAW(count > 268435455, "conversion: the count clamped to 2^28 - 1");
+
+    SAW(step > 0 && is->age_counter < was->age_counter && is->as < was->as, "ageing: AS falls");
+    SAW(step > 0 && is->age_counter < was->age_counter && was->as == 63, "ageing: AS stays at 63 and the step is taken off");
+    SAW(step > 0 && is->age_counter < was->age_counter && was->acr <= is->acr, "ageing: a step though ACR does not fall");
+    SAW(step > 0 && is->age_counter >= step, "ageing: the counter is above the step after it, AC was lowered");
+    SAW(step == 0 && was->age_counter > 0, "ageing: AC = 0 zeroes the counter");
+
+    SAW(was->learnf && turned, "conversion: LEARNF cleared by a c that turns negative");
+    SAW(was->learnf && c < 0 && !turned && is->learnf, "conversion: LEARNF survives a discharge");
+    SAW(was->learnf && !turned && emptied, "conversion: LEARNF cleared by ACR 0");
+    SAW(was->learnf && !turned && emptied && is->fraction > 0, "conversion: LEARNF cleared by ACR 0 with a fraction");
+    if (was->run == 7)
+        saw_average(was, was->run_sum + c);
+}
+
+/* ---- Reading ---- */
+
+static void saw_lines(const Gauge *is)
+{
+    int32_t degrees = whole_degrees(is->temperature);
+    int32_t high = signed_parameter(is, TBP34), middle = signed_parameter(is, TBP23), low = signed_parameter(is, TBP12);
+    bool crossed = high < middle || middle < low;
+    SAW(degrees >= 40, "model: no step, at 40 degrees or above");
+    SAW(degrees == 39, "model: one step");
+    SAW(is->temperature < 0 && is->temperature % 8 != 0, "model: degrees rounded down below 0");
+    for (int32_t t = 39; t >= degrees; t--) {
+        SAW(segment(is, t) == 4, "model: a step of segment 4");
+        SAW(segment(is, t) == 3, "model: a step of segment 3");
+        SAW(segment(is, t) == 2, "model: a step of segment 2");
+        SAW(segment(is, t) == 1, "model: a step of segment 1");
+        SAW(t == high, "model: the step at TBP34");
+        SAW(crossed, "model: a step with crossed breakpoints");
+        SAW(high < middle && t >= high && t < middle, "model: a step between TBP34 and a TBP23 above it");
+        SAW(middle < low && t < high && t >= middle && t < low, "model: a step between TBP23 and a TBP12 above it");
+    }
+    SAW(is->full == 8192, "model: FULL at 8,192");
+    SAW(is->ae == 8191, "model: AE at 8,191");
+    SAW(is->se == 8191, "model: SE at 8,191");
+}
+
+/* R23 to R25, as the empty point is found. */
+static void saw_point(const Gauge *g, int32_t e)
+{
+    SAW(e > 0, "empty: the point, E above 0");
+    SAW(e == 0, "empty: the point, E = 0");
+    SAW(e == 0 && g->learnf, "empty: the point, E = 0 clears LEARNF");
+    SAW(g->acr < e, "empty: the point raises ACR");
+}
+
+/* Step 3, where VOLT is below 4 x VAE: what just is no empty point, or just is one. */
+static void saw_below(const Gauge *was, const Gauge *is, int32_t e)
+{
+    int32_t edge = 4 * parameter(was, VAE), threshold = -128 * parameter(was, IAE);
+    bool before = was->had_reading && was->voltage >= edge;
+    bool last = was->currents >= 1 && was->current < threshold;
+    bool both = was->currents == 2 && last && was->previous_current < threshold;
+    SAW(before && both && was->voltage == edge, "empty: the reading before is at 4 x VAE");
+    SAW(!was->had_reading && both, "empty: no point, no reading before");
+    SAW(was->had_reading && !before && both, "empty: no point, the reading before is below");
+    SAW(before && was->currents < 2 && last, "empty: no point, one current only");
+    SAW(before && was->currents == 2 && last && !both, "empty: no point, the current before does not fit");
+    SAW(before && was->currents == 2 && was->current == threshold && was->previous_current <= threshold,
+        "empty: no point, CURRENT is at the threshold");
+    SAW(!(before && both) && !was->learnf && was->acr == e && was->fraction > 0, "empty: ACR is E already, the fraction stays");
+    SAW(!(before && both) && was->learnf && was->acr > e, "empty: LEARNF leaves ACR above E");
+    SAW(is->rarc > 5, "empty: AEF stays below 4 x VAE whatever RARC");
+}
+
+static void saw_reading(const Gauge *was, const Gauge *is, int32_t voltage, int32_t temperature)
+{
+    int64_t full_40 = wide_parameter(is, FULL_40), af = age_scaled_full(is);
+    int64_t n = 16384 * (int64_t)is->acr - is->ae * full_40, d = (af - is->ae) * full_40;
+    int64_t standby_n = 16384 * (int64_t)is->acr - is->se * full_40, standby_d = (af - is->se) * full_40;
+    int32_t edge = 4 * parameter(is, VAE);
+    bool changed = is->rarc != was->rarc, quarter = is->rarc / 4 != was->rarc / 4;
+
+    SAW(voltage < 0, "reading: voltage clamped to 0");
+    SAW(voltage > 1023, "reading: voltage clamped to 1,023");
+    SAW(temperature < -1024, "reading: temperature clamped to -1,024");
+    SAW(temperature > 1023, "reading: temperature clamped to 1,023");
+    saw_lines(is);
+    if (is->voltage < edge)
+        saw_below(was, is, (int32_t)(is->ae * full_40 / 16384));
+    SAW(is->voltage == edge, "reading: VOLT at 4 x VAE");
+
+    SAW(d > 0 && 100 * n / d > 100, "results: RARC clamped to 100");
+    SAW(standby_d > 0 && 100 * standby_n / standby_d > 100, "results: RSRC clamped to 100");
+    SAW(n < 0, "results: N below 0");
+    SAW(n > 0 && d < 0, "results: D below 0");
+    SAW(n > 0 && d == 0, "results: D = 0");
+    SAW(n > 0 && d > 0 && is->rarc == 0, "results: RARC rounded down to 0");
+    SAW(is->rarc == 90 && is->chgtf, "results: CHGTF stays at RARC 90");
+    SAW(was->chgtf && is->rarc == 89, "results: CHGTF cleared at RARC 89");
+    SAW(was->aef && is->aef && is->voltage >= edge && is->rarc == 5, "results: AEF stays at RARC 5");
+    SAW(was->aef && !is->aef && is->rarc == 6, "results: AEF cleared at RARC 6");
+    SAW(!was->sef && is->sef && is->rsrc == 9, "results: SEF set at RSRC 9");
+    SAW(!is->sef && is->rsrc == 10, "results: SEF not set at RSRC 10");
+    SAW(is->sef && is->rsrc == 15, "results: SEF stays at RSRC 15");
+    SAW(was->sef && is->rsrc == 16, "results: SEF cleared at RSRC 16");
+
+    SAW(was->had_reading && quarter, "save: the quarter of RARC changed");
+    SAW(was->had_reading && quarter && is->bl1, "save: block 1 is locked");
+    SAW(was->had_reading && quarter && is->as != was->saved_as, "save: AS changes in its cell");
+    SAW(was->had_reading && changed && !quarter, "save: none, RARC changed and its quarter did not");
+    SAW(!was->had_reading && quarter, "save: none at the first reading");
+}
+
+/* ---- Bus bytes ---- */
+
+static void saw_write_at(const Gauge *was, int32_t at, int32_t value, bool held)
+{
+    bool read_only = (at >= 0x02 && at <= 0x0F) || (at >= 0x12 && at <= 0x1B && at != 0x14);
+    writes_of[at]++;
+    SAW(at == 0x01 && (value & 0x02) == 0 && was->porf, "write: PORF cleared");
+    SAW(at == 0x01 && (value & 0x02) != 0 && !was->porf, "write: PORF not set");
+    SAW(at == 0x11 && held, "write: ACR");
+    SAW(at == 0x11 && held && was->fraction > 0, "write: ACR, a fraction is lost");
+    SAW(at == 0x11 && held && was->learnf, "write: ACR, LEARNF cleared");
+    SAW(at == 0x11 && !held, "write: 11h without 10h");
+    SAW(at == 0x14 && value < 63, "write: AS moved up to 63");
+    SAW(at == 0x14 && value > 128, "write: AS moved down to 128");
+    SAW(at == 0x14 && value >= 63 && value <= 128, "write: AS as it is");
+    SAW(at == 0x1F && (value & 0x40) != 0, "write: LOCK set");
+    SAW(at == 0x1F && (value & 0x40) == 0 && was->lock, "write: LOCK cleared");
+    SAW(read_only, "write: dropped, read-only");
+    SAW(in_block_0(at) && !was->bl0, "write: label");
+    SAW(in_block_1(at) && !was->bl1, "write: parameter");
+    SAW(in_block_0(at) && was->bl0, "write: dropped, block 0 is locked");
+    SAW(in_block_1(at) && was->bl1, "write: dropped, block 1 is locked");
+}
+
+static void saw_write(const Gauge *was, const Gauge *is, int32_t address, const byte *data, int32_t count)
+{
+    bool held = false;
+    int32_t step = 32 * wide_parameter(is, AC);
+    for (int32_t i = 0; i < count && address + i <= 0xFF; i++) {
+        saw_write_at(was, address + i, data[i], held);
+        held = held || address + i == 0x10;
+    }
+    SAW(address + count > 0x100, "write: past FFh");
+    SAW(count == 0, "write: no byte");
+    SAW(address == 0x10 && count == 1, "write: 10h alone");
+    SAW(count > 0 && step > 0 && was->age_counter >= 2 * step && 32 * wide_parameter(was, AC) > was->age_counter,
+        "write: AC lowered far below the counter");
+    SAW((parameter(was, CONTROL) & RNAOP) != (parameter(is, CONTROL) & RNAOP), "write: RNAOP changed");
+}
+
+static void saw_read(int32_t address, int32_t count)
+{
+    for (int32_t at = address; at < address + count && at <= 0xFF; at++)
+        reads_of[at]++;
+    SAW(address + count > 0x100, "read: past FFh");
+    SAW(count == 0, "read: no byte");
+    SAW(count == 64, "read: 64 bytes");
+}
+
+static void saw_block_command(const Gauge *was, const Gauge *is, int32_t command, int32_t address)
+{
+    bool zero = in_block_0(address), one = in_block_1(address);
+    bool eeprom = memcmp(was->eeprom, is->eeprom, 256) != 0, shadow = memcmp(was->shadow, is->shadow, 256) != 0;
+    bool differ_0 = memcmp(was->shadow + 0x20, was->eeprom + 0x20, 16) != 0;
+    bool differ_1 = memcmp(was->shadow + 0x60, was->eeprom + 0x60, 32) != 0;
+    SAW(command == 0x48 && zero && eeprom, "copy: block 0");
+    SAW(command == 0x48 && one && eeprom, "copy: block 1");
+    SAW(command == 0x48 && zero && was->bl0 && differ_0, "copy: dropped, block 0 is locked");
+    SAW(command == 0x48 && one && was->bl1 && differ_1, "copy: dropped, block 1 is locked");
+    SAW(command == 0x48 && !zero && !one && (differ_0 || differ_1), "copy: an address in no block");
+    SAW(command == 0xB8 && zero && shadow, "recall: block 0");
+    SAW(command == 0xB8 && one && shadow, "recall: block 1");
+    SAW(command == 0xB8 && zero && shadow && was->bl0, "recall: block 0 is locked");
+    SAW(command == 0xB8 && one && shadow && was->bl1, "recall: block 1 is locked");
+    SAW(command == 0xB8 && one && was->learnf, "recall: LEARNF stays");
+    SAW(command == 0xB8 && !zero && !one && (differ_0 || differ_1), "recall: an address in no block");
+    SAW(command == 0x6A && zero && was->lock && !was->bl0, "lock: block 0");
+    SAW(command == 0x6A && one && was->lock && !was->bl1, "lock: block 1");
+    SAW(command == 0x6A && was->lock && ((zero && was->bl0) || (one && was->bl1)), "lock: a block that is locked");
+    SAW(command == 0x6A && !was->lock && ((zero && !was->bl0) || (one && !was->bl1)), "lock: dropped, LOCK is 0");
+    SAW(command == 0x6A && was->lock && !zero && !one, "lock: an address in no block");
+}
+
+static void saw_selected(const Gauge *was, const Gauge *is, const byte *asked, int32_t left, int32_t count)
+{
+    SAW(left == 0, "command: none");
+    SAW(left == 1, "command: no address");
+    SAW(left == 1 && asked[0] == 0x6A && was->lock, "command: a lock without an address");
+    if (left < 2) {
+        saw_class(4, 0, 1, 0, false);
+        return;
+    }
+    int32_t command = asked[0], address = asked[1], first = 1, last = 0;
+    bool block = command == 0x48 || command == 0xB8 || command == 0x6A;
+    SAW(command == 0x69, "command: 69h");
+    SAW(command == 0x6C, "command: 6Ch");
+    SAW(command == 0x48, "command: 48h");
+    SAW(command == 0xB8, "command: B8h");
+    SAW(command == 0x6A, "command: 6Ah");
+    SAW(command != 0x69 && command != 0x6C && !block, "command: another one");
+    SAW(command == 0x69 && left > 2, "command: surplus bytes after 69h");
+    SAW(block && left > 2, "command: surplus bytes after 48h, B8h or 6Ah");
+    SAW(command == 0x6C && count > 0, "command: a reply to 6Ch");
+    SAW(block && count > 0, "command: a reply to 48h, B8h or 6Ah");
+    if (command == 0x69) {
+        saw_read(address, count);
+        first = address, last = address + count - 1;
+    } else if (command == 0x6C) {
+        saw_write(was, is, address, asked + 2, left - 2);
+        first = address, last = address + left - 3;
+    } else if (block) {
+        saw_block_command(was, is, command, address);
+        if (in_block_0(address) || in_block_1(address))
+            first = in_block_0(address) ? 0x20 : 0x60, last = in_block_0(address) ? 0x2F : 0x7F;
+    }
+    saw_class(4, 0, first, last, command == 0x6A);
+}
+
+static void saw_transaction(const Gauge *was, const Gauge *is, const byte *master, int32_t masters, int32_t count)
+{
+    int32_t start = masters > 0 ? master[0] : -1;
+    bool rnaop = (parameter(was, CONTROL) & RNAOP) != 0, whole = start == 0x55 && masters >= 9;
+    bool own = whole && memcmp(master + 1, was->address, 8) == 0;
+    bool net_address = start == (rnaop ? 0x39 : 0x33);
+    SAW(start < 0, "first byte: none");
+    SAW(start == 0x33 && !rnaop && count > 0, "first byte: 33h with RNAOP 0");
+    SAW(start == 0x33 && rnaop && count > 0, "first byte: 33h with RNAOP 1");
+    SAW(start == 0x39 && rnaop && count > 0, "first byte: 39h with RNAOP 1");
+    SAW(start == 0x39 && !rnaop && count > 0, "first byte: 39h with RNAOP 0");
+    SAW(net_address && count > 8, "first byte: more than the net address is read");
+    SAW(net_address && count > 0 && masters > 1, "first byte: a net address read with bytes after it");
+    SAW(start == 0xCC, "first byte: CCh");
+    SAW(own, "first byte: 55h with the own address");
+    SAW(whole && !own, "first byte: 55h with another address");
+    SAW(whole && !own && memcmp(master + 1, was->address, 7) == 0, "first byte: 55h with an address that differs in its last byte");
+    SAW(start == 0x55 && !whole, "first byte: 55h with a short address");
+    SAW(start >= 0 && start != 0x33 && start != 0x39 && start != 0xCC && start != 0x55, "first byte: another one");
+    if (start == 0xCC || own)
+        saw_selected(was, is, master + (own ? 9 : 1), masters - (own ? 9 : 1), count);
+    else
+        saw_class(4, 0, 1, 0, false);
+}
+
+/* ---- Records ---- */
+
+static Gauge as_it_was;
+
+static void before_record(const Gauge *g) { as_it_was = *g; }
+
+static void after_record(const Gauge *is, int32_t kind, const byte *payload, int32_t length, int32_t answer)
+{
+    const Gauge *was = &as_it_was;
+    saw_answer(was, kind, payload, length, answer);
+    saw_flags(was, is);
+    if (was->accepted && (answer != 0 || kind != 4))
+        saw_class(kind, answer, 1, 0, false);
+    if (answer != 0)
+        return;
+    switch (kind) {
+    case 1: saw_power_on(was, is); break;
+    case 2: saw_reading(was, is, little_endian_signed_32(payload), little_endian_signed_32(payload + 4)); break;
+    case 3: saw_conversion(was, is, little_endian_signed_32(payload)); break;
+    case 4: saw_transaction(was, is, payload + 1, length - 1, payload[0]); break;
+    default: saw_power_on(was, is); break;
+    }
+}
