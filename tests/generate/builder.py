@@ -9,9 +9,8 @@ REPLY_ROOM = 65536
 IMAGE, READING, CONVERSION, TRANSACTION, POWER_ON = 1, 2, 3, 4, 5
 READ, WRITE, COPY, RECALL, LOCK = 0x69, 0x6C, 0x48, 0xB8, 0x6A
 
-# The kinds below 256 that are meant as unknown. A request that gives a number a meaning takes it out of here, and nowhere else.
-UNKNOWN = [0, 6, 7, 8, 9, 18, 19, 20, 21, 22, 99]
-HIGH_UNKNOWN = [0x0100, 0x0101, 0x0501, 0xFFFF]
+# Kinds that are meant as unknown. A request that gives a number a meaning takes it out of here, and nowhere else.
+UNKNOWN = [0, 6, 7, 8, 9, 18, 19, 20, 21, 22, 99, 0x0100, 0x0101, 0x0501, 0xFFFF]
 
 # Table 3 of the DS2781 sheet.
 CONTROL, AB, AC, VCHG, IMIN, VAE, IAE, EMPTY_40 = 0x60, 0x61, 0x62, 0x64, 0x65, 0x66, 0x67, 0x68
@@ -150,7 +149,7 @@ def some(chance, *choices):
 
 def unknown(chance):
     """A kind that is refused with 3."""
-    return chance.choice(UNKNOWN + HIGH_UNKNOWN + 4 * [chance.randint(0x0100, 0xFFFF)])
+    return chance.choice(UNKNOWN + 4 * [chance.randint(0x0100, 0xFFFF)])
 
 
 def boundaries(session):
