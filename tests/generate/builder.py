@@ -1,4 +1,4 @@
-"""What sessions are made of: records, images, transactions, and a session under construction; and the lists into which scenes enter themselves.
+"""What sessions are made of: records, images, transactions, a session under construction; and where scenes enter themselves.
 
 A scene is a function that adds records to a session; a profile is one that makes a whole session. A file of scenes/ enters its own by
 `@scene(walk=2)`, twice among those that the profile `walk` plays, and `@profile(turns=2)`, two of the sessions of each round of seeds.
@@ -8,6 +8,9 @@ SESSION_LIMIT = 32768
 REPLY_ROOM = 65536
 IMAGE, READING, CONVERSION, TRANSACTION, POWER_ON = 1, 2, 3, 4, 5
 READ, WRITE, COPY, RECALL, LOCK = 0x69, 0x6C, 0x48, 0xB8, 0x6A
+
+# How many bytes a payload of each kind has, at least and at most.
+SIZES = {IMAGE: (60, 60), READING: (8, 8), CONVERSION: (4, 4), TRANSACTION: (1, 65), POWER_ON: (0, 0)}
 
 # Kinds that are meant as unknown. A request that gives a number a meaning takes it out of here, and nowhere else.
 UNKNOWN = [0, 6, 7, 8, 9, 18, 19, 20, 21, 22, 99, 0x0100, 0x0101, 0x0501, 0xFFFF]
@@ -21,7 +24,6 @@ EDGES = [0x00, 0x01, 0x02, 0x0E, 0x0F, 0x10, 0x11, 0x12, 0x13, 0x14, 0x15, 0x16,
          0x2F, 0x30, 0x5F, 0x60, 0x61, 0x7B, 0x7E, 0x7F, 0x80, 0xB0, 0xB1, 0xC0, 0xFE, 0xFF]
 
 FINISH_BYTES = 64  # what finish() needs at most
-
 
 
 def crc(data):

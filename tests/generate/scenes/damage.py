@@ -1,6 +1,7 @@
 """Bytes that are no session of anyone's making, and sessions of a certain size."""
 from builder import (
-    COPY, FINISH_BYTES, LOCK, READ, RECALL, SESSION_LIMIT, WRITE, Session, boundaries, profile, some, unknown)
+    CONVERSION, COPY, FINISH_BYTES, LOCK, READ, READING, RECALL, SESSION_LIMIT, SIZES, TRANSACTION, WRITE, Session, boundaries,
+    profile, some, unknown)
 from scenes.bus import any_event, bus
 from scenes.charge import walk
 from scenes.pack import battery, start
@@ -15,11 +16,10 @@ def rubbish(chance):
         battery(session)
         start(session)
     for _ in range(chance.randint(1, 300)):
-        kind = chance.choice([1, 2, 2, 3, 3, 3, 4, 4, 4, 4, 5, unknown(chance), unknown(chance)])
-        usual = {1: 60, 2: 8, 3: 4, 4: chance.randint(1, 65), 5: 0}.get(kind, chance.randrange(12))
-        size = usual if chance.random() < 0.9 else chance.randrange(80)
+        kind = some(chance, *SIZES, TRANSACTION, TRANSACTION, TRANSACTION, CONVERSION, READING, lambda: unknown(chance))
+        size = chance.randint(*SIZES.get(kind, (0, 11))) if chance.random() < 0.9 else chance.randrange(80)
         payload = bytearray(chance.randbytes(size))
-        if kind == 4 and size > 3 and chance.random() < 0.7:
+        if kind == TRANSACTION and size > 3 and chance.random() < 0.7:
             payload[0] %= 66
             payload[1:3] = bytes([0xCC, chance.choice([READ, WRITE, COPY, RECALL, LOCK])])
         session.add(kind, payload)

@@ -48,7 +48,7 @@ def early_event(session):
 
 def cut(chance):
     """Bytes at which a session stops: a header or a payload that is not whole."""
-    whole = record(chance.choice([2, 3, 4, unknown(chance)]), chance.randbytes(chance.choice([1, 4, 8])))
+    whole = record(chance.choice([READING, CONVERSION, TRANSACTION, unknown(chance)]), chance.randbytes(chance.choice([1, 4, 8])))
     return whole[:chance.choice([1, 2, 3, 4, -1, -1])]
 
 
