@@ -1,4 +1,4 @@
--- Laws of what the master's bytes ask. Assumes nothing.
+-- Laws of what the master's bytes ask.
 use mathlib.Core.Path.{_≡_, refl, sym}
 use mathlib.Core.Bool.{Bool, true, false}
 use mathlib.Core.List.{List, [], _∷_, _++_}
@@ -61,38 +61,42 @@ own-only address master =
 -- what holds of a transaction with no function command, and of one whose function command stands at place 1 or 9, holds of what is asked
 module _
     (P : Transaction → Type 0)
-    (count : ℕ)
+    (start count : ℕ)
     (master : List ℕ)
-    (none : (rom : Rom) → P (plainOf count rom))
-    (some : (rom : Rom) (at : ℕ) → (at ≡ 1) ⊎ (at ≡ 9) → at + 2 ≤ length master → P (record { count = count; rom = rom; command = commandOf (getD master at 0); address = getD master (at + 1) 0; from = at + 2 }))
+    (none : (rom : Rom) → P (plainOf start count rom))
+    (some : (rom : Rom) (at : ℕ) → (at ≡ 1) ⊎ (at ≡ 9) → at + 2 ≤ length master → P (record { start = start; from = at + 2; address = getD master (at + 1) 0; rom = rom; command = commandOf (getD master at 0); count = count }))
   where
-    at-holds : (rom : Rom) (at : ℕ) → (at ≡ 1) ⊎ (at ≡ 9) → P (askedAt count rom at master)
+    at-holds : (rom : Rom) (at : ℕ) → (at ≡ 1) ⊎ (at ≡ 9) → P (askedAt start count rom at master)
     unfolding askedAt
     at-holds rom at place =
         picked P (ltb (length master) (at + 2)) _ _ (λ short. none rom) (λ long. some rom at place (ltb-false _ _ long))
 
-    by-holds : (rom : Rom) → P (askedBy count master rom)
+    by-holds : (rom : Rom) → P (askedBy start count master rom)
     by-holds Skip = at-holds Skip 1 (inl refl)
     by-holds Match = at-holds Match 9 (inr refl)
     by-holds Net33 = none Net33
     by-holds Net39 = none Net39
     by-holds Quiet = none Quiet
 
-    pub asked-holds : P (askedOf count master)
+    pub asked-holds : P (askedOf start count master)
     unfolding askedOf
     asked-holds = by-holds (romOf master)
 
--- the count is the one given
-pub asked-count : (count : ℕ) (master : List ℕ) → askedOf count master .count ≡ count
-asked-count count master =
-    asked-holds (λ (t : Transaction). t .count ≡ count) count master (λ rom. refl) (λ rom at place long. refl)
+-- what a transaction has whatever the master bytes say: start and count are those given, and the bytes to be written start at 11 at most, and
+-- not past the end
+pub record Placed (start count : ℕ) (master : List ℕ) (t : Transaction) : Type 0 where
+  pub starts : t .start ≡ start
+  pub counts : t .count ≡ count
+  pub near : t .from ≤ 11
+  pub within : t .from ≤ length master
 
--- the bytes to be written start at 11 at most, and not past the end
-pub from-fits : (count : ℕ) (master : List ℕ) → askedOf count master .from ≤ 11
-from-fits count master =
-    asked-holds (λ (t : Transaction). t .from ≤ 11) count master (λ rom. omega arith)
-    (λ rom at place long. ⊎-elim (λ e. omega arith) (λ e. omega arith) place)
-
-pub from-within : (count : ℕ) (master : List ℕ) → askedOf count master .from ≤ length master
-from-within count master =
-    asked-holds (λ (t : Transaction). t .from ≤ length master) count master (λ rom. omega arith) (λ rom at place long. long)
+pub asked-placed : (start count : ℕ) (master : List ℕ) → Placed start count master (askedOf start count master)
+asked-placed start count master =
+    asked-holds (Placed start count master) start count master
+    (λ rom. record { starts = refl; counts = refl; near = omega arith; within = omega arith })
+    (λ rom at place long. record {
+      starts = refl;
+      counts = refl;
+      near = ⊎-elim (λ e. omega arith) (λ e. omega arith) place;
+      within = long;
+    })

@@ -26,26 +26,33 @@ commandOf b =
     pick (eqb b 0x69) Read
     (pick (eqb b 0x6c) Write (pick (eqb b 0x48) Copy (pick (eqb b 0xb8) Recall (pick (eqb b 0x6a) Lock Nothing))))
 
--- a transaction with no function command
-abbrev pub plainOf : ℕ → Rom → Transaction
-plainOf count rom = record { count = count; rom = rom; command = Nothing; address = 0; from = 0 }
+-- a transaction with no function command; its master bytes start so far into its payload
+abbrev pub plainOf : ℕ → ℕ → Rom → Transaction
+plainOf start count rom = record { start = start; from = 0; address = 0; rom = rom; command = Nothing; count = count }
 
 -- the function command at a place of the master bytes, its address byte, and where the bytes after them start; a missing address does nothing
-unfoldable pub askedAt : ℕ → Rom → ℕ → List ℕ → Transaction
-askedAt count rom at master =
-    pick (ltb (length master) (at + 2)) (plainOf count rom)
-    (record { count = count; rom = rom; command = commandOf (getD master at 0); address = getD master (at + 1) 0; from = at + 2 })
+unfoldable pub askedAt : ℕ → ℕ → Rom → ℕ → List ℕ → Transaction
+askedAt start count rom at master =
+    pick (ltb (length master) (at + 2)) (plainOf start count rom)
+    (record {
+      start = start;
+      from = at + 2;
+      address = getD master (at + 1) 0;
+      rom = rom;
+      command = commandOf (getD master at 0);
+      count = count;
+    })
 
 -- CCh is followed by the function command, 55h by 8 address bytes and then the function command; none follows a net address read
-abbrev pub askedBy : ℕ → List ℕ → Rom → Transaction
-askedBy count master Skip = askedAt count Skip 1 master
-askedBy count master Match = askedAt count Match 9 master
-askedBy count master Net33 = plainOf count Net33
-askedBy count master Net39 = plainOf count Net39
-askedBy count master Quiet = plainOf count Quiet
+abbrev pub askedBy : ℕ → ℕ → List ℕ → Rom → Transaction
+askedBy start count master Skip = askedAt start count Skip 1 master
+askedBy start count master Match = askedAt start count Match 9 master
+askedBy start count master Net33 = plainOf start count Net33
+askedBy start count master Net39 = plainOf start count Net39
+askedBy start count master Quiet = plainOf start count Quiet
 
-unfoldable pub askedOf : ℕ → List ℕ → Transaction
-askedOf count master = askedBy count master (romOf master)
+unfoldable pub askedOf : ℕ → ℕ → List ℕ → Transaction
+askedOf start count master = askedBy start count master (romOf master)
 
 -- two lists have the same bytes
 abbrev pub sameBytes : List ℕ → List ℕ → Bool

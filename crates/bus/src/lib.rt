@@ -23,14 +23,15 @@ pub enum Command {
     Nothing,
 }
 
-// A transaction, taken apart: how many bytes are read, whom it selects, what it asks there, and where in the master bytes those to be
-// written start.
+// A transaction, taken apart: where in its record's payload the master bytes start, where in these those to be written start, whom it
+// selects, what it asks there, and how many bytes are read.
 pub struct Transaction {
-    pub count: u16,
+    pub start: u8,
+    pub from: u8,
+    pub address: u8,
     pub rom: Rom,
     pub command: Command,
-    pub address: u8,
-    pub from: u8,
+    pub count: u16,
 }
 
 fn rom_by(b: u8) -> Rom
@@ -82,46 +83,48 @@ fn command_of(b: u8) -> Command
 }
 
 // A transaction with no function command.
-fn plain(count: u16, rom: Rom) -> Transaction
-    ensures { λ r. ⌜ r ≡ plainOf count rom ⌝ }
+fn plain(start: u8, count: u16, rom: Rom) -> Transaction
+    ensures { λ r. ⌜ r ≡ plainOf start count rom ⌝ }
 {
     Transaction {
-        count: count,
+        start: start,
+        from: 0,
+        address: 0,
         rom: rom,
         command: Command::Nothing,
-        address: 0,
-        from: 0,
+        count: count,
     }
 }
 
-fn asked_at(count: u16, rom: Rom, at: u8, master: &[u8]) -> Transaction
+fn asked_at(start: u8, count: u16, rom: Rom, at: u8, master: &[u8]) -> Transaction
     requires { ⌜ at < 16 ⌝ }
-    ensures { λ r. ⌜ r ≡ askedAt count rom at (now (master .entry)) ⌝ }
+    ensures { λ r. ⌜ r ≡ askedAt start count rom at (now (master .entry)) ⌝ }
 {
     let i = at as usize;
     if master.len() < i + 2 {
-        return plain(count, rom);
+        return plain(start, count, rom);
     }
     Transaction {
-        count: count,
+        start: start,
+        from: at + 2,
+        address: master[i + 1],
         rom: rom,
         command: command_of(master[i]),
-        address: master[i + 1],
-        from: at + 2,
+        count: count,
     }
 }
 
-// What the master bytes ask, where count bytes are read.
-pub fn asked(count: u16, master: &[u8]) -> Transaction
-    ensures { λ r. ⌜ r ≡ askedOf count (now (master .entry)) ⌝ }
+// What the master bytes ask, which start so far into a payload, where count bytes are read.
+pub fn asked(start: u8, count: u16, master: &[u8]) -> Transaction
+    ensures { λ r. ⌜ r ≡ askedOf start count (now (master .entry)) ⌝ }
 {
     let rom = rom_of(master);
     match rom {
-        Rom::Skip => asked_at(count, Rom::Skip, 1, master),
-        Rom::Match => asked_at(count, Rom::Match, 9, master),
-        Rom::Net33 => plain(count, Rom::Net33),
-        Rom::Net39 => plain(count, Rom::Net39),
-        Rom::Quiet => plain(count, Rom::Quiet),
+        Rom::Skip => asked_at(start, count, Rom::Skip, 1, master),
+        Rom::Match => asked_at(start, count, Rom::Match, 9, master),
+        Rom::Net33 => plain(start, count, Rom::Net33),
+        Rom::Net39 => plain(start, count, Rom::Net39),
+        Rom::Quiet => plain(start, count, Rom::Quiet),
     }
 }
 

@@ -1,45 +1,43 @@
--- What the definitions keep: a charge is well-formed after steps 1 to 5, and bounds of AF and of a share. Assumes nothing.
-use mathlib.Core.Path.{_≡_}
-use mathlib.Core.Bool.{false}
+-- What the definitions keep: a charge is well-formed after steps 1 to 5, and bounds of AF and of a share.
+use mathlib.Core.Bool.{Bool}
 use Prim.Native.Nat.{ℕ, _+_, _*_, _^_, _≤_, _<_}
 use native.Mathlib.Omega.{arith}
-use lib.Dec.{eqb}
-use borrow.Author.Tests.{lt-ltb, leb-false, eqb-false}
+use lib.Dec.{eqb, ltb}
+use borrow.Author.Tests.{ltb-true, eqb-false}
 use Rattle.numbers.proofs.Bounds.{times, picked}
 use Rattle.params.specs.declared.Counting.{Counting}
 use Rattle.charge.specs.declared.Charge.{Charge}
-use Rattle.charge.specs.Charge.{ChargeWF, blankedOf, grownOf, fallOf, dueOf, ageLeftOf, newAge, countedOf, agedFullOf, shareOf}
+use Rattle.charge.specs.declared.Age.{Age}
+use Rattle.charge.specs.Charge.{ChargeWF, setOf, withAs, blankedOf, grownOf, fallOf, agedOf, countedOf, agedFullOf, shareOf}
+
+pub set-wf : (g : Charge) (acr : ℕ) (learnf : Bool) → acr ≤ 65535 → ChargeWF g → ChargeWF (setOf g acr learnf)
+set-wf g acr learnf h w = record { count = omega arith; age = w .age; low = w .low; high = w .high }
+
+pub with-as-wf : (g : Charge) (aging : ℕ) → 63 ≤ aging → aging ≤ 128 → ChargeWF g → ChargeWF (withAs g aging)
+with-as-wf g aging p q w = record { count = w .count; age = w .age; low = p; high = q }
 
 -- one conversion takes at most 9 steps off ACR
 fall-small : (count counted ab : ℕ) → count < 2 ^ 28 → fallOf count (grownOf count counted ab) ≤ 9
 fall-small count counted ab h = omega arith
 
-pub age-left-falls : (ac age : ℕ) → ageLeftOf ac age ≤ age
-age-left-falls ac age =
-    picked (λ (x : ℕ). x ≤ age) (eqb ac 0) 0 _ (λ e. omega arith)
-    (λ e. picked (λ (x : ℕ). x ≤ age) (dueOf ac age) _ _ (λ d. omega arith) (λ d. omega arith))
+-- what holds of the age counter and AS
+abbrev AgeWF : Age → Type 0
+AgeWF x = (x .age < 32 * 65535) × (63 ≤ x .aging) × (x .aging ≤ 128)
 
-not-due : (ac age : ℕ) → 0 < ac → dueOf ac age ≡ false → age < 32 * ac
-not-due ac age h d = leb-false (32 * ac) age (rw (lt-ltb 0 ac h) at d)
-
-age-below : (ac age fall : ℕ) → ac ≤ 65535 → age < 32 * 65535 → fall ≤ 9 → ageLeftOf ac (age + fall) < 32 * 65535
-age-below ac age fall p q h =
-    picked (λ (x : ℕ). x < 32 * 65535) (eqb ac 0) 0 _ (λ e. omega arith)
-    (λ e. picked (λ (x : ℕ). x < 32 * 65535) (dueOf ac (age + fall)) _ _
-    (λ d. omega (arith, eqb-false ac 0 e))
-    (λ d. omega (arith, not-due ac (age + fall) (omega (arith, eqb-false ac 0 e)) d)))
+aged-wf : (ac age fall aging : ℕ) → ac ≤ 65535 → age < 32 * 65535 → fall ≤ 9 → 63 ≤ aging → aging ≤ 128 →
+    AgeWF (agedOf ac (age + fall) aging)
+aged-wf ac age fall aging p q h low high =
+    picked AgeWF (eqb ac 0) (record { age = 0; aging = aging }) _ (λ e. (omega arith, low, high))
+    (λ e. picked AgeWF (ltb (age + fall) (32 * ac)) (record { age = age + fall; aging = aging }) _
+    (λ l. (omega (arith, ltb-true (age + fall) (32 * ac) l), low, high))
+    (λ l. (omega (arith, eqb-false ac 0 e), omega arith, omega arith)))
 
 pub counted-wf : (p : Counting) (g : Charge) (last c : ℕ) → p .ac ≤ 65535 → ChargeWF g → ChargeWF (countedOf p g last c)
 unfolding countedOf
 counted-wf p g last c h w =
-    let counted = blankedOf (p .nben) c in
-    let due = dueOf (p .ac) (newAge p g c) in
-    record {
-      count = omega arith;
-      age = age-below (p .ac) (g .age) _ h (w .age) (fall-small (g .count) counted (p .ab) (w .count));
-      low = picked (λ (x : ℕ). 63 ≤ x) due _ (g .aging) (λ e. omega arith) (λ e. w .low);
-      high = picked (λ (x : ℕ). x ≤ 128) due _ (g .aging) (λ e. omega (arith, w .high)) (λ e. w .high);
-    }
+    let fall = fall-small (g .count) (blankedOf (p .nben) c) (p .ab) (w .count) in
+    let aged = aged-wf (p .ac) (g .age) _ (g .aging) h (w .age) fall (w .low) (w .high) in
+    record { count = omega arith; age = aged .0; low = aged .1; high = aged .2 }
 
 pub aged-full-high : (full aging : ℕ) → full ≤ 16384 → aging ≤ 128 → agedFullOf full aging ≤ 16384
 unfolding agedFullOf

@@ -1,9 +1,10 @@
--- The contracts of this crate's public functions leave no choice. Assumes nothing.
+-- The contracts of this crate's public functions leave no choice.
 use mathlib.Core.Path.{refl, sym, _∙_}
 use Rattle.once.specs.Once.{Once}
 use Rattle.charge.proofs.current
 use Rattle.charge.proofs.Trace.traced
 use Rattle.charge.proofs.Charge.counted
+use Rattle.charge.proofs.Charge.set
 use Rattle.charge.proofs.aged_full
 use Rattle.charge.proofs.share
 
@@ -15,6 +16,9 @@ traced-once κs a r r′ w w′ p h h′ = (h ∙ sym h′, refl)
 
 pub counted-once : Once counted.ended counted.Reads.Pre counted.Reads.Learnt
 counted-once κs a r r′ w w′ p h h′ = (h ∙ sym h′, refl)
+
+pub set-once : Once set.ended set.Reads.Pre set.Reads.Learnt
+set-once κs a r r′ w w′ p h h′ = (h ∙ sym h′, refl)
 
 pub aged-full-once : Once aged_full.ended aged_full.Reads.Pre aged_full.Reads.Learnt
 aged-full-once κs a r r′ w w′ p h h′ = (h ∙ sym h′, refl)

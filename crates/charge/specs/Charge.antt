@@ -1,12 +1,13 @@
--- The charge count: steps 1 to 5 of a conversion; AF, and a share of Full40 as ACR. Currents are kept as z + 2^15.
+-- The charge count: steps 1 to 5 of a conversion, and the count set outright; AF, and a share of Full40 as ACR. Currents are kept as z + 2^15.
 use mathlib.Core.Bool.{Bool, true, not}
 use Prim.Native.Nat.{ℕ, _+_, _-_, _*_, _/_, _%_, _^_, _≤_, _<_, min, max}
-use lib.Dec.{ltb, leb, eqb}
+use lib.Dec.{ltb, eqb}
 use Rattle.numbers.specs.Offset.{zeroAt}
-use Rattle.numbers.specs.Choice.{pick, both, butNot}
+use Rattle.numbers.specs.Choice.{pick, both, either, butNot}
 use Rattle.params.specs.declared.Counting.{Counting}
 use Rattle.charge.specs.declared.Charge.{Charge}
 use Rattle.charge.specs.declared.Trace.{Trace}
+use Rattle.charge.specs.declared.Age.{Age}
 
 -- ACR and its fraction, of the count ACR × 4,096 + fraction
 abbrev pub acrOf : ℕ → ℕ
@@ -22,6 +23,16 @@ pub record ChargeWF (g : Charge) : Type 0 where
   pub low : 63 ≤ g .aging
   pub high : g .aging ≤ 128
 
+-- ---- the count set outright, by a correction (full found, the empty point, an ACR that is above E) or over the bus
+
+-- ACR = acr, fraction 0, LEARNF = learnf; AS and the age counter stay
+abbrev pub setOf : Charge → ℕ → Bool → Charge
+setOf g acr learnf = record { count = acr * 4096; age = g .age; aging = g .aging; learnf = learnf }
+
+-- AS alone
+abbrev pub withAs : Charge → ℕ → Charge
+withAs g aging = record { count = g .count; age = g .age; aging = aging; learnf = g .learnf }
+
 -- ---- step 1
 
 -- c = raw + COB, clamped to -32,768..32,767. raw is kept as z + 2^31, COB as z + 2^7
@@ -36,15 +47,16 @@ abbrev pub turnedOf : ℕ → ℕ → Bool
 turnedOf last c = both (negative c) (not (negative last))
 
 -- CURRENT = c, and the c before it
-unfoldable pub tracedOf : Trace → ℕ → Trace
+abbrev pub tracedOf : Trace → ℕ → Trace
 tracedOf t c = record { last = c; before = t .last; any = true; two = t .any }
 
 -- ---- step 2: 0 < c < 64 counts as 0; with NBEN, -16 < c < 0 counts as 0
 
 abbrev pub blankedOf : Bool → ℕ → ℕ
 blankedOf nben c =
-    pick (both (ltb (zeroAt 15) c) (ltb c (zeroAt 15 + 64))) (zeroAt 15)
-    (pick (both nben (both (ltb (zeroAt 15 - 16) c) (ltb c (zeroAt 15)))) (zeroAt 15) c)
+    pick
+    (either (both (ltb (zeroAt 15) c) (ltb c (zeroAt 15 + 64))) (both nben (both (ltb (zeroAt 15 - 16) c) (ltb c (zeroAt 15)))))
+    (zeroAt 15) c
 
 -- ---- step 3: ACR × 4,096 + fraction grows by that plus AB, clamped to 0..2^28 - 1. AB is kept as z + 2^7
 
@@ -57,33 +69,27 @@ grownOf count counted ab = min (count + counted + ab - (zeroAt 15 + zeroAt 7)) (
 abbrev pub fallOf : ℕ → ℕ → ℕ
 fallOf old new = acrOf old - acrOf new
 
--- AC > 0 and the counter is at least 32 × AC
-abbrev pub dueOf : ℕ → ℕ → Bool
-dueOf ac age = both (ltb 0 ac) (leb (32 * ac) age)
-
--- AS falls by 1, never below 63
-abbrev pub agedOf : Bool → ℕ → ℕ
-agedOf due aging = pick due (max (aging - 1) 63) aging
-
--- 32 × AC is taken off; AC = 0 zeroes the counter
-abbrev pub ageLeftOf : ℕ → ℕ → ℕ
-ageLeftOf ac age = pick (eqb ac 0) 0 (pick (dueOf ac age) (age - 32 * ac) age)
+-- AC = 0 zeroes the counter. If it is at least 32 × AC, AS falls by 1, never below 63, and 32 × AC is taken off
+abbrev pub agedOf : ℕ → ℕ → ℕ → Age
+agedOf ac age aging =
+    pick (eqb ac 0) (record { age = 0; aging = aging })
+    (pick (ltb age (32 * ac)) (record { age = age; aging = aging }) (record { age = age - 32 * ac; aging = max (aging - 1) 63 }))
 
 -- ---- steps 1 to 5, of the charge
 
 abbrev pub newCount : Counting → Charge → ℕ → ℕ
 newCount p g c = grownOf (g .count) (blankedOf (p .nben) c) (p .ab)
 
--- the age counter, a fall of ACR added
-abbrev pub newAge : Counting → Charge → ℕ → ℕ
-newAge p g c = g .age + fallOf (g .count) (newCount p g c)
+-- the age counter with a fall of ACR added, and AS
+abbrev pub newAge : Counting → Charge → ℕ → Age
+newAge p g c = agedOf (p .ac) (g .age + fallOf (g .count) (newCount p g c)) (g .aging)
 
 -- step 5: ACR = 0 clears LEARNF
 unfoldable pub countedOf : Counting → Charge → ℕ → ℕ → Charge
 countedOf p g last c = record {
   count = newCount p g c;
-  age = ageLeftOf (p .ac) (newAge p g c);
-  aging = agedOf (dueOf (p .ac) (newAge p g c)) (g .aging);
+  age = newAge p g c .age;
+  aging = newAge p g c .aging;
   learnf = butNot (butNot (g .learnf) (turnedOf last c)) (eqb (acrOf (newCount p g c)) 0);
 }
 

@@ -1,15 +1,8 @@
-// The charge count: steps 1 to 5 of a conversion; AF, and a share of Full40 as ACR.
+// The charge count: steps 1 to 5 of a conversion, and the count set outright; AF, and a share of Full40 as ACR.
 use params::Counting;
 ghost use mathlib.Core.Path.{_≡_};
 ghost use Prim.Native.Nat.{_*_, _≤_};
-ghost use Rattle.charge.specs.Charge.{ChargeWF, currentOf, tracedOf, blankedOf, grownOf, dueOf, ageLeftOf, agedOf, countedOf, agedFullOf, shareOf};
-
-// What 0 is kept as: in a 32-bit count, in a current and in a signed byte.
-const RAW_ZERO: u64 = 2147483648;
-
-const ZERO: u16 = 32768;
-
-const BYTE_ZERO: u64 = 128;
+ghost use Rattle.charge.specs.Charge.{ChargeWF, currentOf, tracedOf, blankedOf, grownOf, agedOf, countedOf, setOf, agedFullOf, shareOf};
 
 // ACR × 4,096 + fraction, the age counter, AS and LEARNF.
 pub struct Charge {
@@ -27,12 +20,18 @@ pub struct Trace {
     pub two: bool,
 }
 
+// The age counter and AS.
+struct Age {
+    age: u32,
+    aging: u8,
+}
+
 // Step 1: c.
 pub fn current(raw: u32, cob: u8) -> u16
     ensures { λ r. ⌜ r ≡ currentOf raw cob ⌝ }
 {
     let sum = (raw as u64) + (cob as u64);
-    let offset = RAW_ZERO + BYTE_ZERO - (ZERO as u64);
+    let offset = (numbers::ZERO31 as u64) + (numbers::ZERO7 as u64) - (numbers::ZERO15 as u64);
     numbers::at_most(65535, numbers::less(sum, offset)) as u16
 }
 
@@ -40,9 +39,10 @@ pub fn current(raw: u32, cob: u8) -> u16
 fn blanked(nben: bool, c: u16) -> u16
     ensures { λ r. ⌜ r ≡ blankedOf nben c ⌝ }
 {
-    let small = numbers::and(ZERO < c, c < ZERO + 64);
-    let slight = numbers::and(nben, numbers::and(ZERO - 16 < c, c < ZERO));
-    numbers::choose16(small, ZERO, numbers::choose16(slight, ZERO, c))
+    let zero = numbers::ZERO15;
+    let small = numbers::and(zero < c, c < zero + 64);
+    let slight = numbers::and(nben, numbers::and(zero - 16 < c, c < zero));
+    numbers::choose16(numbers::or(small, slight), zero, c)
 }
 
 // Step 3.
@@ -50,34 +50,31 @@ fn grown(count: u32, counted: u16, ab: u8) -> u32
     ensures { λ r. ⌜ r ≡ grownOf count counted ab ⌝ }
 {
     let sum = (count as u64) + (counted as u64) + (ab as u64);
-    let offset = (ZERO as u64) + BYTE_ZERO;
+    let offset = (numbers::ZERO15 as u64) + (numbers::ZERO7 as u64);
     numbers::at_most(268435455, numbers::less(sum, offset)) as u32
 }
 
-// Step 4: whether AS falls.
-fn due(ac: u16, age: u32) -> bool
-    ensures { λ r. ⌜ r ≡ dueOf ac age ⌝ }
+// Step 4.
+fn aged(ac: u16, age: u32, aging: u8) -> Age
+    ensures { λ r. ⌜ r ≡ agedOf ac age aging ⌝ }
 {
+    if ac == 0 {
+        return Age {
+            age: 0,
+            aging: aging,
+        };
+    }
     let limit = 32 * (ac as u32);
-    numbers::and(0 < ac, limit <= age)
-}
-
-// Step 4: the age counter afterwards.
-fn age_left(ac: u16, age: u32) -> u32
-    ensures { λ r. ⌜ r ≡ ageLeftOf ac age ⌝ }
-    ensures small { λ r. ⌜ r ≤ age ⌝ }
-{
-    let limit = 32 * (ac as u64);
-    let rest = numbers::less(age as u64, limit) as u32;
-    numbers::choose(ac == 0, 0, numbers::choose(due(ac, age), rest, age))
-}
-
-// Step 4: AS afterwards.
-fn aged(due: bool, aging: u8) -> u8
-    ensures { λ r. ⌜ r ≡ agedOf due aging ⌝ }
-{
-    let lower = numbers::at_least(63, numbers::less(aging as u64, 1)) as u8;
-    numbers::choose8(due, lower, aging)
+    if age < limit {
+        return Age {
+            age: age,
+            aging: aging,
+        };
+    }
+    Age {
+        age: age - limit,
+        aging: numbers::at_least(63, numbers::less(aging as u64, 1)) as u8,
+    }
 }
 
 impl Trace {
@@ -102,16 +99,26 @@ impl Charge {
     {
         let count = grown(self.count, blanked(p.nben, c), p.ab);
         let fall = numbers::less((self.count / 4096) as u64, (count / 4096) as u64) as u32;
-        let age = self.age + fall;
-        let was = last < ZERO;
-        let turned = numbers::and(c < ZERO, !was);
+        let a = aged(p.ac, self.age + fall, self.aging);
+        let was = last < numbers::ZERO15;
+        let turned = numbers::and(c < numbers::ZERO15, !was);
         let learnf = numbers::and_not(self.learnf, turned);
         Charge {
             count: count,
-            age: age_left(p.ac, age),
-            aging: aged(due(p.ac, age), self.aging),
+            age: a.age,
+            aging: a.aging,
             learnf: numbers::and_not(learnf, count / 4096 == 0),
         }
+    }
+
+    // ACR is set outright, the fraction 0.
+    pub fn set(mut self, acr: u16, learnf: bool) -> Charge
+        ensures { λ r. ⌜ r ≡ setOf self acr learnf ⌝ }
+    {
+        let count = (acr as u32) * 4096;
+        self.count = count;
+        self.learnf = learnf;
+        self
     }
 }
 

@@ -1,67 +1,62 @@
 // checksum: prints the 1-Wire CRC of each message on standard input (a length byte, then the bytes)
-use libc::STDIN_FILENO;
-use libc::STDOUT_FILENO;
+use streams::Input;
+use streams::Said;
+use streams::Stream;
 ghost use mathlib.Core.Path.{_≡_};
-ghost use Prim.Native.Nat.{_*_, _<_, _≤_};
+ghost use mathlib.Core.List.{List};
+ghost use Prim.Native.Nat.{ℕ, _*_, _<_, _≤_};
 ghost use lib.ListN.{length};
-ghost use Rattle.checksum.specs.Text.{hexOf, lineOf, wholeOf};
-ghost use Rattle.checksum.specs.Promises.{Answered, Written};
+ghost use Rattle.digits.specs.Digits.{Writing};
+ghost use Rattle.streams.specs.Streams.{Front, Saying};
+ghost use Rattle.checksum.specs.Sums.{sumOf, thereOf, sumsText, checkedText, summedOf, Summed};
 
 // A line of the answer, and where the next message starts: at the end where this one is not there whole.
-struct Answer {
+struct Message {
     line: [u8; 3],
     next: usize,
 }
 
-fn digit(x: u8) -> u8
-    requires { ⌜ x < 16 ⌝ }
-    ensures { λ r. ⌜ r ≡ hexOf x ⌝ }
+fn sum(c: u8) -> [u8; 3]
+    ensures { λ r. ⌜ r ≡ sumOf c ⌝ }
 {
-    if x < 10 { b'0' + x } else { b'a' - 10 + x }
-}
-
-// The line of a CRC.
-fn line(c: u8) -> [u8; 3]
-    ensures { λ r. ⌜ r ≡ lineOf c ⌝ }
-{
-    [digit(c / 16), digit(c % 16), b'\n']
+    [digits::hex(c / 16), digits::hex(c % 16), b'\n']
 }
 
 // Whether a message of n bytes is there, where left bytes are left.
-fn whole(n: usize, left: usize) -> bool
-    ensures { λ r. ⌜ r ≡ wholeOf n left ⌝ }
+fn there(n: usize, left: usize) -> bool
+    ensures { λ r. ⌜ r ≡ thereOf n left ⌝ }
 {
     if n <= 64 { n <= left } else { false }
 }
 
 // The message that starts at the index at.
-fn answered(s: &[u8], at: usize) -> Answer
+fn message_at(s: &[u8], at: usize) -> Message
     requires { ⌜ at < length (now s) ⌝ }
-    ensures { λ r. ⌜ Answered (now (s .entry)) at (r .line) (r .next) ⌝ }
+    ensures { λ r. ⌜ Summed (now (s .entry)) at (r .line) (r .next) ⌝ }
 {
     let n = parts::wide(s[at]);
     let from = at + 1;
-    if whole(n, s.len() - from) {
+    if there(n, s.len() - from) {
         let end = from + n;
-        let l = line(crc::crc(&s[from..end]));
-        Answer { line: l, next: end }
+        let l = sum(crc::crc(&s[from..end]));
+        Message { line: l, next: end }
     } else {
-        Answer {
+        Message {
             line: [b'-', b'-', b'\n'],
             next: s.len(),
         }
     }
 }
 
-// Writes the lines of all messages to the front of out, and answers how many bytes they are.
-fn lines(s: &[u8], out: &mut [u8]) -> usize
+// The lines of all messages: each byte is worth at most one line of three bytes.
+fn put_sums(s: &[u8], out: &mut [u8]) -> usize
     requires { ⌜ 3 * length (now s) ≤ length (now out) ⌝ }
-    ensures { λ r. ⌜ Written (now (s .entry)) (now (out .entry)) r (now (out .exit)) ⌝ }
+    ensures { λ r. ⌜ Writing (3 * length (now (s .entry))) (sumsText (now (s .entry))) (now (out .entry)) 0 r (now (out .exit)) ⌝ }
 {
     let mut at = 0;
     let mut used = 0;
     while at < s.len() {
-        let r = answered(s, at);
+        let r = message_at(s, at);
         let l = r.line;
         parts::store(&l, out, used);
         used += 3;
@@ -70,16 +65,39 @@ fn lines(s: &[u8], out: &mut [u8]) -> usize
     used
 }
 
-// The input has at most 65,536 bytes, each worth at most one line of three bytes. There is room for one byte more, by which
-// longer input is seen; that is answered by `--` alone.
+// Longer input than 65,536 bytes is answered by `--` alone.
+fn put_checked(s: &[u8], out: &mut [u8]) -> usize
+    requires { ⌜ 196608 ≤ length (now out) ⌝ }
+    ensures { λ r. ⌜ Writing 196608 (checkedText (now (s .entry))) (now (out .entry)) 0 r (now (out .exit)) ⌝ }
+{
+    if 65536 < s.len() {
+        return digits::put_bytes(b"--\n", out, 0);
+    }
+    put_sums(s, out)
+}
+
+// What the program says. A byte more than may be there is enough to know of any input. (That the room keeps its length is said for `main`.)
+fn summed(input: &[u8; 65537], got: Input, room: &mut [u8; 196608]) -> Said
+    ensures { λ r. ⌜ ((s : List ℕ) → Front s (now (input .entry)) (got .count) → Saying (summedOf (got .failed) s) (now (room .entry)) r (now (room .exit))) ⌝ }
+    ensures { λ _. ⌜ 196608 ≡ length (now (room .exit)) ⌝ }
+{
+    if got.failed {
+        return streams::put_unread(b"checksum", room);
+    }
+    let n = streams::within(got.count, input);
+    let all: &[u8] = input;
+    let count = put_checked(&all[..n], room);
+    let stream = Stream::Output;
+    Said {
+        stream: stream,
+        count: count,
+    }
+}
+
 fn main() {
     let mut input = [0u8; 65537];
-    let n = io::read_full(STDIN_FILENO, &mut input);
-    if 65536 < n {
-        io::write_all(STDOUT_FILENO, b"--\n");
-        return;
-    }
-    let mut out = [0u8; 196608];
-    let used = lines(&input[..n], &mut out);
-    io::write_all(STDOUT_FILENO, &out[..used]);
+    let got = streams::read_input(&mut input);
+    let mut room = [0u8; 196608];
+    let said = summed(&input, got, &mut room);
+    streams::say(b"checksum", said, &room);
 }

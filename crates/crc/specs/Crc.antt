@@ -20,13 +20,13 @@ unfoldable pub eightOf : ℕ → ℕ
 eightOf x = bitOf (bitOf (bitOf (bitOf (bitOf (bitOf (bitOf (bitOf x)))))))
 
 -- the CRC c after the byte b
-unfoldable pub byteOf : ℕ → ℕ → ℕ
-byteOf c b = eightOf (bitXor c b)
+unfoldable pub nextOf : ℕ → ℕ → ℕ
+nextOf c b = eightOf (bitXor c b)
 
 -- the CRC c after the bytes of a list, the first byte first
 abbrev pub crcFrom : ℕ → List ℕ → ℕ
 crcFrom c [] = c
-crcFrom c (b ∷ bs) = crcFrom (byteOf c b) bs
+crcFrom c (b ∷ bs) = crcFrom (nextOf c b) bs
 
 -- the CRC of a message: "start 0"
 abbrev pub crcOf : List ℕ → ℕ

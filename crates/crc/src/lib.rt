@@ -3,7 +3,7 @@ mod entries;
 
 use entries::TABLE;
 ghost use mathlib.Core.Path.{_≡_};
-ghost use Rattle.crc.specs.Crc.{byteOf, crcOf, Ruled};
+ghost use Rattle.crc.specs.Crc.{nextOf, crcOf, Ruled};
 
 // The constant table as a value. A loop takes it once, since the constant is written to memory anew wherever it is named.
 fn whole_table() -> [u8; 256]
@@ -12,20 +12,13 @@ fn whole_table() -> [u8; 256]
     TABLE
 }
 
-fn look_up(table: &[u8; 256], c: u8, b: u8) -> u8
+// The CRC c after the byte b.
+fn next(table: &[u8; 256], c: u8, b: u8) -> u8
     requires { ⌜ Ruled (now table) ⌝ }
-    ensures { λ r. ⌜ r ≡ byteOf c b ⌝ }
+    ensures { λ r. ⌜ r ≡ nextOf c b ⌝ }
 {
     let i = (c ^ b) as usize;
     table[i]
-}
-
-// The CRC c after the byte b.
-pub fn next(c: u8, b: u8) -> u8
-    ensures { λ r. ⌜ r ≡ byteOf c b ⌝ }
-{
-    let table = whole_table();
-    look_up(&table, c, b)
 }
 
 // The CRC of the message s.
@@ -36,7 +29,7 @@ pub fn crc(s: &[u8]) -> u8
     let mut c: u8 = 0;
     let mut i = 0;
     while i < s.len() {
-        c = look_up(&table, c, s[i]);
+        c = next(&table, c, s[i]);
         i += 1;
     }
     c

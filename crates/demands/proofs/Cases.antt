@@ -1,13 +1,13 @@
--- The edge cases of the three classes, each with its class: one table, computed. Assumes nothing.
+-- The edge cases of the three classes, each with its class: one table, computed.
 use mathlib.Core.Path.{_≡_, refl}
 use mathlib.Core.List.{List, [], _∷_, _++_, map}
 use Prim.Native.Nat.{ℕ}
 use lib.ListN.{replicate}
-use Rattle.blocks.specs.Blocks.{inLabel, inBlock}
+use Rattle.label.specs.Label.{inLabel, inBlock}
 use Rattle.bus.specs.Ask.{romBy, commandOf, askedAt, askedOf, ownOf}
 use Rattle.replies.specs.Reply.{selectedOf}
-use Rattle.steps.specs.Step.{Rec, whole, cut}
-use Rattle.events.specs.Record.{knownOf, sizedOf, dueOf, eventOf, takenOf}
+use Rattle.events.specs.Record.{kindOf, takenOf}
+use Rattle.runs.specs.Record.{Rec, whole, cut}
 use Rattle.demands.specs.Sections.{Class, labelling, gauging, fence}
 use Rattle.demands.specs.Class.{blockOf, touchedOf, labelsOf, touchedClass, classOf}
 
@@ -71,5 +71,5 @@ cases =
     ∷ []
 
 pub cases-hold : map (λ c. classOf own (c .0)) cases ≡ map (λ c. c .1) cases
-unfolding takenOf knownOf sizedOf dueOf eventOf askedOf askedAt romBy commandOf selectedOf ownOf touchedClass labelsOf touchedOf blockOf inLabel inBlock
+unfolding takenOf kindOf askedOf askedAt romBy commandOf selectedOf ownOf touchedClass labelsOf touchedOf blockOf inLabel inBlock
 cases-hold = refl

@@ -1,4 +1,4 @@
--- Laws of tests and of choosing by a test. Assumes nothing.
+-- Laws of tests and of choosing by a test.
 use mathlib.Core.Path.{_≡_, refl}
 use mathlib.Core.Bool.{Bool, true, false}
 use Prim.Native.Nat.{ℕ}

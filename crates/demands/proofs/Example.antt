@@ -1,29 +1,32 @@
--- The hypotheses of the demands can be met. Assumes nothing.
+-- The hypotheses of the demands can be met.
 use mathlib.Core.Path.{_≡_, refl, ap}
 use mathlib.Core.Bool.{true}
 use mathlib.Core.List.{List, [], _∷_, _++_}
-use Prim.Native.Nat.{ℕ, _+_, _/_, _%_, _≤_}
+use Prim.Native.Nat.{ℕ, _+_, _/_, _≤_}
 use native.Mathlib.Omega.{arith}
-use borrow.Author.Tests.{le-ltb}
 use lib.ListN.{length, getD, take, replicate, length-take}
 use Rattle.parts.specs.Parts.{put}
 use Rattle.crc.specs.Crc as crc
-use Rattle.params.specs.Params.{countingOf}
 use Rattle.meter.specs.State.{poweredOf}
-use Rattle.charge.specs.Charge.{tracedOf}
-use Rattle.meter.specs.Convert.{convertOf}
-use Rattle.blocks.specs.Blocks.{inLabel, labelByte, labelWritten, labelCopied, labelRecalled}
+use Rattle.meter.specs.Convert.{flowedOf, convertOf}
+use Rattle.stores.specs.Stores.{meterWrittenOf, blockWrittenOf, meterCopiedOf, blockCopiedOf}
+use Rattle.parts.specs.Parts.{laidOf}
+use Rattle.label.specs.Label.{inLabel, inBlock, labelByte, labelWrittenOf, labelCopiedOf}
 use Rattle.map.specs.Registers.{registersOf, meterByte}
 use Rattle.bus.specs.Ask.{romBy, commandOf, askedAt, askedOf}
 use Rattle.gauge.specs.Gauge.{conversionOf, powerOnOf, writtenOf, copiedOf}
-use Rattle.replies.specs.Reply.{byteOf, selectedOf, sourceByte}
+use Rattle.replies.specs.Reply.{readByte, selectedOf, sourceByte}
 use Rattle.gauge.specs.Act.{ranOf, actOf, replyOf}
 use Rattle.pack.specs.Image.{imageOf}
-use Rattle.events.specs.Verdict.{addressedOf, verdictOf}
-use Rattle.records.specs.declared.Outcome.the-variants.{Done}
-use Rattle.steps.specs.Step.{Rec, whole, cut, wholeOf, recOf, sizeOf, didOf}
-use Rattle.events.specs.Record.{knownOf, sizedOf, dueOf, eventOf, takenOf}
-use Rattle.records.specs.Run.{recsOf, Line, emptyOf, endOf, repliesOf, sessionOf, codesOf, outcomeOf, takeOutNumber, takeOutRoom}
+use Rattle.events.specs.Image.{imageSize}
+use Rattle.events.specs.Record.{kindOf, addressedOf, judgedOf, takenOf}
+use Rattle.runs.specs.declared.Outcome.the-variants.{Done}
+use Rattle.runs.specs.Record.{Rec, whole, cut, wholeOf, recOf, sizeOf, recsOf, recordOf}
+use Rattle.runs.specs.Run.{Line, linesAfter, endAfter, repliesOf, codesOf}
+use Rattle.runs.proofs.Ends.{within-done}
+use Rattle.steps.specs.declared.Session.{Session}
+use Rattle.steps.specs.Step.{didOf}
+use Rattle.records.specs.Run.{emptyOf, sessionOf, takeOutNumber, takeOutRoom}
 use Rattle.demands.specs.Call.{Call, Within, firstOf, Stopped}
 use Rattle.demands.specs.Demand2.{Carried, PoweredOn}
 use Rattle.demands.specs.Sections.{last, more}
@@ -34,32 +37,31 @@ use Rattle.demands.proofs.Moments.{first-length}
 -- Any session within the limits has a call, and so has each of its moments
 
 -- what the contract of `run` says of any session that it runs
-abbrev pub called : List ℕ → List ℕ → List ℕ → Call
+abbrev pub called : List ℕ → List ℕ → List ℕ → Call Session
 called s room answers = record {
   bytes = s;
   room = room;
   answers = answers;
   ran = record {
     outcome = Done;
-    session = endOf emptyOf (length room) (recsOf s);
-    lines = length (sessionOf s (length room));
-    replied = length (repliesOf (sessionOf s (length room)));
+    state = endAfter didOf emptyOf (length room) (recsOf s);
+    lines = length (linesAfter didOf emptyOf (length room) (recsOf s));
+    replied = length (repliesOf (linesAfter didOf emptyOf (length room) (recsOf s)));
   };
-  replies = put room 0 (repliesOf (sessionOf s (length room)));
-  told = put answers 0 (codesOf (sessionOf s (length room)));
+  replies = put room 0 (repliesOf (linesAfter didOf emptyOf (length room) (recsOf s)));
+  told = put answers 0 (codesOf (linesAfter didOf emptyOf (length room) (recsOf s)));
 }
 
-pub called-within : (s room answers : List ℕ) → length s ≤ 32768 → (length s + 3) / 4 ≤ length answers → Within (called s room answers)
-unfolding outcomeOf
+pub called-within : (s room answers : List ℕ) → length s ≤ 32768 → (length s + 3) / 4 ≤ length answers → Within didOf emptyOf (called s room answers)
 called-within s room answers short lent = record {
   allowed =
-      rw (le-ltb 32768 (length s) short, le-ltb (length answers) ((length s + 3) / 4) lent)
-      (record { outcome = refl; session = refl; lines = refl; replied = refl; replies = refl; answered = refl });
+      rw (within-done (length s) (length answers) short lent)
+      (record { number = refl; outcome = refl; state = refl; lines = refl; replied = refl; replies = refl; answered = refl });
   short = short;
   lent = lent;
 }
 
-pub called-stopped : (n : ℕ) (c : Call) → Within c → Stopped n c (called (firstOf n (c .bytes)) (c .room) (c .answers))
+pub called-stopped : (n : ℕ) (c : Call Session) → Within didOf emptyOf c → Stopped didOf emptyOf n c (called (firstOf n (c .bytes)) (c .room) (c .answers))
 called-stopped n c w =
     let e = first-length n (c .bytes) in
     record {
@@ -70,22 +72,22 @@ called-stopped n c w =
     }
 
 -- and an image can be taken out of the state that is left, and given to a fresh gauge
-module _ (d : Call) (w : Within d) (loaded : d .ran .session .loaded ≡ true) (room : List ℕ) (fits : 60 ≤ length room) where
+module _ (d : Call Session) (w : Within didOf emptyOf d) (loaded : d .ran .state .loaded ≡ true) (room : List ℕ) (fits : imageSize ≤ length room) where
   abbrev after : List ℕ
-  after = takeOutRoom (d .ran .session) room
+  after = takeOutRoom (d .ran .state) room
 
-  abbrev fresh : Call
-  fresh = called (60 ∷ 0 ∷ 1 ∷ 0 ∷ take 60 after) [] (replicate 16 0)
+  abbrev fresh : Call Session
+  fresh = called (imageSize ∷ 0 ∷ 1 ∷ 0 ∷ take imageSize after) [] (replicate 16 0)
 
-  pub called-carried : Carried d room (takeOutNumber (d .ran .session) room) after fresh
+  pub called-carried : Carried d room (takeOutNumber (d .ran .state) room) after fresh
   called-carried = record {
     run = w;
     loaded = loaded;
     fits = fits;
     out = record { number = refl; written = refl };
     fresh =
-        called-within (60 ∷ 0 ∷ 1 ∷ 0 ∷ take 60 after) [] (replicate 16 0)
-        (omega (arith, length-take 60 after)) (omega (arith, length-take 60 after));
+        called-within (imageSize ∷ 0 ∷ 1 ∷ 0 ∷ take imageSize after) [] (replicate 16 0)
+        (omega (arith, length-take imageSize after)) (omega (arith, length-take imageSize after));
     image = refl;
   }
 
@@ -95,7 +97,7 @@ abbrev line : ℕ → ℕ → List ℕ → Line
 line kind answer reply = record { kind = kind; answer = answer; reply = reply }
 
 pub printed : sessionOf (0 ∷ 0 ∷ 5 ∷ 0 ∷ 0 ∷ 0 ∷ 0x63 ∷ 0 ∷ 1 ∷ []) 65536 ≡ line 5 5 [] ∷ line 0x63 3 [] ∷ line 0 2 [] ∷ []
-unfolding sessionOf recOf sizeOf wholeOf didOf takenOf knownOf sizedOf dueOf
+unfolding sessionOf recOf sizeOf wholeOf didOf takenOf kindOf
 printed = refl
 
 -- Two sessions that are mixed differently
@@ -132,14 +134,14 @@ others = converting ∷ writing ∷ copying ∷ power-on ∷ converting ∷ read
 -- the bytes of records
 abbrev packed : List Rec → List ℕ
 packed [] = []
-packed (whole kind p ∷ rs) = length p % 256 ∷ length p / 256 ∷ kind % 256 ∷ kind / 256 ∷ (p ++ packed rs)
+packed (whole kind p ∷ rs) = recordOf kind p ++ packed rs
 packed (cut ∷ rs) = []
 
 -- a session of the image and then these, run with 4 bytes of reply room
-abbrev call : List Rec → Call
+abbrev call : List Rec → Call Session
 call rs = called (packed (whole 1 image ∷ rs)) (replicate 4 0) (replicate 32 0)
 
-call-within : (rs : List Rec) → length (packed (whole 1 image ∷ rs)) ≤ 128 → Within (call rs)
+call-within : (rs : List Rec) → length (packed (whole 1 image ∷ rs)) ≤ 128 → Within didOf emptyOf (call rs)
 call-within rs short = called-within (packed (whole 1 image ∷ rs)) (replicate 4 0) (replicate 32 0) (omega arith) (omega arith)
 
 call-starts : (rs : List Rec) → length (packed (whole 1 image ∷ rs)) ≤ 128 → asksAll rs ≤ 4
@@ -152,7 +154,7 @@ call-starts rs short asks holds = record {
 
 -- THE HYPOTHESIS OF DEMAND 3 CAN BE MET
 pub demand-3-met : Demand3Met
-unfolding recOf sizeOf wholeOf takenOf knownOf sizedOf dueOf eventOf verdictOf addressedOf crc.bitOf crc.eightOf crc.byteOf
+unfolding recOf sizeOf wholeOf takenOf kindOf judgedOf addressedOf crc.bitOf crc.eightOf crc.nextOf
     askedOf askedAt romBy commandOf touchedClass labelsOf touchedOf selectedOf inLabel blockOf
 demand-3-met = record {
   image = image;
@@ -176,15 +178,15 @@ demand-3-met = record {
 -- and their events do something: after the power-on the label that was written and copied is read back, and so is CURRENT
 pub answers : sessionOf (call ones .bytes) 4
     ≡ line 1 0 [] ∷ line 4 0 [] ∷ line 4 0 [] ∷ line 3 0 [] ∷ line 5 0 [] ∷ line 4 0 (0x5a ∷ 0xa5 ∷ []) ∷ line 3 0 [] ∷ line 4 0 (0xfc ∷ 0x18 ∷ []) ∷ []
-unfolding sessionOf recOf sizeOf wholeOf didOf takenOf knownOf sizedOf dueOf eventOf verdictOf addressedOf crc.bitOf crc.eightOf crc.byteOf
-    imageOf poweredOf conversionOf convertOf countingOf tracedOf powerOnOf labelRecalled
-    askedOf askedAt romBy commandOf selectedOf actOf ranOf writtenOf labelWritten copiedOf labelCopied
-    replyOf sourceByte byteOf inLabel labelByte meterByte registersOf
+unfolding sessionOf recOf sizeOf wholeOf didOf takenOf kindOf judgedOf addressedOf crc.bitOf crc.eightOf crc.nextOf
+    imageOf poweredOf conversionOf convertOf flowedOf powerOnOf
+    askedOf askedAt romBy commandOf selectedOf actOf ranOf writtenOf labelWrittenOf laidOf meterWrittenOf blockWrittenOf copiedOf labelCopiedOf meterCopiedOf blockCopiedOf
+    replyOf sourceByte readByte inLabel inBlock labelByte meterByte registersOf
 answers = refl
 
 -- the image that the first of them leaves can be taken out, and a power-on can follow it
-pub loads : call ones .ran .session .loaded ≡ true
-unfolding recOf sizeOf wholeOf didOf takenOf knownOf sizedOf dueOf eventOf verdictOf addressedOf crc.bitOf crc.eightOf crc.byteOf
+pub loads : call ones .ran .state .loaded ≡ true
+unfolding recOf sizeOf wholeOf didOf takenOf kindOf judgedOf addressedOf crc.bitOf crc.eightOf crc.nextOf
     askedOf askedAt romBy commandOf replyOf
 loads = refl
 

@@ -1,10 +1,12 @@
 -- The demands speak of the functions themselves: what a caller learns from the contracts of `records::run` and `records::take_out`, as the
--- check reads them of the code, is what the demands are stated of. Assumes nothing.
+-- check reads them of the code, is what the demands are stated of.
 use contract.Lifetimes.{Lfts}
 use denote.Ref.{now}
 use denote.Triple.Entry.{Args, Res}
 use denote.Triple.Clauses.{Lasts, atExit}
-use Rattle.records.specs.Run.{TakenOut}
+use Rattle.steps.specs.declared.Session.{Session}
+use Rattle.steps.specs.Step.{didOf}
+use Rattle.records.specs.Run.{emptyOf, resultOf, TakenOut}
 use Rattle.records.proofs.run
 use Rattle.records.proofs.take_out
 use Rattle.demands.specs.Call.{Call, Allowed}
@@ -17,21 +19,21 @@ use Rattle.demands.proofs.Demand3.{demand-3}
 
 module _ (κs : Lfts (run.ended .signature .lifetimes)) (a : Args (run.ended .signature) κs) (r : Res (run.ended .signature) κs) (w : Lasts run.ended κs a) where
   -- what was passed and lent, what came back, and what room and answers hold at the end
-  abbrev pub callOf : Call
+  abbrev pub callOf : Call Session
   callOf = record {
     bytes = now (a .0);
     room = now (a .1 .0);
     answers = now (a .1 .1 .0);
-    ran = r;
+    ran = resultOf r;
     replies = w .1 .0;
     told = w .1 .1 .0;
   }
 
-  pub run-allowed : run.Reads.Learnt κs a r (atExit run.ended κs a w) → Allowed callOf
+  pub run-allowed : run.Reads.Learnt κs a r (atExit run.ended κs a w) → Allowed didOf emptyOf callOf
   run-allowed h = h
 
   -- and nothing more is learnt
-  pub allowed-run : Allowed callOf → run.Reads.Learnt κs a r (atExit run.ended κs a w)
+  pub allowed-run : Allowed didOf emptyOf callOf → run.Reads.Learnt κs a r (atExit run.ended κs a w)
   allowed-run h = h
 
 pub take-out-taken : (κs : Lfts («take_out».ended .signature .lifetimes)) (a : Args («take_out».ended .signature) κs)
@@ -39,5 +41,5 @@ pub take-out-taken : (κs : Lfts («take_out».ended .signature .lifetimes)) (a 
     → «take_out».Reads.Learnt κs a r (atExit «take_out».ended κs a w) → TakenOut (a .0) (now (a .1 .0)) r (w .1 .0)
 take-out-taken κs a r w h = h
 
-pub demands : Demand1 × Demand2 × Demand3
+pub demands : Demand1 didOf emptyOf × Demand2 × Demand3
 demands = (demand-1, demand-2, demand-3)

@@ -1,4 +1,4 @@
--- The records of bytes that begin with a header. Assumes nothing.
+-- The records of bytes that begin with a header.
 use mathlib.Core.Path.{_≡_, refl, _∙_}
 use mathlib.Core.Bool.{true, false}
 use mathlib.Core.List.{List, [], _∷_}
@@ -9,9 +9,9 @@ use lib.Dec.{ltb, leb}
 use lib.ListN.{length, drop, drop-of-length-le}
 use lib.Seq.{take-all}
 use Rattle.parts.specs.Parts.{part}
-use Rattle.steps.specs.Step.{whole, cut, wholeOf, recOf, sizeOf}
-use Rattle.records.specs.Run.{recsFrom, recsOf}
-use Rattle.records.proofs.Runs.{recs-cons}
+use Rattle.events.specs.Image.{imageSize}
+use Rattle.runs.specs.Record.{whole, cut, wholeOf, recOf, sizeOf, recsFrom, recsOf}
+use Rattle.runs.proofs.Records.{recs-cons}
 
 module _ (n m i j : ℕ) (s : List ℕ) where
   abbrev size : ℕ
@@ -48,7 +48,7 @@ recs-none (suc k) [] h = refl
 recs-none (suc k) (x ∷ s) h = recs-none k s (omega arith)
 
 -- a session of one pack image
-pub recs-image : (p : List ℕ) → length p ≡ 60 → recsOf (60 ∷ 0 ∷ 1 ∷ 0 ∷ p) ≡ whole 1 p ∷ []
+pub recs-image : (p : List ℕ) → length p ≡ imageSize → recsOf (imageSize ∷ 0 ∷ 1 ∷ 0 ∷ p) ≡ whole 1 p ∷ []
 recs-image p e =
     recs-kind 60 0 1 0 p (le-leb 60 (length p) (omega arith))
     ∙ rw (take-all 60 p (omega arith), recs-none 60 p (omega arith)) refl

@@ -1,14 +1,15 @@
 pub mod Choice
 pub mod Headers
 pub mod Moments
+pub mod Every
 pub mod Reached
+pub mod Demand1
+pub mod Demand2
 pub mod Mix
 pub mod Touched
 pub mod Address
 pub mod Room
 pub mod Forms
-pub mod Demand2
-pub mod Demand1
 pub mod Demand3
 pub mod Functions
 pub mod Cases

@@ -1,5 +1,5 @@
 -- Two lists that hold the same events section by section are runs with the same end, in which each event gets the same, wherever a label event
--- and a gauge event that stand next to each other may change places. Assumes nothing.
+-- and a gauge event that stand next to each other may change places.
 use mathlib.Core.Path.{_≡_, refl, sym, ap, _∙_}
 use mathlib.Core.Bool.{Bool, true, false}
 use mathlib.Core.List.{List, [], _∷_, _++_}

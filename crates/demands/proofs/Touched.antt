@@ -1,13 +1,14 @@
--- What the class of a transaction says of the addresses that it touches. Assumes nothing.
+-- What the class of a transaction says of the addresses that it touches.
 use mathlib.Core.Path.{_≡_, refl}
 use mathlib.Core.Bool.{Bool, true, false, not}
 use mathlib.Core.List.{List, [], _∷_}
-use Prim.Native.Nat.{ℕ, zero, suc, _+_, _≤_, _<_}
+use Prim.Native.Nat.{ℕ, zero, suc, _+_, _≤_, _<_, min, max}
 use native.Mathlib.Omega.{arith}
 use borrow.Author.Tests.{leb-true, leb-false, le-leb, le-ltb, not-true, eqb-true, eqb-false}
 use lib.Dec.{leb, eqb}
 use Rattle.numbers.specs.Choice.{pick, both}
-use Rattle.blocks.specs.Blocks.{inLabel, inBlock}
+use Rattle.label.specs.Label.{inLabel, inBlock}
+use Rattle.label.proofs.Addresses.{in-label-low, in-label-high, in-label-between}
 use Rattle.bus.specs.declared.Command.{Command}
 use Rattle.demands.specs.Sections.{labelling, gauging, fence}
 use Rattle.demands.specs.Class.{spanOf, blockOf, someOf, allOf, outside, locks, labelsOf, touchedClass}
@@ -92,6 +93,24 @@ runs-meter a n all j low high = go (leb j 0xff) refl
     go : (t : Bool) → leb j 0xff ≡ t → inLabel j ≡ false
     go true h = not-true (inLabel j) (span-at outside a n all j low high (leb-true j 0xff h))
     go false h = past-end j (leb-false j 0xff h)
+
+-- in 20h..2Fh it starts and ends
+pub runs-within : (a n : ℕ) → someOf (spanOf a n) ≡ true → RunsIn true a n → (0x20 ≤ a) × (a + n ≤ 0x30)
+runs-within a zero some runs = contrary cc
+runs-within a (suc n) some runs =
+    (in-label-low a (runs a (omega arith) (omega arith)), omega (arith, in-label-high (a + n) (runs (a + n) (omega arith) (omega arith))))
+
+-- where none is in 20h..2Fh it ends below or starts above
+pub runs-beside : (a n : ℕ) → RunsIn false a n → min (a + n) 0x30 ≤ max a 0x20
+runs-beside a n runs = go (leb (min (a + n) 0x30) (max a 0x20)) refl
+  where
+    go : (t : Bool) → leb (min (a + n) 0x30) (max a 0x20) ≡ t → min (a + n) 0x30 ≤ max a 0x20
+    go true e = leb-true (min (a + n) 0x30) (max a 0x20) e
+    go false e =
+        let h = leb-false (min (a + n) 0x30) (max a 0x20) e in
+        let out = runs (max a 0x20) (omega arith) (omega arith) in
+        let in-it = in-label-between (max a 0x20) (omega arith) (omega arith) in
+        contrary cc
 
 -- Blocks
 

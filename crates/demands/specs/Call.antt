@@ -1,68 +1,68 @@
--- A call of `run`, the program's entry: what the demands are stated of.
+-- A call of a run, of any state and any `did`, which says what one record does: what the demands are stated of. For sessions S is `Session`,
+-- did `didOf` and start `emptyOf`, and the call is one of `records::run`, the program's entry.
 use mathlib.Core.Path.{_≡_}
 use mathlib.Core.List.{List, [], _∷_, _++_, map, zip}
 use Prim.Native.Nat.{ℕ, zero, suc, _+_, _/_, _≤_}
 use lib.ListN.{length, take, drop}
 use Rattle.parts.specs.Parts.{put}
-use Rattle.records.specs.declared.Outcome.the-variants.{Done}
-use Rattle.records.specs.declared.Ran.{Ran}
-use Rattle.steps.specs.Step.{Rec, sizeOf}
-use Rattle.records.specs.Run.{recsOf, Line, sessionOf, repliesOf, codesOf, outcomeOf, Runs}
+use Rattle.runs.specs.declared.Outcome.the-variants.{Done}
+use Rattle.runs.specs.Record.{Rec, sizeOf, recsOf}
+use Rattle.runs.specs.Run.{Did, Line, linesAfter, repliesOf, codesOf, Result, Runs}
 
 -- the bytes of a session, the reply room and the answers that are lent; what comes back, and what room and answers then hold
-pub record Call : Type 0 where
+pub record Call (S : Type 0) : Type 0 where
   pub bytes : List ℕ
   pub room : List ℕ
   pub answers : List ℕ
-  pub ran : Ran
+  pub ran : Result S
   pub replies : List ℕ
   pub told : List ℕ
-
--- what comes back is what the contract of `run` allows
-abbrev pub Allowed : Call → Type 0
-Allowed c =
-    Runs (outcomeOf (c .bytes) (length (c .answers))) (c .bytes) (c .room) (c .answers) (c .ran) (c .replies) (c .told)
-
--- and the session has at most 32,768 bytes, with answers lent for as many records as so many bytes may hold
-pub record Within (c : Call) : Type 0 where
-  pub allowed : Allowed c
-  pub short : length (c .bytes) ≤ 32768
-  pub lent : (length (c .bytes) + 3) / 4 ≤ length (c .answers)
-
--- the lines that the definition of a session gives: a kind, an answer and the reply bytes for each record
-abbrev pub linesIn : Call → List Line
-linesIn c = sessionOf (c .bytes) (length (c .room))
-
--- each record with its line
-abbrev pub gotOf : Call → List (Rec × Line)
-gotOf c = zip (recsOf (c .bytes)) (linesIn c)
-
--- the session was run: the pairs leave out no record and no line, and the lines are what room and answers hold
-pub record Told (c : Call) : Type 0 where
-  pub done : c .ran .outcome ≡ Done
-  pub records : map (λ e. e .0) (gotOf c) ≡ recsOf (c .bytes)
-  pub lines : map (λ e. e .1) (gotOf c) ≡ linesIn c
-  pub answered : c .told ≡ put (c .answers) 0 (codesOf (linesIn c))
-  pub replied : c .replies ≡ put (c .room) 0 (repliesOf (linesIn c))
-
--- ---- the moments of a session
 
 -- the bytes of the first n records
 abbrev pub firstOf : ℕ → List ℕ → List ℕ
 firstOf zero s = []
 firstOf (suc n) s = take (sizeOf s) s ++ firstOf n (drop (sizeOf s) s)
 
--- the session of c, lent the same, run up to the end of its n-th record
-pub record Stopped (n : ℕ) (c d : Call) : Type 0 where
-  pub allowed : Allowed d
-  pub bytes : d .bytes ≡ firstOf n (c .bytes)
-  pub room : d .room ≡ c .room
-  pub answers : d .answers ≡ c .answers
+module _ {S : Type 0} (did : S → ℕ → Rec → Did S) (start : S) where
+  -- what comes back is what the contract of the run allows
+  abbrev pub Allowed : Call S → Type 0
+  Allowed c = Runs did start (c .bytes) (c .room) (c .answers) (c .ran) (c .replies) (c .told)
 
--- a record of the session of c with its line, and the runs that stop before it and after it
-pub record Taking (c : Call) (r : Rec) (l : Line) (a b : Call) : Type 0 where
-  pub earlier : ℕ
-  pub later : List (Rec × Line)
-  pub here : drop earlier (gotOf c) ≡ (r, l) ∷ later
-  pub before : Stopped earlier c a
-  pub after : Stopped (suc earlier) c b
+  -- and the session has at most 32,768 bytes, with answers lent for as many records as so many bytes may hold
+  pub record Within (c : Call S) : Type 0 where
+    pub allowed : Allowed c
+    pub short : length (c .bytes) ≤ 32768
+    pub lent : (length (c .bytes) + 3) / 4 ≤ length (c .answers)
+
+  -- the lines that the definition of a session gives: a kind, an answer and the reply bytes for each record
+  abbrev pub linesIn : Call S → List Line
+  linesIn c = linesAfter did start (length (c .room)) (recsOf (c .bytes))
+
+  -- each record with its line
+  abbrev pub gotOf : Call S → List (Rec × Line)
+  gotOf c = zip (recsOf (c .bytes)) (linesIn c)
+
+  -- the session was run: the pairs leave out no record and no line, and the lines are what room and answers hold
+  pub record Told (c : Call S) : Type 0 where
+    pub done : c .ran .outcome ≡ Done
+    pub records : map (λ e. e .0) (gotOf c) ≡ recsOf (c .bytes)
+    pub lines : map (λ e. e .1) (gotOf c) ≡ linesIn c
+    pub answered : c .told ≡ put (c .answers) 0 (codesOf (linesIn c))
+    pub replied : c .replies ≡ put (c .room) 0 (repliesOf (linesIn c))
+
+  -- ---- the moments of a session
+
+  -- the session of c, lent the same, run up to the end of its n-th record
+  pub record Stopped (n : ℕ) (c d : Call S) : Type 0 where
+    pub allowed : Allowed d
+    pub bytes : d .bytes ≡ firstOf n (c .bytes)
+    pub room : d .room ≡ c .room
+    pub answers : d .answers ≡ c .answers
+
+  -- a record of the session of c with its line, and the runs that stop before it and after it
+  pub record Taking (c : Call S) (r : Rec) (l : Line) (a b : Call S) : Type 0 where
+    pub earlier : ℕ
+    pub later : List (Rec × Line)
+    pub here : drop earlier (gotOf c) ≡ (r, l) ∷ later
+    pub before : Stopped earlier c a
+    pub after : Stopped (suc earlier) c b

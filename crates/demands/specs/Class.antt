@@ -6,17 +6,18 @@ use Prim.Native.Nat.{ℕ, zero, suc, _+_}
 use lib.ListN.{length, drop}
 use lib.Dec.{leb, eqb}
 use Rattle.numbers.specs.Choice.{pick, both, either}
-use Rattle.blocks.specs.declared.Common.{Common}
-use Rattle.blocks.specs.Blocks.{inLabel, inBlock}
+use Rattle.label.specs.Label.{inLabel, inBlock}
 use Rattle.bus.specs.declared.Command.{Command}
 use Rattle.bus.specs.declared.Command.the-variants.{Read, Write, Copy, Recall, Lock, Nothing}
 use Rattle.bus.specs.declared.Transaction.{Transaction}
 use Rattle.replies.specs.Reply.{selectedOf}
 use Rattle.events.specs.declared.Event.{Event}
-use Rattle.events.specs.declared.Event.the-variants.{Image, Reading, Conversion, Transact, PowerOn}
+use Rattle.events.specs.declared.Change.{Change}
+use Rattle.events.specs.declared.Change.the-variants as change
+use Rattle.events.specs.declared.Event.the-variants as event
 use Rattle.events.specs.declared.Taken.{Taken}
 use Rattle.events.specs.declared.Taken.the-variants.{Run, Refused}
-use Rattle.steps.specs.Step.{Rec, whole, cut}
+use Rattle.runs.specs.Record.{Rec, whole, cut}
 use Rattle.events.specs.Record.{refusalNumber, masterOf, takenOf}
 use Rattle.demands.specs.Sections.{Class, labelling, gauging, fence}
 
@@ -41,14 +42,10 @@ touchedBy Recall a count bytes = blockOf a
 touchedBy Lock a count bytes = blockOf a
 touchedBy Nothing a count bytes = []
 
--- selection looks at the address alone, so BL0 may be any (`selected-by-address` of proofs/)
-abbrev pub ownedBy : List ℕ → Common
-ownedBy address = record { address = address; bl0 = false }
-
 -- "an unselected transaction, a net address read .. touches none"
 unfoldable pub touchedOf : List ℕ → Transaction → List ℕ → List ℕ
 touchedOf address t master =
-    pick (selectedOf (ownedBy address) t master)
+    pick (selectedOf address t master)
     (touchedBy (t .command) (t .address) (t .count) (length (drop (t .from) master)))
     []
 
@@ -85,12 +82,15 @@ touchedClass command touched =
 -- ---- the class of a record
 
 -- "Gauge event: a reading, a conversion, .."
+abbrev pub changeClass : Change → Class
+changeClass (change.Reading volt temp) = gauging
+changeClass (change.Conversion raw) = gauging
+changeClass change.PowerOn = fence
+
 abbrev pub eventClass : List ℕ → List ℕ → Event → Class
-eventClass address p Image = fence
-eventClass address p (Reading volt temp) = gauging
-eventClass address p (Conversion raw) = gauging
-eventClass address p (Transact t) = touchedClass (t .command) (touchedOf address t (masterOf p))
-eventClass address p PowerOn = fence
+eventClass address p event.Image = fence
+eventClass address p (event.Change c) = changeClass c
+eventClass address p (event.Transact t) = touchedClass (t .command) (touchedOf address t (masterOf t p))
 
 -- "Gauge event: .. a record refused with 3, 4 or 8"
 abbrev pub refusedClass : ℕ → Class

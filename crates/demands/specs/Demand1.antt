@@ -3,8 +3,8 @@
 -- "No input can make it misbehave. Every session, however malformed, gets one numbered answer per record, as document 01 fixes it. A refused
 -- record changes neither the gauge nor the reply room."
 --
--- That `run` ends, and reads and writes nothing but what it was lent, is proved with its contract, which asks nothing of a caller. The rest is
--- said here, of any bytes.
+-- That a run ends, and reads and writes nothing but what it was lent, is proved with its contract, which asks nothing of a caller. The rest is
+-- said here, of any bytes and of every run.
 use mathlib.Core.Path.{_≡_}
 use mathlib.Core.Logic.{_⊎_}
 use mathlib.Core.List.{List, [], _∷_}
@@ -12,9 +12,9 @@ use Prim.Native.Nat.{ℕ, zero, suc, _+_, _*_, _/_, _≤_, _<_}
 use lib.Dec.{leb}
 use lib.ListN.{length}
 use Rattle.numbers.specs.Choice.{pick}
-use Rattle.records.specs.declared.Outcome.the-variants.{Over, Short}
-use Rattle.steps.specs.Step.{Rec}
-use Rattle.records.specs.Run.{Line, Idle}
+use Rattle.runs.specs.declared.Outcome.the-variants.{Over, Short}
+use Rattle.runs.specs.Record.{Rec}
+use Rattle.runs.specs.Run.{Did, Line, outcomeNumber, Idle}
 use Rattle.demands.specs.Call.{Call, Allowed, Within, linesIn, Told, Taking}
 
 -- ---- "one numbered answer per record": how many records there are, and where the session stops, by the headers alone
@@ -49,25 +49,28 @@ pub data Answered : List Header → List Line → Type 0 where
   next : {k : ℕ} {l : Line} {hs : List Header} {ls : List Line} → l .kind ≡ k → Numbered (l .answer) → Answered hs ls
       → Answered (kind k ∷ hs) (l ∷ ls)
 
--- room and answers hold these lines
-pub record Sound (c : Call) : Type 0 where
-  pub told : Told c
-  pub count : c .ran .lines ≡ length (headersOf (c .bytes))
-  pub answered : Answered (headersOf (c .bytes)) (linesIn c)
-
 -- ---- "changes neither the gauge nor the reply room": the state, what the room holds, and where in it the next reply starts
 
-pub record Unchanged (a b : Call) : Type 0 where
-  pub state : b .ran .session ≡ a .ran .session
+pub record Unchanged {S : Type 0} (a b : Call S) : Type 0 where
+  pub state : b .ran .state ≡ a .ran .state
   pub room : b .replies ≡ a .replies
   pub next : b .ran .replied ≡ a .ran .replied
 
--- ---- the demand
+module _ {S : Type 0} (did : S → ℕ → Rec → Did S) (start : S) where
+  -- room and answers hold these lines
+  pub record Sound (c : Call S) : Type 0 where
+    pub told : Told did start c
+    pub count : c .ran .lines ≡ length (headersOf (c .bytes))
+    pub answered : Answered (headersOf (c .bytes)) (linesIn did start c)
 
-pub record Demand1 : Type 0 where
-  pub answers : (c : Call) → Within c → Sound c
-  pub refusals : (c : Call) → Within c → (r : Rec) (l : Line) (a b : Call) → Taking c r l a b → (l .answer ≡ 0 → ⊥) → Unchanged a b
-  -- 1: "session over 32,768 bytes; nothing is run". Nor is it where too few answers are lent
-  pub over : (c : Call) → Allowed c → 32768 < length (c .bytes) → Idle Over (c .room) (c .answers) (c .ran) (c .replies) (c .told)
-  pub few : (c : Call) → Allowed c → length (c .bytes) ≤ 32768 → length (c .answers) < (length (c .bytes) + 3) / 4
-      → Idle Short (c .room) (c .answers) (c .ran) (c .replies) (c .told)
+  -- ---- the demand
+
+  pub record Demand1 : Type 0 where
+    pub answers : (c : Call S) → Within did start c → Sound c
+    pub refusals : (c : Call S) → Within did start c → (r : Rec) (l : Line) (a b : Call S) → Taking did start c r l a b → (l .answer ≡ 0 → ⊥)
+        → Unchanged a b
+    -- 1: "session over 32,768 bytes; nothing is run". Nor is it where too few answers are lent
+    pub over : (c : Call S) → Allowed did start c → 32768 < length (c .bytes)
+        → (outcomeNumber (c .ran .outcome) ≡ 1) × Idle start Over (c .room) (c .answers) (c .ran) (c .replies) (c .told)
+    pub few : (c : Call S) → Allowed did start c → length (c .bytes) ≤ 32768 → length (c .answers) < (length (c .bytes) + 3) / 4
+        → (outcomeNumber (c .ran .outcome) ≡ 9) × Idle start Short (c .room) (c .answers) (c .ran) (c .replies) (c .told)

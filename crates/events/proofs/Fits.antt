@@ -1,74 +1,130 @@
--- What `taken_of` hands on: an event has a payload of its kind's size, and an image is refused with the number that it is judged with.
--- Assumes nothing.
+-- What a record that is taken has: its time and a payload of its kind's size; and only a transaction asks room.
 use mathlib.Core.Path.{_≡_, refl}
-use mathlib.Core.Bool.{Bool, true, false}
+use mathlib.Core.Bool.{Bool, true, false, not}
 use mathlib.Core.List.{List}
-use Prim.Native.Nat.{ℕ, _-_, _≤_}
+use Prim.Native.Nat.{ℕ, _-_, _≤_, zero-le}
 use native.Mathlib.Omega.{arith}
-use borrow.Author.Tests.{eqb-true, eqb-false}
-use lib.Dec.{eqb}
-use lib.ListN.{length}
+use borrow.Author.Tests.{le-ltb, leb-true, eqb-true, not-true}
+use lib.Dec.{leb, eqb, ltb}
+use lib.ListN.{length, getD, drop}
 use Rattle.numbers.specs.Choice.{pick}
-use Rattle.events.specs.declared.Verdict.{Verdict}
-use Rattle.events.specs.declared.Verdict.the-variants as verdict
-use Rattle.events.specs.Verdict.{verdictOf, verdictNumber}
-use Rattle.events.specs.declared.Refusal.{Refusal}
+use Rattle.numbers.proofs.Bounds.{picked, both-true}
+use Rattle.bus.specs.declared.Transaction.{Transaction}
+use Rattle.bus.specs.Ask.{askedOf}
+use Rattle.bus.proofs.Laws.{asked-placed}
+use Rattle.events.specs.declared.Kind.{Kind}
+use Rattle.events.specs.declared.Kind.the-variants as kind
 use Rattle.events.specs.declared.Refusal.the-variants as refusal
-use Rattle.events.specs.declared.Event.{Event}
+use Rattle.events.specs.declared.Event.the-variants.{Image, Change, Transact}
 use Rattle.events.specs.declared.Taken.{Taken}
-use Rattle.events.specs.declared.Taken.the-variants as taken
-use Rattle.events.specs.Record.{takenNumber, knownOf, sizedOf, dueOf, imageTaken, countableOf, transactionOf, eventOf, takenOf, Fitting}
-use Rattle.events.proofs.Sizes.{size-1, size-4}
+use Rattle.events.specs.declared.Taken.the-variants.{Run, Refused}
+use Rattle.events.specs.Image.{imageSize, imageAddress}
+use Rattle.events.specs.Record.{kindOf, sizedOf, addressedOf, lockableOf, judgedOf, transactionOf, takenBy, takenOf, fittedOf, Mastered}
 
--- the payload of an event is of its kind's size
+-- ---- an image is taken where none was accepted before, and only one that the judge accepts; any other event after one was
 
-module _ (e : Event) where
-  -- a refusal is no event
-  never : {x : Refusal} {A : Type 0} → taken.Refused x ≡ taken.Run e → A
-  never h = let z : _≡_ {A = ℕ} 0 1 = cc in absurd (omega arith)
+abbrev pub Taking : Bool → List ℕ → Taken → Type 0
+Taking loaded p (Run Image) = (loaded ≡ false) × (judgedOf p ≡ Run Image) × (length p ≡ imageSize)
+Taking loaded p (Run (Change c)) = loaded ≡ true
+Taking loaded p (Run (Transact t)) = (loaded ≡ true) × Mastered t p
+Taking loaded p (Refused r) = Unit
 
-  same : {d : Event} (n : ℕ) → Fitting d n → taken.Run d ≡ taken.Run e → Fitting e n
-  same {d} n f h = let k : d ≡ e = cc in rw k at f
+module _ (loaded : Bool) (p : List ℕ) where
+  verdict : (a b c : Bool) → eqb (length p) imageSize ≡ a → addressedOf (imageAddress p) ≡ b → lockableOf p ≡ c
+      → judgedOf p ≡ pick a (pick b (pick c (Run Image) (Refused refusal.Locks)) (Refused refusal.Address)) (Refused refusal.Size)
+  unfolding judgedOf
+  verdict a b c ea eb ec = rw (ea, eb, ec) refl
 
-  image-fits : (v : Verdict) (n : ℕ) → n ≡ 60 → imageTaken v ≡ taken.Run e → Fitting e n
-  image-fits verdict.Accepted n f h = same n f h
-  image-fits verdict.Size n f h = never h
-  image-fits verdict.Address n f h = never h
-  image-fits verdict.Locks n f h = never h
+  image-taking : (a b c : Bool) → eqb (length p) imageSize ≡ a → addressedOf (imageAddress p) ≡ b → lockableOf p ≡ c → loaded ≡ false
+      → Taking loaded p (judgedOf p)
+  image-taking true true true ea eb ec l =
+      let e : judgedOf p ≡ Run Image = verdict true true true ea eb ec in
+      rw e (l, e, eqb-true (length p) imageSize ea)
+  image-taking true true false ea eb ec l = rw (verdict true true false ea eb ec) tt
+  image-taking true false c ea eb ec l = rw (verdict true false c ea eb ec) tt
+  image-taking false b c ea eb ec l = rw (verdict false b c ea eb ec) tt
 
-  transaction-fits : (p : List ℕ) (b : Bool) → countableOf p ≡ b → 1 ≤ length p → transactionOf p ≡ taken.Run e → Fitting e (length p)
-  transaction-fits p true c f h = same (length p) f (rw c at h)
-  transaction-fits p false c f h = never (rw c at h)
+  mastered : 1 ≤ length p → Mastered (askedOf 1 (getD p 0 0) (drop 1 p)) p
+  mastered h =
+      let a = asked-placed 1 (getD p 0 0) (drop 1 p) in
+      record {
+        starts = omega (arith, a .starts);
+        within = rw (a .starts) (a .within);
+        near = omega (arith, a .starts);
+      }
 
-  module _ (kind : ℕ) (p : List ℕ) (z : sizedOf kind (length p) ≡ true) where
-    kinds : (a b c d : Bool) → eqb kind 1 ≡ a → eqb kind 2 ≡ b → eqb kind 3 ≡ c → eqb kind 4 ≡ d → eventOf kind p ≡ taken.Run e → Fitting e (length p)
-    unfolding eventOf
-    kinds true b c d e₁ e₂ e₃ e₄ h = image-fits (verdictOf p) (length p) (size-1 z (eqb-true kind 1 e₁)) (rw e₁ at h)
-    kinds false true c d e₁ e₂ e₃ e₄ h = same (length p) refl (rw (e₁, e₂) at h)
-    kinds false false true d e₁ e₂ e₃ e₄ h = same (length p) refl (rw (e₁, e₂, e₃) at h)
-    kinds false false false true e₁ e₂ e₃ e₄ h =
-        transaction-fits p (countableOf p) refl
-        (size-4 z (eqb-false kind 1 e₁) (eqb-false kind 2 e₂) (eqb-false kind 3 e₃) (eqb-true kind 4 e₄))
-        (rw (e₁, e₂, e₃, e₄) at h)
-    kinds false false false false e₁ e₂ e₃ e₄ h = same (length p) refl (rw (e₁, e₂, e₃, e₄) at h)
+  transaction-taking : 1 ≤ length p → loaded ≡ true → Taking loaded p (transactionOf p)
+  transaction-taking h l = picked (Taking loaded p) (leb (getD p 0 0) 64) _ _ (λ few. (l, mastered h)) (λ many. tt)
 
-  tests : (a b c : Bool) (t : Taken) → pick a (pick b (pick c t (taken.Refused refusal.Order)) (taken.Refused refusal.Size)) (taken.Refused refusal.Kind) ≡ taken.Run e
-      → (b ≡ true) × (t ≡ taken.Run e)
-  tests true true true t h = (refl, h)
-  tests true true false t h = never h
-  tests true false c t h = never h
-  tests false b c t h = never h
+  by-taking : (k : Kind) → Taking loaded p (takenBy k loaded p)
+  by-taking kind.Image =
+      picked (Taking loaded p) (eqb (length p) imageSize) _ _
+      (λ sized. picked (Taking loaded p) (not loaded) _ _
+      (λ due. image-taking (eqb (length p) imageSize) (addressedOf (imageAddress p)) (lockableOf p) refl refl refl (not-true loaded due))
+      (λ other. tt))
+      (λ other. tt)
+  by-taking kind.Reading =
+      picked (Taking loaded p) (eqb (length p) 8) _ _ (λ sized. picked (Taking loaded p) loaded _ _ (λ due. due) (λ other. tt)) (λ other. tt)
+  by-taking kind.Conversion =
+      picked (Taking loaded p) (eqb (length p) 4) _ _ (λ sized. picked (Taking loaded p) loaded _ _ (λ due. due) (λ other. tt)) (λ other. tt)
+  by-taking kind.Transaction =
+      picked (Taking loaded p) (sizedOf kind.Transaction (length p)) _ _
+      (λ sized. picked (Taking loaded p) loaded _ _
+      (λ due. transaction-taking (leb-true 1 (length p) (both-true (leb 1 (length p)) (leb (length p) 65) sized .0)) due)
+      (λ other. tt))
+      (λ other. tt)
+  by-taking kind.PowerOn =
+      picked (Taking loaded p) (eqb (length p) 0) _ _ (λ sized. picked (Taking loaded p) loaded _ _ (λ due. due) (λ other. tt)) (λ other. tt)
+  by-taking kind.Unknown = tt
 
-  pub event-fits : (kind : ℕ) (loaded : Bool) (p : List ℕ) → takenOf kind loaded p ≡ taken.Run e → Fitting e (length p)
+  pub taking : (n : ℕ) → Taking loaded p (takenOf n loaded p)
   unfolding takenOf
-  event-fits kind loaded p h =
-      let t = tests (knownOf kind) (sizedOf kind (length p)) (dueOf kind loaded) (eventOf kind p) h in
-      kinds kind p (t .0) (eqb kind 1) (eqb kind 2) (eqb kind 3) (eqb kind 4) refl refl refl refl (t .1)
+  taking n = by-taking (kindOf n)
 
--- an image is refused with the number that it is judged with
+-- ---- only a transaction asks room
 
-pub verdict-number : (v : Verdict) → takenNumber (imageTaken v) ≡ verdictNumber v
-verdict-number verdict.Accepted = refl
-verdict-number verdict.Size = refl
-verdict-number verdict.Address = refl
-verdict-number verdict.Locks = refl
+abbrev pub Silent : Kind → Type 0
+Silent kind.Image = Unit
+Silent kind.Reading = Unit
+Silent kind.Conversion = Unit
+Silent kind.Transaction = ⊥
+Silent kind.PowerOn = Unit
+Silent kind.Unknown = Unit
+
+abbrev Still : Taken → Type 0
+Still (Run Image) = Unit
+Still (Run (Change c)) = Unit
+Still (Run (Transact t)) = ⊥
+Still (Refused r) = Unit
+
+module _ (room : ℕ) where
+  no-room : ltb room 0 ≡ false
+  no-room = le-ltb room 0 zero-le
+
+  still-fits : (t : Taken) → Still t → t ≡ fittedOf room t
+  still-fits (Run Image) h = rw no-room refl
+  still-fits (Run (Change c)) h = rw no-room refl
+  still-fits (Run (Transact t)) h = absurd h
+  still-fits (Refused r) h = refl
+
+  module _ (loaded : Bool) (p : List ℕ) where
+    judge-still : Still (judgedOf p)
+    unfolding judgedOf
+    judge-still =
+        picked Still (eqb (length p) imageSize) _ _
+        (λ a. picked Still (addressedOf (imageAddress p)) _ _ (λ b. picked Still (lockableOf p) _ _ (λ c. tt) (λ c. tt)) (λ b. tt))
+        (λ a. tt)
+
+    -- what is taken at its size and its time, or refused
+    in-time : (sized due : Bool) (t : Taken) → Still t → Still (pick sized (pick due t (Refused refusal.Order)) (Refused refusal.Size))
+    in-time true true t h = h
+    in-time true false t h = tt
+    in-time false due t h = tt
+
+    pub asks-nothing : (k : Kind) → Silent k → takenBy k loaded p ≡ fittedOf room (takenBy k loaded p)
+    asks-nothing kind.Image h = still-fits _ (in-time (sizedOf kind.Image (length p)) (not loaded) _ judge-still)
+    asks-nothing kind.Reading h = still-fits _ (in-time (sizedOf kind.Reading (length p)) loaded _ tt)
+    asks-nothing kind.Conversion h = still-fits _ (in-time (sizedOf kind.Conversion (length p)) loaded _ tt)
+    asks-nothing kind.Transaction h = absurd h
+    asks-nothing kind.PowerOn h = still-fits _ (in-time (sizedOf kind.PowerOn (length p)) loaded _ tt)
+    asks-nothing kind.Unknown h = refl

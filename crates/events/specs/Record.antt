@@ -1,103 +1,152 @@
 -- What a record of a kind and a payload asks: a record is either an event or a numbered refusal.
 use mathlib.Core.Path.{_≡_}
 use Prim.Native.Nat.{ℕ, _≤_}
-use mathlib.Core.Bool.{Bool, not}
+use mathlib.Core.Bool.{Bool, true, false, not}
 use mathlib.Core.List.{List}
-use lib.Dec.{leb, eqb}
+use lib.Dec.{ltb, leb, eqb}
 use lib.ListN.{length, getD, drop}
 use Rattle.numbers.specs.Choice.{pick, both}
 use Rattle.numbers.specs.Offset.{offset32Of}
-use Rattle.parts.specs.Parts.{quadAt}
+use Rattle.parts.specs.Parts.{part, quadAt}
+use Rattle.crc.specs.Crc.{crcOf}
+use Rattle.bus.specs.declared.Transaction.{Transaction}
 use Rattle.bus.specs.Ask.{askedOf}
-use Rattle.events.specs.declared.Verdict.{Verdict}
-use Rattle.events.specs.declared.Verdict.the-variants as verdict
-use Rattle.events.specs.Verdict.{verdictOf}
+use Rattle.events.specs.declared.Kind.{Kind}
+use Rattle.events.specs.declared.Kind.the-variants as kind
 use Rattle.events.specs.declared.Refusal.{Refusal}
-use Rattle.events.specs.declared.Refusal.the-variants.{Kind, Size, Order, Address, Locks, Count, Room}
+use Rattle.events.specs.declared.Refusal.the-variants as refusal
+use Rattle.events.specs.declared.Change.the-variants as change
 use Rattle.events.specs.declared.Event.{Event}
-use Rattle.events.specs.declared.Event.the-variants.{Image, Reading, Conversion, Transact, PowerOn}
+use Rattle.events.specs.declared.Event.the-variants.{Image, Change, Transact}
 use Rattle.events.specs.declared.Taken.{Taken}
 use Rattle.events.specs.declared.Taken.the-variants.{Run, Refused}
+use Rattle.events.specs.Image.{imageSize, imageAddress, imageLocks}
 
 -- ---- the answer numbers
 
 abbrev pub refusalNumber : Refusal → ℕ
-refusalNumber Kind = 3
-refusalNumber Size = 4
-refusalNumber Order = 5
-refusalNumber Address = 6
-refusalNumber Locks = 7
-refusalNumber Count = 8
-refusalNumber Room = 9
+refusalNumber refusal.Kind = 3
+refusalNumber refusal.Size = 4
+refusalNumber refusal.Order = 5
+refusalNumber refusal.Address = 6
+refusalNumber refusal.Locks = 7
+refusalNumber refusal.Count = 8
+refusalNumber refusal.Room = 9
 
-abbrev pub takenNumber : Taken → ℕ
-takenNumber (Run e) = 0
-takenNumber (Refused r) = refusalNumber r
+abbrev pub numberOf : Taken → ℕ
+numberOf (Run e) = 0
+numberOf (Refused r) = refusalNumber r
 
--- ---- what each number asks
+-- ---- the kinds
+
+unfoldable pub kindOf : ℕ → Kind
+kindOf n =
+    pick (eqb n 1) kind.Image
+    (pick (eqb n 2) kind.Reading
+    (pick (eqb n 3) kind.Conversion
+    (pick (eqb n 4) kind.Transaction
+    (pick (eqb n 5) kind.PowerOn kind.Unknown))))
 
 -- 3: kind not 1 to 5
-unfoldable pub knownOf : ℕ → Bool
-knownOf kind = both (leb 1 kind) (leb kind 5)
+abbrev pub knownOf : Kind → Bool
+knownOf kind.Image = true
+knownOf kind.Reading = true
+knownOf kind.Conversion = true
+knownOf kind.Transaction = true
+knownOf kind.PowerOn = true
+knownOf kind.Unknown = false
 
 -- 4: payload not 60, 8, 4, 1 to 65, 0 bytes for kinds 1 to 5
-unfoldable pub sizedOf : ℕ → ℕ → Bool
-sizedOf kind n =
-    pick (eqb kind 1) (eqb n 60)
-    (pick (eqb kind 2) (eqb n 8)
-    (pick (eqb kind 3) (eqb n 4)
-    (pick (eqb kind 4) (both (leb 1 n) (leb n 65)) (eqb n 0))))
+abbrev pub sizedOf : Kind → ℕ → Bool
+sizedOf kind.Image n = eqb n imageSize
+sizedOf kind.Reading n = eqb n 8
+sizedOf kind.Conversion n = eqb n 4
+sizedOf kind.Transaction n = both (leb 1 n) (leb n 65)
+sizedOf kind.PowerOn n = eqb n 0
+sizedOf kind.Unknown n = false
 
 -- 5: an event before an image was accepted, or an image after one was
-unfoldable pub dueOf : ℕ → Bool → Bool
-dueOf kind loaded = pick (eqb kind 1) (not loaded) loaded
+abbrev pub dueOf : Kind → Bool → Bool
+dueOf kind.Image loaded = not loaded
+dueOf kind.Reading loaded = loaded
+dueOf kind.Conversion loaded = loaded
+dueOf kind.Transaction loaded = loaded
+dueOf kind.PowerOn loaded = loaded
+dueOf kind.Unknown loaded = false
 
--- 6 and 7: as the image is judged
-abbrev pub imageTaken : Verdict → Taken
-imageTaken verdict.Accepted = Run Image
-imageTaken verdict.Size = Refused Size
-imageTaken verdict.Address = Refused Address
-imageTaken verdict.Locks = Refused Locks
+-- ---- an image, judged by itself
 
--- 8: read count above 64
-abbrev pub countableOf : List ℕ → Bool
-countableOf p = leb (getD p 0 0) 64
+-- first address byte 3Dh, and the eighth the CRC of the first seven
+unfoldable pub addressedOf : List ℕ → Bool
+addressedOf address = both (eqb (getD address 0 0) 0x3d) (eqb (getD address 7 0) (crcOf (part 7 address 0)))
+
+-- lock byte not above 3
+abbrev pub lockableOf : List ℕ → Bool
+lockableOf p = leb (imageLocks p) 3
+
+-- 4, 6, 7: the first refusal that applies, in the order of checking
+unfoldable pub judgedOf : List ℕ → Taken
+judgedOf p =
+    pick (eqb (length p) imageSize)
+    (pick (addressedOf (imageAddress p)) (pick (lockableOf p) (Run Image) (Refused refusal.Locks)) (Refused refusal.Address))
+    (Refused refusal.Size)
 
 -- ---- what a payload says
-
--- the master bytes of a transaction
-abbrev pub masterOf : List ℕ → List ℕ
-masterOf p = drop 1 p
 
 -- a signed 32-bit count, as z + 2^31
 abbrev pub countAt : List ℕ → ℕ → ℕ
 countAt p at = offset32Of (quadAt p at)
 
--- a read count and master bytes
+-- the master bytes of a transaction
+abbrev pub masterOf : Transaction → List ℕ → List ℕ
+masterOf t p = drop (t .start) p
+
+-- a read count of one byte, and then the master bytes. 8: read count above 64
 abbrev pub transactionOf : List ℕ → Taken
-transactionOf p = pick (countableOf p) (Run (Transact (askedOf (getD p 0 0) (masterOf p)))) (Refused Count)
+transactionOf p = pick (leb (getD p 0 0) 64) (Run (Transact (askedOf 1 (getD p 0 0) (drop 1 p)))) (Refused refusal.Count)
 
--- the event of a record of a known kind and its size, at its time
-unfoldable pub eventOf : ℕ → List ℕ → Taken
-eventOf kind p =
-    pick (eqb kind 1) (imageTaken (verdictOf p))
-    (pick (eqb kind 2) (Run (Reading (countAt p 0) (countAt p 4)))
-    (pick (eqb kind 3) (Run (Conversion (countAt p 0)))
-    (pick (eqb kind 4) (transactionOf p) (Run PowerOn))))
+-- the event of a record of its kind's size, at its time
+abbrev pub eventOf : Kind → List ℕ → Taken
+eventOf kind.Image p = judgedOf p
+eventOf kind.Reading p = Run (Change (change.Reading (countAt p 0) (countAt p 4)))
+eventOf kind.Conversion p = Run (Change (change.Conversion (countAt p 0)))
+eventOf kind.Transaction p = transactionOf p
+eventOf kind.PowerOn p = Run (Change change.PowerOn)
+eventOf kind.Unknown p = Refused refusal.Kind
 
--- the first refusal that applies, or the event
+-- ---- the first refusal that applies, or the event
+
+abbrev pub takenBy : Kind → Bool → List ℕ → Taken
+takenBy k loaded p =
+    pick (knownOf k)
+    (pick (sizedOf k (length p))
+    (pick (dueOf k loaded) (eventOf k p) (Refused refusal.Order))
+    (Refused refusal.Size))
+    (Refused refusal.Kind)
+
+-- 3 to 8, by the record and whether an image was accepted
 unfoldable pub takenOf : ℕ → Bool → List ℕ → Taken
-takenOf kind loaded p =
-    pick (knownOf kind)
-    (pick (sizedOf kind (length p))
-    (pick (dueOf kind loaded) (eventOf kind p) (Refused Order))
-    (Refused Size))
-    (Refused Kind)
+takenOf n loaded p = takenBy (kindOf n) loaded p
 
--- what the payload of an event has: an image its 60 bytes, a transaction its read count
-abbrev pub Fitting : Event → ℕ → Type 0
-Fitting Image n = n ≡ 60
-Fitting (Reading volt temp) n = n ≡ n
-Fitting (Conversion raw) n = n ≡ n
-Fitting (Transact t) n = 1 ≤ n
-Fitting PowerOn n = n ≡ n
+-- how many bytes of the reply room an event asks
+abbrev pub asksOf : Event → ℕ
+asksOf Image = 0
+asksOf (Change c) = 0
+asksOf (Transact t) = t .count
+
+-- 9: reply room left is less than the read count
+abbrev pub fittedOf : ℕ → Taken → Taken
+fittedOf room (Run e) = pick (ltb room (asksOf e)) (Refused refusal.Room) (Run e)
+fittedOf room (Refused r) = Refused r
+
+-- ---- what the payload of an event has: an image its 60 bytes; a transaction its master bytes, and in them those to be written
+
+pub record Mastered (t : Transaction) (p : List ℕ) : Type 0 where
+  pub starts : t .start ≤ length p
+  pub within : t .from ≤ length (masterOf t p)
+  pub near : t .start ≤ 1
+
+abbrev pub Fitting : Event → List ℕ → Type 0
+Fitting Image p = length p ≡ imageSize
+Fitting (Change c) p = Unit
+Fitting (Transact t) p = Mastered t p

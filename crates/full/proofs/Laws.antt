@@ -1,4 +1,4 @@
--- What the definitions keep: bounds of what they give; charge and average are well-formed after step 6. Assumes nothing.
+-- What the definitions keep: bounds of what they give; charge and average are well-formed after step 6.
 use mathlib.Core.Bool.{Bool}
 use Prim.Native.Nat.{ℕ, _≤_}
 use native.Mathlib.Omega.{arith}
@@ -8,7 +8,7 @@ use Rattle.numbers.specs.Choice.{both}
 use Rattle.numbers.proofs.Bounds.{picked}
 use Rattle.charge.specs.declared.Charge.{Charge}
 use Rattle.charge.specs.Charge.{ChargeWF, agedFullOf, shareOf}
-use Rattle.charge.proofs.Laws.{aged-full-high, share-high}
+use Rattle.charge.proofs.Laws.{set-wf, with-as-wf, aged-full-high, share-high}
 use Rattle.full.specs.declared.Average.{Average}
 use Rattle.full.specs.Full.{AverageWF, eighth, averagedOf, learntOf, taughtOf, filledOf, settledOf}
 
@@ -27,7 +27,7 @@ module _ (g : Charge) (full full40 : ℕ) (w : ChargeWF g) where
 
   pub filled-wf : full ≤ 16384 → full40 ≤ 65535 → ChargeWF (filledOf g full full40)
   unfolding filledOf
-  filled-wf p q = record { count = omega (arith, filled-high p q); age = w .age; low = taught-low; high = taught-high }
+  filled-wf p q = set-wf _ _ _ (filled-high p q) (with-as-wf g _ taught-low taught-high w)
 
   pub settled-wf : (found : Bool) → full ≤ 16384 → full40 ≤ 65535 → ChargeWF (settledOf g found full full40)
   unfolding settledOf

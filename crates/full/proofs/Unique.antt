@@ -1,9 +1,8 @@
--- The contracts of this crate's public functions leave no choice. Assumes nothing.
+-- The contracts of this crate's public functions leave no choice.
 use mathlib.Core.Path.{refl, sym, _∙_}
 use Rattle.once.specs.Once.{Once}
 use Rattle.full.proofs.Average.averaged
 use Rattle.full.proofs.Average.found
-use Rattle.full.proofs.Since.renewed
 use Rattle.full.proofs.Since.lowered
 use Rattle.full.proofs.settled
 
@@ -12,9 +11,6 @@ averaged-once κs a r r′ w w′ p h h′ = (h ∙ sym h′, refl)
 
 pub found-once : Once found.ended found.Reads.Pre found.Reads.Learnt
 found-once κs a r r′ w w′ p h h′ = (h ∙ sym h′, refl)
-
-pub renewed-once : Once renewed.ended renewed.Reads.Pre renewed.Reads.Learnt
-renewed-once κs a r r′ w w′ p h h′ = (h ∙ sym h′, refl)
 
 pub lowered-once : Once lowered.ended lowered.Reads.Pre lowered.Reads.Learnt
 lowered-once κs a r r′ w w′ p h h′ = (h ∙ sym h′, refl)

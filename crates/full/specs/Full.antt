@@ -6,7 +6,7 @@ use Rattle.numbers.specs.Offset.{zeroAt, movedInto}
 use Rattle.numbers.specs.Choice.{pick, both}
 use Rattle.params.specs.declared.Limits.{Limits}
 use Rattle.charge.specs.declared.Charge.{Charge}
-use Rattle.charge.specs.Charge.{acrOf, agedFullOf, shareOf}
+use Rattle.charge.specs.Charge.{acrOf, setOf, withAs, agedFullOf, shareOf}
 use Rattle.full.specs.declared.Average.{Average}
 use Rattle.full.specs.declared.Since.{Since}
 
@@ -23,6 +23,7 @@ eighth a = eqb (a .run) 7
 abbrev pub meanOf : Average → ℕ → ℕ
 meanOf a c = (a .sum + c) / 8
 
+-- the run of eight goes on, or ends with IAVG
 unfoldable pub averagedOf : Average → ℕ → Average
 averagedOf a c =
     pick (eighth a) (record { run = 0; sum = 0; iavg = meanOf a c; known = true })
@@ -37,20 +38,20 @@ unfoldable pub loweredOf : Since → ℕ → Since
 loweredOf s volt = record { any = true; lowest = pick (s .any) (min (s .lowest) volt) volt }
 
 -- in 1..32 × IMIN - 1
-abbrev pub taperOf : ℕ → ℕ → Bool
-taperOf imin x = both (ltb (zeroAt 15) x) (ltb x (zeroAt 15 + 32 * imin))
+abbrev pub tapersOf : ℕ → ℕ → Bool
+tapersOf imin x = both (ltb (zeroAt 15) x) (ltb x (zeroAt 15 + 32 * imin))
 
 -- this and the previous IAVG both lie there
-abbrev pub tapersOf : Average → ℕ → ℕ → Bool
-tapersOf a imin c = both (taperOf imin (meanOf a c)) (both (a .known) (taperOf imin (a .iavg)))
+abbrev pub taperingOf : Average → ℕ → ℕ → Bool
+taperingOf a imin c = both (tapersOf imin (meanOf a c)) (both (a .known) (tapersOf imin (a .iavg)))
 
 -- at least one reading came since the previous IAVG, all above 4 × VCHG
-abbrev pub highOf : Since → ℕ → Bool
-highOf s vchg = both (s .any) (ltb (4 * vchg) (s .lowest))
+abbrev pub aboveOf : Since → ℕ → Bool
+aboveOf s vchg = both (s .any) (ltb (4 * vchg) (s .lowest))
 
--- full is found
+-- full is found by an eighth conversion
 unfoldable pub foundOf : Average → Since → Limits → ℕ → Bool
-foundOf a s p c = both (eighth a) (both (tapersOf a (p .imin) c) (highOf s (p .vchg)))
+foundOf a s p c = both (taperingOf a (p .imin) c) (aboveOf s (p .vchg))
 
 -- AS = ACR × 2^21 / (FULL × Full40), rounded down, moved into 63..128
 unfoldable pub learntOf : ℕ → ℕ → ℕ → ℕ
@@ -60,14 +61,12 @@ learntOf acr full full40 = movedInto 63 128 (acr * 2 ^ 21 / (full * full40))
 abbrev pub taughtOf : Charge → ℕ → ℕ → ℕ
 taughtOf g full full40 = pick (both (g .learnf) (ltb 0 full40)) (learntOf (acrOf (g .count)) full full40) (g .aging)
 
--- ACR = AF × Full40 / 16,384 rounded down, fraction 0; LEARNF clears
+-- LEARNF clears; ACR = AF × Full40 / 16,384 rounded down, fraction 0
 unfoldable pub filledOf : Charge → ℕ → ℕ → Charge
-filledOf g full full40 = record {
-  count = shareOf (agedFullOf full (taughtOf g full full40)) full40 * 4096;
-  age = g .age;
-  aging = taughtOf g full full40;
-  learnf = false;
-}
+filledOf g full full40 =
+    let aging = taughtOf g full full40 in
+    setOf (withAs g aging) (shareOf (agedFullOf full aging) full40) false
 
+-- the charge after step 6
 unfoldable pub settledOf : Charge → Bool → ℕ → ℕ → Charge
 settledOf g found full full40 = pick found (filledOf g full full40) g

@@ -4,10 +4,7 @@ use params::Limits;
 ghost use mathlib.Core.Path.{_≡_};
 ghost use Prim.Native.Nat.{_≤_};
 ghost use Rattle.charge.specs.Charge.{ChargeWF};
-ghost use Rattle.full.specs.Full.{AverageWF, averagedOf, renewedOf, loweredOf, taperOf, foundOf, learntOf, filledOf, settledOf};
-
-// What a current of 0 is kept as.
-const ZERO: u16 = 32768;
+ghost use Rattle.full.specs.Full.{AverageWF, averagedOf, loweredOf, tapersOf, foundOf, learntOf, filledOf, settledOf};
 
 // The run of eight: how many c it has and their sum; IAVG, and whether there is one.
 pub struct Average {
@@ -25,10 +22,10 @@ pub struct Since {
 
 // Step 6: whether an average is in 1..32 × IMIN - 1.
 fn tapers(imin: u8, x: u16) -> bool
-    ensures { λ r. ⌜ r ≡ taperOf imin x ⌝ }
+    ensures { λ r. ⌜ r ≡ tapersOf imin x ⌝ }
 {
-    let top = ZERO + 32 * (imin as u16);
-    numbers::and(ZERO < x, x < top)
+    let top = numbers::ZERO15 + 32 * (imin as u16);
+    numbers::and(numbers::ZERO15 < x, x < top)
 }
 
 impl Average {
@@ -55,34 +52,20 @@ impl Average {
         }
     }
 
-    // Step 6: whether full is found.
+    // Step 6: whether an eighth conversion finds full.
     pub fn found(self, s: Since, p: Limits, c: u16) -> bool
         requires { ⌜ AverageWF self ⌝ }
         ensures { λ r. ⌜ r ≡ foundOf self s p c ⌝ }
     {
         let mean = ((self.sum + (c as u32)) / 8) as u16;
         let before = numbers::and(self.known, tapers(p.imin, self.iavg));
-        let low = numbers::and(tapers(p.imin, mean), before);
-        let high = numbers::and(s.any, 4 * (p.vchg as u16) < s.lowest);
-        numbers::and(self.run == 7, numbers::and(low, high))
+        let tapering = numbers::and(tapers(p.imin, mean), before);
+        let above = numbers::and(s.any, 4 * (p.vchg as u16) < s.lowest);
+        numbers::and(tapering, above)
     }
 }
 
 impl Since {
-    // Step 6: after an eighth conversion there is no reading yet.
-    pub fn renewed(self, eighth: bool) -> Since
-        ensures { λ r. ⌜ r ≡ renewedOf self eighth ⌝ }
-    {
-        if eighth {
-            Since {
-                any: false,
-                lowest: 0,
-            }
-        } else {
-            self
-        }
-    }
-
     // A reading adds its VOLT.
     pub fn lowered(self, volt: u16) -> Since
         ensures { λ r. ⌜ r ≡ loweredOf self volt ⌝ }
@@ -105,21 +88,17 @@ fn learnt(acr: u16, full: u16, full40: u16) -> u8
 }
 
 // Step 6, where full is found.
-fn filled(g: Charge, full: u16, full40: u16) -> Charge
+fn filled(mut g: Charge, full: u16, full40: u16) -> Charge
     requires { ⌜ ChargeWF g ⌝ }
     requires { ⌜ full ≤ 16384 ⌝ }
     ensures { λ r. ⌜ r ≡ filledOf g full full40 ⌝ }
 {
-    let acr = (g.count / 4096) as u16;
     let teach = numbers::and(g.learnf, 0 < full40);
-    let aging = numbers::choose8(teach, learnt(acr, full, full40), g.aging);
-    let charge = charge::share(charge::aged_full(full, aging), full40) as u32;
-    Charge {
-        count: charge * 4096,
-        age: g.age,
-        aging: aging,
-        learnf: false,
-    }
+    let before = (g.count / 4096) as u16;
+    let aging = numbers::choose8(teach, learnt(before, full, full40), g.aging);
+    let acr = charge::share(charge::aged_full(full, aging), full40) as u16;
+    g.aging = aging;
+    g.set(acr, false)
 }
 
 // Step 6: the charge afterwards.

@@ -1,178 +1,140 @@
--- What no event undoes, and what a transaction cannot reach. Assumes nothing.
-use mathlib.Core.Path.{_≡_, refl, _∙_}
+-- What no event undoes, and what a transaction cannot reach.
+use mathlib.Core.Path.{_≡_, refl, ap, _∙_}
 use mathlib.Core.Bool.{true, false}
-use mathlib.Core.List.{List, [], _∷_}
-use Prim.Native.Nat.{ℕ, _+_, _-_}
+use mathlib.Core.List.{List}
+use Prim.Native.Nat.{ℕ}
 use lib.ListN.{drop}
 use Rattle.numbers.proofs.Bounds.{picked}
 use Rattle.meter.specs.declared.Locks.{Locks}
-use Rattle.meter.specs.declared.Meter.{Meter}
-use Rattle.meter.specs.State.{poweredOf}
-use Rattle.meter.specs.Convert.{convertOf}
+use Rattle.meter.specs.declared.Block.{Block}
+use Rattle.meter.specs.State.{withCells, withLocks, poweredOf}
+use Rattle.meter.specs.Convert.{flowedOf, convertOf}
 use Rattle.meter.specs.Read.{readOf, drainedOf, shownOf}
-use Rattle.blocks.specs.declared.Common.{Common}
-use Rattle.stores.specs.declared.Held.{Held}
-use Rattle.blocks.specs.declared.Label.{Label}
-use Rattle.blocks.specs.Blocks.{LabelSized, inLabel, inBlock, labelWritten, labelCopied, labelRecalled, labelLocked}
-use Rattle.stores.specs.Stores.{BlockSized, withLocks, heldOf, meterWritten, meterCopied, meterRecalled, blockLocked, lockUsed}
-use Rattle.blocks.proofs.Kept.{label-written-sized, label-copied-sized, label-recalled-sized}
-use Rattle.stores.proofs.Kept.{written-sized, written-eeprom, written-lock, write-saved, copied-sized, copied-saved, recalled-sized}
+use Rattle.label.specs.declared.Common.{Common}
+use Rattle.label.specs.declared.Label.{Label}
+use Rattle.label.specs.Label.{inLabel, inBlock, commonLockedOf}
+use Rattle.label.proofs.Kept.{label-written-sized, label-written-eeprom, label-copied-sized, label-copied-locked, label-copied-elsewhere, label-recalled-sized, label-recalled-eeprom, label-recalled-elsewhere, common-locked-elsewhere}
+use Rattle.stores.specs.Stores.{meterWrittenOf, meterCopiedOf, meterRecalledOf, meterLockedOf}
+use Rattle.stores.proofs.Kept.{written-sized, written-eeprom, copied-sized, copied-locked, copied-elsewhere, recalled-sized, recalled-eeprom, recalled-elsewhere, locked-elsewhere}
 use Rattle.bus.specs.declared.Command.{Command}
 use Rattle.bus.specs.declared.Command.the-variants.{Read, Write, Copy, Recall, Lock, Nothing}
 use Rattle.bus.specs.declared.Transaction.{Transaction}
-use Rattle.writes.specs.Writes.{noneHeld}
 use Rattle.replies.specs.Reply.{selectedOf}
 use Rattle.gauge.specs.declared.Gauge.{Gauge}
-use Rattle.gauge.specs.Gauge.{Sized, withLabel, withMeter, conversionOf, readingOf, powerOnOf, writtenOf, writesOf, withBlockAt, copiedOf, recalledOf, lockedOf}
+use Rattle.gauge.specs.Gauge.{Sized, conversionOf, readingOf, powerOnOf, writtenOf, copiedOf, recalledOf, lockedOf}
+use Rattle.events.specs.declared.Change.{Change}
+use Rattle.events.specs.declared.Change.the-variants.{Reading, Conversion, PowerOn}
+use Rattle.gauge.specs.Change.{changedOf}
 use Rattle.gauge.specs.Act.{ranBy, ranOf, actOf}
 use Rattle.gauge.specs.Kept.{Kept}
 
 -- ---- what a transaction keeps
 
 module _ (P : Gauge → Type 0) where
-  -- the changes that transactions are made of
-  pub record Changes : Type 0 where
-    pub label-byte : (g : Gauge) (a b : ℕ) → P g → P (withLabel g (labelWritten (g .common) (g .label) a b))
-    pub meter-byte : (h : Held) (g : Gauge) (a b : ℕ) → P g → P (withMeter g (meterWritten h (g .meter) a b))
-    pub label-copy : (g : Gauge) → P g → P (withLabel g (labelCopied (g .common) (g .label)))
-    pub block-copy : (g : Gauge) → P g → P (withMeter g (meterCopied (g .meter)))
-    pub label-recall : (g : Gauge) → P g → P (withLabel g (labelRecalled (g .label)))
-    pub block-recall : (g : Gauge) → P g → P (withMeter g (meterRecalled (g .meter)))
-    pub label-lock : (g : Gauge) → P g → P (record { common = labelLocked (g .common); label = g .label; meter = lockUsed (g .meter) })
-    pub block-lock : (g : Gauge) → P g → P (withMeter g (blockLocked (g .meter)))
+  -- what each command keeps
+  pub record Commands : Type 0 where
+    pub written : (g : Gauge) (a : ℕ) (bytes : List ℕ) → P g → P (writtenOf g a bytes)
+    pub copied : (g : Gauge) (a : ℕ) → P g → P (copiedOf g a)
+    pub recalled : (g : Gauge) (a : ℕ) → P g → P (recalledOf g a)
+    pub locked : (g : Gauge) (a : ℕ) → P g → P (lockedOf g a)
 
-  module _ (c : Changes) where
-    written : (h : Held) (g : Gauge) (a : ℕ) (bytes : List ℕ) → P g → P (writesOf h g a bytes)
-    unfolding writtenOf
-    written h g a [] p = p
-    written h g a (b ∷ bytes) p =
-        written (heldOf h a b) (writtenOf h g a b) (a + 1) bytes
-        (picked P (inLabel a) _ _ (λ e. c .label-byte g a b p) (λ e. c .meter-byte h g a b p))
-
-    replaced : (g : Gauge) (a : ℕ) (l : Label) (m : Meter) → P g → P (withLabel g l) → P (withMeter g m) → P (withBlockAt g a l m)
-    replaced g a l m p q r = picked P (inLabel a) _ _ (λ e. q) (λ e. picked P (inBlock a) _ g (λ e. r) (λ e. p))
-
+  module _ (c : Commands) where
     ran : (command : Command) (g : Gauge) (a : ℕ) (bytes : List ℕ) → P g → P (ranBy command g a bytes)
-    unfolding copiedOf recalledOf lockedOf
     ran Read g a bytes p = p
-    ran Write g a bytes p = written noneHeld g a bytes p
-    ran Copy g a bytes p = replaced g a _ _ p (c .label-copy g p) (c .block-copy g p)
-    ran Recall g a bytes p = replaced g a _ _ p (c .label-recall g p) (c .block-recall g p)
-    ran Lock g a bytes p =
-        picked P (g .meter .locks .lock) _ g
-        (λ e. picked P (inLabel a) _ _ (λ e. c .label-lock g p) (λ e. picked P (inBlock a) _ g (λ e. c .block-lock g p) (λ e. p)))
-        (λ e. p)
+    ran Write g a bytes p = c .written g a bytes p
+    ran Copy g a bytes p = c .copied g a p
+    ran Recall g a bytes p = c .recalled g a p
+    ran Lock g a bytes p = c .locked g a p
     ran Nothing g a bytes p = p
 
     pub acted : (g : Gauge) (t : Transaction) (master : List ℕ) → P g → P (actOf g t master)
     unfolding actOf ranOf
     acted g t master p =
-        picked P (selectedOf (g .common) t master) _ g
+        picked P (selectedOf (g .common .address) t master) _ g
         (λ e. ran (t .command) g (t .address) (drop (t .from) master) p)
         (λ e. p)
 
+-- ---- what a change keeps, where each of the three does
+
+module _ (P : Gauge → Type 0) where
+  pub changed : ((g : Gauge) (raw : ℕ) → P g → P (conversionOf g raw)) → ((g : Gauge) (volt temp : ℕ) → P g → P (readingOf g volt temp))
+      → ((g : Gauge) → P g → P (powerOnOf g)) → (g : Gauge) (c : Change) → P g → P (changedOf g c)
+  changed conversion reading power-on g (Reading volt temp) p = reading g volt temp p
+  changed conversion reading power-on g (Conversion raw) p = conversion g raw p
+  changed conversion reading power-on g PowerOn p = power-on g p
+
 -- no transaction changes the saved cells
-pub saved-untouched : (g : Gauge) (t : Transaction) (master : List ℕ) → actOf g t master .meter .saved ≡ g .meter .saved
-unfolding meterRecalled lockUsed blockLocked
+pub saved-untouched : (g : Gauge) (t : Transaction) (master : List ℕ) → actOf g t master .meter .cells .saved ≡ g .meter .cells .saved
+unfolding writtenOf copiedOf recalledOf lockedOf meterWrittenOf meterCopiedOf meterRecalledOf meterLockedOf
 saved-untouched g t master =
-    acted (λ (f : Gauge). f .meter .saved ≡ g .meter .saved)
-    (record {
-      label-byte = λ f a b p. p;
-      meter-byte = λ h f a b p. write-saved h (f .meter) a b ∙ p;
-      label-copy = λ f p. p;
-      block-copy = λ f p. copied-saved (f .meter) ∙ p;
-      label-recall = λ f p. p;
-      block-recall = λ f p. p;
-      label-lock = λ f p. p;
-      block-lock = λ f p. p;
-    })
+    acted (λ (f : Gauge). f .meter .cells .saved ≡ g .meter .cells .saved)
+    (record { written = λ f a bytes p. p; copied = λ f a p. p; recalled = λ f a p. p; locked = λ f a p. p })
     g t master refl
 
 -- ---- what every event keeps
 
 -- the address never changes: what holds of it is kept
 pub address-kept : (P : List ℕ → Type 0) → Kept (λ g. P (g .common .address))
-unfolding conversionOf readingOf powerOnOf labelLocked
+unfolding conversionOf readingOf powerOnOf writtenOf copiedOf recalledOf lockedOf commonLockedOf
 address-kept P = record {
-  conversion = λ g raw p. p;
-  reading = λ g volt temp p. p;
-  power-on = λ g p. p;
-  act = acted _ (record {
-    label-byte = λ g a b p. p;
-    meter-byte = λ h g a b p. p;
-    label-copy = λ g p. p;
-    block-copy = λ g p. p;
-    label-recall = λ g p. p;
-    block-recall = λ g p. p;
-    label-lock = λ g p. p;
-    block-lock = λ g p. p;
-  });
+  change = changed _ (λ g raw p. p) (λ g volt temp p. p) (λ g p. p);
+  act = acted _ (record { written = λ g a bytes p. p; copied = λ g a p. p; recalled = λ g a p. p; locked = λ g a p. p });
 }
 
 -- a locked block 0 stays locked, and its EEPROM never changes
 pub locked-label-eeprom : (bytes : List ℕ) → Kept (λ g. (g .common .bl0 ≡ true) × (g .label .eeprom ≡ bytes))
-unfolding conversionOf readingOf powerOnOf labelWritten labelCopied labelRecalled labelLocked
+unfolding conversionOf readingOf powerOnOf writtenOf copiedOf recalledOf lockedOf commonLockedOf
 locked-label-eeprom bytes = record {
-  conversion = λ g raw p. p;
-  reading = λ g volt temp p. p;
-  power-on = λ g p. p;
+  change = changed _ (λ g raw p. p) (λ g volt temp p. p) (λ g p. p);
   act = acted _ (record {
-    label-byte = λ g a b p. (p .0, rw (p .0) (p .1));
-    meter-byte = λ h g a b p. p;
-    label-copy = λ g p. (p .0, rw (p .0) (p .1));
-    block-copy = λ g p. p;
-    label-recall = λ g p. p;
-    block-recall = λ g p. p;
-    label-lock = λ g p. (refl, p .1);
-    block-lock = λ g p. p;
+    written = λ g a bytes p. (p .0, label-written-eeprom (g .label) (g .common .bl0) a bytes ∙ p .1);
+    copied = λ g a p. (p .0, ap (λ (l : Label). l .eeprom) (label-copied-locked (g .label) (g .common .bl0) a (p .0)) ∙ p .1);
+    recalled = λ g a p. (p .0, label-recalled-eeprom (g .label) a ∙ p .1);
+    locked = λ g a p. (rw (p .0) refl, p .1);
   });
 }
 
 -- a locked block 1 stays locked, and its EEPROM never changes
-pub locked-block-eeprom : (bytes : List ℕ) → Kept (λ g. (g .meter .locks .bl1 ≡ true) × (g .meter .block .eeprom ≡ bytes))
-unfolding conversionOf readingOf powerOnOf convertOf readOf shownOf poweredOf meterCopied meterRecalled lockUsed blockLocked
+pub locked-block-eeprom : (bytes : List ℕ) → Kept (λ g. (g .meter .cells .locks .bl1 ≡ true) × (g .meter .cells .block .eeprom ≡ bytes))
+unfolding conversionOf readingOf powerOnOf convertOf flowedOf readOf shownOf poweredOf writtenOf copiedOf recalledOf lockedOf meterWrittenOf meterCopiedOf meterRecalledOf meterLockedOf
 locked-block-eeprom bytes = record {
-  conversion = λ g raw p. p;
-  reading = λ g volt temp p. p;
-  power-on = λ g p. p;
+  change = changed _ (λ g raw p. p) (λ g volt temp p. p) (λ g p. p);
   act = acted _ (record {
-    label-byte = λ g a b p. p;
-    meter-byte = λ h g a b p. (written-lock h (g .meter) a b ∙ p .0, written-eeprom h (g .meter) a b ∙ p .1);
-    label-copy = λ g p. p;
-    block-copy = λ g p. (rw (p .0) refl, rw (p .0) (p .1));
-    label-recall = λ g p. p;
-    block-recall = λ g p. p;
-    label-lock = λ g p. p;
-    block-lock = λ g p. (refl, p .1);
+    written = λ g a bytes p. (p .0, written-eeprom (g .meter .cells .block) (g .meter .cells .locks .bl1) a bytes ∙ p .1);
+    copied = λ g a p. (p .0, ap (λ (b : Block). b .eeprom) (copied-locked (g .meter .cells .block) (g .meter .cells .locks .bl1) a (p .0)) ∙ p .1);
+    recalled = λ g a p. (p .0, recalled-eeprom (g .meter .cells .block) a ∙ p .1);
+    locked = λ g a p. (rw (p .0) refl, p .1);
   });
 }
 
 -- the arrays keep their sizes
-with-label-sized : (g : Gauge) (l : Label) → Sized g → LabelSized l → Sized (withLabel g l)
-with-label-sized g l z s = record { address = z .address; label = s; block = z .block }
-
-with-meter-sized : (g : Gauge) (m : Meter) → Sized g → BlockSized (m .block) → Sized (withMeter g m)
-with-meter-sized g m z s = record { address = z .address; label = z .label; block = s }
-
 pub sized-kept : Kept Sized
-unfolding conversionOf readingOf powerOnOf convertOf readOf shownOf poweredOf labelLocked lockUsed blockLocked
+unfolding conversionOf readingOf powerOnOf convertOf flowedOf readOf shownOf poweredOf writtenOf copiedOf recalledOf lockedOf commonLockedOf meterWrittenOf meterCopiedOf meterRecalledOf meterLockedOf
 sized-kept = record {
-  conversion = λ g raw z. with-meter-sized g _ z (z .block);
-  reading = λ g volt temp z. with-meter-sized g _ z (z .block);
-  power-on = λ g z. record {
-    address = z .address;
-    label = label-recalled-sized (g .label) (z .label);
-    block = record { shadow = z .block .eeprom; eeprom = z .block .eeprom };
-  };
+  change = changed Sized (λ g raw z. record { address = z .address; label = z .label; block = z .block })
+      (λ g volt temp z. record { address = z .address; label = z .label; block = z .block })
+      (λ g z. record {
+        address = z .address;
+        label = record { shadow = z .label .eeprom; eeprom = z .label .eeprom };
+        block = record { shadow = z .block .eeprom; eeprom = z .block .eeprom };
+      });
   act = acted Sized (record {
-    label-byte = λ g a b z. with-label-sized g _ z (label-written-sized (g .common) (g .label) a b (z .label));
-    meter-byte = λ h g a b z. with-meter-sized g _ z (written-sized h (g .meter) a b (z .block));
-    label-copy = λ g z. with-label-sized g _ z (label-copied-sized (g .common) (g .label) (z .label));
-    block-copy = λ g z. with-meter-sized g _ z (copied-sized (g .meter) (z .block));
-    label-recall = λ g z. with-label-sized g _ z (label-recalled-sized (g .label) (z .label));
-    block-recall = λ g z. with-meter-sized g _ z (recalled-sized (g .meter) (z .block));
-    label-lock = λ g z. record { address = z .address; label = z .label; block = z .block };
-    block-lock = λ g z. with-meter-sized g _ z (z .block);
+    written = λ g a bytes z. record {
+      address = z .address;
+      label = label-written-sized (g .label) (g .common .bl0) a bytes (z .label);
+      block = written-sized (g .meter .cells .block) (g .meter .cells .locks .bl1) a bytes (z .block);
+    };
+    copied = λ g a z. record {
+      address = z .address;
+      label = label-copied-sized (g .label) (g .common .bl0) a (z .label);
+      block = copied-sized (g .meter .cells .block) (g .meter .cells .locks .bl1) a (z .block);
+    };
+    recalled = λ g a z. record {
+      address = z .address;
+      label = label-recalled-sized (g .label) a (z .label);
+      block = recalled-sized (g .meter .cells .block) a (z .block);
+    };
+    locked = λ g a z. record { address = z .address; label = z .label; block = z .block };
   });
 }
 
@@ -183,15 +145,15 @@ module _ (g : Gauge) (a : ℕ) (label : inLabel a ≡ false) (block : inBlock a 
   pub no-block : (copiedOf g a ≡ g) × (recalledOf g a ≡ g) × (lockedOf g a ≡ g)
   unfolding copiedOf recalledOf lockedOf
   no-block = (
-    simp (label, block),
-    simp (label, block),
-    simp (label, block) (picked (λ (f : Gauge). f ≡ g) (g .meter .locks .lock) g g (λ e. refl) (λ e. refl)),
+    rw (label-copied-elsewhere (g .label) (g .common .bl0) a label, copied-elsewhere (g .meter) a block) refl,
+    rw (label-recalled-elsewhere (g .label) a label, recalled-elsewhere (g .meter) a block) refl,
+    rw (common-locked-elsewhere (g .common) (g .meter .cells .locks .lock) a label, locked-elsewhere (g .meter) a label block) refl,
   )
 
 -- ---- the automatic save asks for no lock: a gauge with other locks saves the same
 
 pub save-ignores-locks : (g : Gauge) (common : Common) (locks : Locks) (volt temp : ℕ) →
-    readingOf (record { common = common; label = g .label; meter = withLocks (g .meter) locks }) volt temp .meter .saved
-    ≡ readingOf g volt temp .meter .saved
+    readingOf (record { common = common; label = g .label; meter = withCells (g .meter) (withLocks (g .meter .cells) locks) }) volt temp .meter .cells .saved
+    ≡ readingOf g volt temp .meter .cells .saved
 unfolding readingOf readOf drainedOf shownOf
 save-ignores-locks g common locks volt temp = refl

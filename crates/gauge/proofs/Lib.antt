@@ -1,3 +1,2 @@
-pub mod Writes
 pub mod Kept
 pub mod Unique

@@ -1,17 +1,15 @@
 -- The gauge: common part, label and meter, and what each event makes of them. Label events see no meter, and gauge events no label.
-use Prim.Native.Nat.{ℕ, _+_}
+use Prim.Native.Nat.{ℕ}
 use mathlib.Core.Path.{_≡_}
-use mathlib.Core.List.{List, [], _∷_}
+use mathlib.Core.List.{List}
 use lib.ListN.{length}
-use Rattle.numbers.specs.Choice.{pick}
 use Rattle.meter.specs.declared.Meter.{Meter}
 use Rattle.meter.specs.State.{MeterWF, restartedOf}
 use Rattle.meter.specs.Convert.{convertOf}
 use Rattle.meter.specs.Read.{readOf}
-use Rattle.stores.specs.declared.Held.{Held}
-use Rattle.blocks.specs.declared.Label.{Label}
-use Rattle.blocks.specs.Blocks.{LabelSized, inLabel, inBlock, labelWritten, labelCopied, labelRecalled, labelLocked}
-use Rattle.stores.specs.Stores.{BlockSized, heldOf, meterWritten, meterCopied, meterRecalled, blockLocked, lockUsed}
+use Rattle.label.specs.declared.Label.{Label}
+use Rattle.label.specs.Label.{LabelSized, labelWrittenOf, labelCopiedOf, labelPoweredOf, labelRecalledOf, commonLockedOf}
+use Rattle.stores.specs.Stores.{BlockSized, meterWrittenOf, meterCopiedOf, meterRecalledOf, meterLockedOf}
 use Rattle.gauge.specs.declared.Gauge.{Gauge}
 
 -- what holds of every gauge: its meter is well-formed
@@ -22,13 +20,14 @@ pub record GaugeWF (g : Gauge) : Type 0 where
 pub record Sized (g : Gauge) : Type 0 where
   pub address : length (g .common .address) ≡ 8
   pub label : LabelSized (g .label)
-  pub block : BlockSized (g .meter .block)
+  pub block : BlockSized (g .meter .cells .block)
 
-abbrev pub withLabel : Gauge → Label → Gauge
-withLabel g l = record { common = g .common; label = l; meter = g .meter }
+-- a gauge with other parts
+abbrev pub withParts : Gauge → Label → Meter → Gauge
+withParts g l m = record { common = g .common; label = l; meter = m }
 
 abbrev pub withMeter : Gauge → Meter → Gauge
-withMeter g m = record { common = g .common; label = g .label; meter = m }
+withMeter g m = withParts g (g .label) m
 
 -- ---- conversion, reading, power-on
 
@@ -40,33 +39,27 @@ readingOf g volt temp = withMeter g (readOf (g .meter) volt temp)
 
 -- shadow blocks take the EEPROM bytes; BL1 and BL0 stay
 unfoldable pub powerOnOf : Gauge → Gauge
-powerOnOf g = record { common = g .common; label = labelRecalled (g .label); meter = restartedOf (g .meter) }
+powerOnOf g = withParts g (labelPoweredOf (g .label)) (restartedOf (g .meter))
 
--- ---- 6Ch: bytes written from the address a upward, one by one
+-- ---- what a function command at the address a does: to the label and to the meter, each found from its own part
 
-unfoldable pub writtenOf : Held → Gauge → ℕ → ℕ → Gauge
-writtenOf h g a b =
-    pick (inLabel a) (withLabel g (labelWritten (g .common) (g .label) a b)) (withMeter g (meterWritten h (g .meter) a b))
+-- 6Ch: bytes written from the address a upward
+unfoldable pub writtenOf : Gauge → ℕ → List ℕ → Gauge
+writtenOf g a bytes =
+    withParts g (labelWrittenOf (g .label) (g .common .bl0) a bytes) (meterWrittenOf (g .meter) a bytes)
 
-abbrev pub writesOf : Held → Gauge → ℕ → List ℕ → Gauge
-writesOf h g a [] = g
-writesOf h g a (b ∷ bs) = writesOf (heldOf h a b) (writtenOf h g a b) (a + 1) bs
-
--- ---- 48h, B8h, 6Ah: on the block that holds the address, nothing where none does
-
-abbrev pub withBlockAt : Gauge → ℕ → Label → Meter → Gauge
-withBlockAt g a label meter = pick (inLabel a) (withLabel g label) (pick (inBlock a) (withMeter g meter) g)
-
+-- 48h
 unfoldable pub copiedOf : Gauge → ℕ → Gauge
-copiedOf g a = withBlockAt g a (labelCopied (g .common) (g .label)) (meterCopied (g .meter))
+copiedOf g a = withParts g (labelCopiedOf (g .label) (g .common .bl0) a) (meterCopiedOf (g .meter) a)
 
+-- B8h
 unfoldable pub recalledOf : Gauge → ℕ → Gauge
-recalledOf g a = withBlockAt g a (labelRecalled (g .label)) (meterRecalled (g .meter))
+recalledOf g a = withParts g (labelRecalledOf (g .label) a) (meterRecalledOf (g .meter) a)
 
--- if LOCK is 1
+-- 6Ah: BL0 is common, LOCK and BL1 are the meter's
 unfoldable pub lockedOf : Gauge → ℕ → Gauge
-lockedOf g a =
-    pick (g .meter .locks .lock)
-    (pick (inLabel a) (record { common = labelLocked (g .common); label = g .label; meter = lockUsed (g .meter) })
-    (pick (inBlock a) (withMeter g (blockLocked (g .meter))) g))
-    g
+lockedOf g a = record {
+  common = commonLockedOf (g .common) (g .meter .cells .locks .lock) a;
+  label = g .label;
+  meter = meterLockedOf (g .meter) a;
+}

@@ -1,3 +1,4 @@
 pub mod Gauge
+pub mod Change
 pub mod Act
 pub mod Kept

@@ -1,16 +1,14 @@
 // The gauge: its events and what a transaction does.
-use blocks::Common;
-use blocks::Label;
 use bus::Command;
 use bus::Transaction;
+use label::Common;
+use label::Label;
 use meter::Meter;
 ghost use mathlib.Core.Path.{_≡_};
 ghost use mathlib.Core.List.{_++_};
 ghost use Prim.Native.Nat.{_≤_, _<_};
 ghost use lib.ListN.{length, drop};
-ghost use Rattle.meter.specs.State.{MeterWF};
-ghost use Rattle.writes.specs.Writes.{noneHeld};
-ghost use Rattle.gauge.specs.Gauge.{GaugeWF, conversionOf, readingOf, powerOnOf, writesOf, withBlockAt, copiedOf, recalledOf, lockedOf};
+ghost use Rattle.gauge.specs.Gauge.{GaugeWF, conversionOf, readingOf, powerOnOf, writtenOf, copiedOf, recalledOf, lockedOf};
 ghost use Rattle.gauge.specs.Act.{ranOf, actOf, replyOf};
 
 pub struct Gauge {
@@ -48,9 +46,9 @@ impl Gauge {
         ensures { λ r. ⌜ r ≡ powerOnOf self ⌝ }
         ensures kept { λ r. ⌜ GaugeWF r ⌝ }
     {
-        let recalled = self.label.recalled();
+        let powered = self.label.powered();
         let restarted = self.meter.restarted();
-        self.label = recalled;
+        self.label = powered;
         self.meter = restarted;
         self
     }
@@ -59,80 +57,56 @@ impl Gauge {
 // ---- what a transaction does
 
 impl Gauge {
-    // The meter is left where all bytes are of the label.
-    fn writes(mut self, a: usize, master: &[u8], from: usize) -> Gauge
+    // 6Ch: bytes written from the address a upward.
+    fn written(mut self, a: usize, bytes: &[u8]) -> Gauge
         requires { ⌜ GaugeWF self ⌝ }
-        requires { ⌜ (a < 256) × (from < 256) ⌝ }
-        ensures { λ r. ⌜ r ≡ writesOf noneHeld self a (drop from (now (master .entry))) ⌝ }
+        requires { ⌜ a < 256 ⌝ }
+        ensures { λ r. ⌜ r ≡ writtenOf self a (now (bytes .entry)) ⌝ }
         ensures kept { λ r. ⌜ GaugeWF r ⌝ }
     {
-        let label = writes::label_writes(self.common, self.label, a, master, from);
+        let label = self.label.written(self.common.bl0, a, bytes);
+        let meter = stores::meter_written(self.meter, a, bytes);
         self.label = label;
-        if numbers::and(0x20 <= a, a + master.len() <= 0x30 + from) {
-            return self;
-        }
-        let meter = writes::meter_writes(self.meter, a, master, from);
         self.meter = meter;
         self
     }
 
-    // The block that holds the address is replaced: block 0 is the label, block 1 the meter's. Nothing is where none holds it.
-    fn with_block(mut self, a: usize, label: Label, meter: Meter) -> Gauge
-        requires { ⌜ GaugeWF self ⌝ }
-        requires { ⌜ MeterWF meter ⌝ }
-        ensures { λ r. ⌜ r ≡ withBlockAt self a label meter ⌝ }
-        ensures kept { λ r. ⌜ GaugeWF r ⌝ }
-    {
-        if blocks::in_label(a) {
-            self.label = label;
-            return self;
-        }
-        if blocks::in_block(a) {
-            self.meter = meter;
-            return self;
-        }
-        self
-    }
-
-    fn copied(self, a: usize) -> Gauge
+    // 48h at the address a.
+    fn copied(mut self, a: usize) -> Gauge
         requires { ⌜ GaugeWF self ⌝ }
         ensures { λ r. ⌜ r ≡ copiedOf self a ⌝ }
         ensures kept { λ r. ⌜ GaugeWF r ⌝ }
     {
-        self.with_block(
-            a,
-            self.label.copied(self.common),
-            stores::meter_copied(self.meter),
-        )
+        let label = self.label.copied(self.common.bl0, a);
+        let meter = stores::meter_copied(self.meter, a);
+        self.label = label;
+        self.meter = meter;
+        self
     }
 
-    fn recalled(self, a: usize) -> Gauge
+    // B8h at the address a.
+    fn recalled(mut self, a: usize) -> Gauge
         requires { ⌜ GaugeWF self ⌝ }
         ensures { λ r. ⌜ r ≡ recalledOf self a ⌝ }
         ensures kept { λ r. ⌜ GaugeWF r ⌝ }
     {
-        self.with_block(a, self.label.recalled(), stores::meter_recalled(self.meter))
+        let label = self.label.recalled(a);
+        let meter = stores::meter_recalled(self.meter, a);
+        self.label = label;
+        self.meter = meter;
+        self
     }
 
+    // 6Ah at the address a.
     fn locked(mut self, a: usize) -> Gauge
         requires { ⌜ GaugeWF self ⌝ }
         ensures { λ r. ⌜ r ≡ lockedOf self a ⌝ }
         ensures kept { λ r. ⌜ GaugeWF r ⌝ }
     {
-        if self.meter.locks.lock {
-            if blocks::in_label(a) {
-                let common = self.common.locked();
-                let used = stores::lock_used(self.meter);
-                self.common = common;
-                self.meter = used;
-                return self;
-            }
-            if blocks::in_block(a) {
-                let locked = stores::block_locked(self.meter);
-                self.meter = locked;
-                return self;
-            }
-        }
+        let common = self.common.locked(self.meter.cells.locks.lock, a);
+        let used = stores::meter_locked(self.meter, a);
+        self.common = common;
+        self.meter = used;
         self
     }
 
@@ -143,11 +117,13 @@ impl Gauge {
         ensures kept { λ r. ⌜ GaugeWF r ⌝ }
     {
         let a = parts::wide(t.address);
-        let from = parts::wide(t.from);
         let command = t.command;
         match command {
             Command::Read => self,
-            Command::Write => self.writes(a, master, from),
+            Command::Write => {
+                let from = parts::lower(parts::wide(t.from), master.len());
+                self.written(a, &master[from..])
+            }
             Command::Copy => self.copied(a),
             Command::Recall => self.recalled(a),
             Command::Lock => self.locked(a),
@@ -163,8 +139,9 @@ impl Gauge {
         ensures replied { λ r. ⌜ now (room .exit) ≡ replyOf self t (now (master .entry)) ++ drop (t .count) (now (room .entry)) ⌝ }
         ensures kept { λ r. ⌜ GaugeWF r ⌝ }
     {
-        let chosen = replies::selected(self.common, t, master);
-        replies::reply(self.common, self.label, self.meter, t, chosen, room);
+        let address = self.common.address;
+        let chosen = replies::selected(address, t, master);
+        replies::replied(self.common, self.label, self.meter, t, chosen, room);
         if chosen {
             return self.ran(t, master);
         }

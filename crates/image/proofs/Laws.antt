@@ -1,41 +1,91 @@
--- What follows of what `run` told. Assumes nothing.
-use mathlib.Core.Path.{_≡_, sym, ap, _∙_}
-use mathlib.Core.List.{List}
-use Prim.Native.Nat.{ℕ}
-use lib.ListN.{length}
-use Rattle.records.specs.declared.Outcome.{Outcome}
-use Rattle.records.specs.declared.Outcome.the-variants.{Done, Over, Short}
+-- What follows of what `run` and `take_out` told.
+use mathlib.Core.Path.{_≡_, refl, sym, ap, _∙_}
+use mathlib.Core.Bool.{Bool, true, false}
+use mathlib.Core.List.{List, _++_, append-nil}
+use Prim.Native.Nat.{ℕ, _+_, _<_}
+use native.Mathlib.Omega.{arith}
+use borrow.Author.Tests.{le-leb, lt-ltb}
+use lib.Dec.{leb}
+use lib.ListN.{length, drop-of-length-le}
+use Rattle.parts.proofs.Laws.{put-whole}
+use Rattle.streams.specs.declared.Said.{Said}
+use Rattle.streams.specs.declared.Stream.the-variants.{Output}
+use Rattle.streams.specs.Streams.{Saying, error}
+use Rattle.pack.specs.Image.{bytesOf}
+use Rattle.steps.specs.declared.Session.{Session}
+use Rattle.runs.specs.declared.Outcome.{Outcome}
+use Rattle.runs.specs.declared.Outcome.the-variants.{Done, Over, Short}
+use Rattle.runs.specs.Record.{recsOf}
+use Rattle.runs.specs.Run.{endAfter, Result, outcomeOf, outcomeNumber, RunsTo, Runs}
+use Rattle.steps.specs.Step.{didOf}
 use Rattle.records.specs.declared.Ran.{Ran}
-use Rattle.records.specs.Run.{recsOf, emptyOf, endOf, outcomeOf, Runs, TakenOut}
-use Rattle.image.specs.Image.{lastOf, imageNumber, imageRoom, ImageTaken}
+use Rattle.records.specs.Run.{emptyOf, resultOf, TakenOut}
+use Rattle.text.proofs.Printed.{outcome-told}
+use Rattle.image.specs.Image.{refusedText, overWords, lastOf, imageSpeech, takenSpeech}
 
--- the outcome of a session, and its end where it was run
+-- ---- the outcome of a session, and its end where it was run
+
 pub record Ended (s : List ℕ) (r : Ran) : Type 0 where
-  pub outcome : outcomeOf s 8192 ≡ r .outcome
+  pub outcome : outcomeOf (length s) 8192 ≡ r .outcome
   pub session : r .outcome ≡ Done → lastOf s ≡ r .session
 
 module _ (s replies answers : List ℕ) (r : Ran) (after told : List ℕ) where
-  outcome : (o : Outcome) → Runs o s replies answers r after told → o ≡ r .outcome
+  outcome : (o : Outcome) → RunsTo didOf emptyOf o s replies answers (resultOf r) after told → o ≡ r .outcome
   outcome Done run = sym (run .outcome)
-  outcome Over idle = ap (λ (x : Ran). x .outcome) (sym (idle .ran))
-  outcome Short idle = ap (λ (x : Ran). x .outcome) (sym (idle .ran))
+  outcome Over idle = ap (λ (x : Result Session). x .outcome) (sym (idle .result))
+  outcome Short idle = ap (λ (x : Result Session). x .outcome) (sym (idle .result))
 
-  end : (o : Outcome) → o ≡ Done → Runs o s replies answers r after told → endOf emptyOf (length replies) (recsOf s) ≡ r .session
-  end Done e run = sym (run .session)
+  end : (o : Outcome) → o ≡ Done → RunsTo didOf emptyOf o s replies answers (resultOf r) after told → endAfter didOf emptyOf (length replies) (recsOf s) ≡ r .session
+  end Done e run = sym (run .state)
   end Over e idle = cc
   end Short e idle = cc
 
-  pub ended : 8192 ≡ length answers → 65536 ≡ length replies → Runs (outcomeOf s (length answers)) s replies answers r after told → Ended s r
+  pub ended : 8192 ≡ length answers → 65536 ≡ length replies → Runs didOf emptyOf s replies answers (resultOf r) after told → Ended s r
   unfolding lastOf
   ended few fits runs =
-      let o = outcome (outcomeOf s (length answers)) runs in
-      record { outcome = rw few o; session = λ e. rw fits (end (outcomeOf s (length answers)) (o ∙ e) runs) }
+      let o = outcome (outcomeOf (length s) (length answers)) runs in
+      record { outcome = rw few o; session = λ e. rw fits (end (outcomeOf (length s) (length answers)) (o ∙ e) runs) }
 
--- a session that was run
-pub done : {s room last : List ℕ} {r : Ran} {answer : ℕ} → Ended s r → r .outcome ≡ Done → TakenOut (r .session) room answer last → ImageTaken s room answer last
-done h e t = record { number = rw (h .outcome ∙ e, h .session e) (t .number); written = rw (h .outcome ∙ e, h .session e) (t .written) }
+-- what is said of a session that was run, and of one that was not
+module _ {s room after : List ℕ} {r : Ran} {x : Said} (h : Ended s r) where
+  pub done : r .outcome ≡ Done → Saying (imageSpeech Done (r .session)) room x after → Saying (takenSpeech s) room x after
+  unfolding takenSpeech
+  done e w = rw (h .outcome ∙ e, h .session e) w
 
--- one that was not: the room is left
-pub idle : {s room : List ℕ} {r : Ran} {answer : ℕ} (o : Outcome) → Ended s r → r .outcome ≡ o → answer ≡ imageNumber o (lastOf s) room → room ≡ imageRoom o (lastOf s) room
-    → ImageTaken s room answer room
-idle o h e n w = record { number = rw (h .outcome ∙ e) n; written = rw (h .outcome ∙ e) w }
+  pub idle : (o : Outcome) → r .outcome ≡ o → Saying (imageSpeech o (lastOf s)) room x after → Saying (takenSpeech s) room x after
+  unfolding takenSpeech
+  idle o e w = rw (h .outcome ∙ e) w
+
+-- a session that is over 32,768 bytes: its bytes do not matter
+pub alike : (s : List ℕ) → 32768 < length s → takenSpeech s ≡ error (refusedText (outcomeNumber Over) overWords)
+unfolding takenSpeech
+alike s h = rw (outcome-told s, lt-ltb 32768 (length s) h)
+
+-- ---- the image taken out into a room of 60 bytes
+
+module _ {σ : Session} {room after : List ℕ} {answer : ℕ} (t : TakenOut σ room answer after) (size : length room ≡ 60) where
+  long : leb 60 (length room) ≡ true
+  long = le-leb 60 (length room) (omega arith)
+
+  pub handed : answer ≡ 0 → length after ≡ length room → Saying (imageSpeech Done σ) room (record { stream = Output; count = length after }) after
+  handed zero kept = by (σ .loaded) refl
+    where
+      by : (b : Bool) → σ .loaded ≡ b → Saying (imageSpeech Done σ) room (record { stream = Output; count = length after }) after
+      by true e =
+          let whole : after ≡ bytesOf (σ .gauge) =
+          rw (e, long) at (t .written) ∙ ap (λ (rest : List ℕ). bytesOf (σ .gauge) ++ rest) (drop-of-length-le room {i = 60} (omega arith)) ∙ append-nil (bytesOf (σ .gauge)) in
+          rw e (record { stream = refl; counted = ap length whole; written = whole ∙ sym (put-whole room (bytesOf (σ .gauge)) (sym (ap length whole) ∙ kept)) })
+      by false e = let five : answer ≡ 5 = rw e at (t .number) in absurd (omega arith)
+
+  -- an answer that is not 0 is 5, and nothing was written
+  pub record Unaccepted : Type 0 where
+    pub empty : σ .loaded ≡ false
+    pub number : answer ≡ 5
+    pub left : after ≡ room
+
+  pub unaccepted : (answer ≡ 0 → ⊥) → Unaccepted
+  unaccepted other = by (σ .loaded) refl
+    where
+      by : (b : Bool) → σ .loaded ≡ b → Unaccepted
+      by true e = absurd (other (rw (e, long) at (t .number)))
+      by false e = record { empty = e; number = rw e at (t .number); left = rw e at (t .written) }

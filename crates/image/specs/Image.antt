@@ -1,28 +1,77 @@
--- What the program does with a session: the pack image taken out at its end, or an answer number.
-use mathlib.Core.Path.{_≡_}
-use mathlib.Core.List.{List}
+-- What the program says of a session: the pack image taken out at its end, or why there is none.
+use mathlib.Core.Bool.{Bool}
+use mathlib.Core.List.{List, [], _∷_, _++_}
 use Prim.Native.Nat.{ℕ}
-use Rattle.records.specs.declared.Outcome.{Outcome}
-use Rattle.records.specs.declared.Outcome.the-variants.{Done, Over, Short}
+use lib.ListN.{length}
+use Rattle.numbers.specs.Choice.{pick}
+use Rattle.digits.specs.Digits.{decimalText}
+use Rattle.streams.specs.Streams.{Speech, output, error, unreadText}
+use Rattle.events.specs.declared.Refusal.the-variants.{Order}
+use Rattle.events.specs.Record.{refusalNumber}
+use Rattle.pack.specs.Image.{bytesOf}
 use Rattle.steps.specs.declared.Session.{Session}
-use Rattle.records.specs.Run.{recsOf, emptyOf, endOf, outcomeOf, outcomeNumber, takeOutNumber, takeOutRoom}
+use Rattle.runs.specs.declared.Outcome.{Outcome}
+use Rattle.runs.specs.declared.Outcome.the-variants.{Done, Over, Short}
+use Rattle.runs.specs.Record.{recsOf}
+use Rattle.runs.specs.Run.{endAfter, outcomeOf, outcomeNumber}
+use Rattle.steps.specs.Step.{didOf}
+use Rattle.records.specs.Run.{emptyOf}
+
+-- image
+abbrev pub imageName : List ℕ
+imageName = 105 ∷ 109 ∷ 97 ∷ 103 ∷ 101 ∷ []
+
+-- ---- the refusals: a number, and what it means
+
+abbrev pub refusedText : ℕ → List ℕ → List ℕ
+refusedText number words = decimalText number ++ (58 ∷ 32 ∷ (words ++ (10 ∷ [])))
+
+-- the session is over 32,768 bytes
+abbrev pub overWords : List ℕ
+overWords =
+    116 ∷ 104 ∷ 101 ∷ 32
+    ∷ 115 ∷ 101 ∷ 115 ∷ 115 ∷ 105 ∷ 111 ∷ 110 ∷ 32
+    ∷ 105 ∷ 115 ∷ 32
+    ∷ 111 ∷ 118 ∷ 101 ∷ 114 ∷ 32
+    ∷ 51 ∷ 50 ∷ 44 ∷ 55 ∷ 54 ∷ 56 ∷ 32
+    ∷ 98 ∷ 121 ∷ 116 ∷ 101 ∷ 115 ∷ []
+
+-- no image was accepted
+abbrev pub orderWords : List ℕ
+orderWords =
+    110 ∷ 111 ∷ 32
+    ∷ 105 ∷ 109 ∷ 97 ∷ 103 ∷ 101 ∷ 32
+    ∷ 119 ∷ 97 ∷ 115 ∷ 32
+    ∷ 97 ∷ 99 ∷ 99 ∷ 101 ∷ 112 ∷ 116 ∷ 101 ∷ 100 ∷ []
+
+-- the room for the answers is too small
+abbrev pub shortWords : List ℕ
+shortWords =
+    116 ∷ 104 ∷ 101 ∷ 32
+    ∷ 114 ∷ 111 ∷ 111 ∷ 109 ∷ 32
+    ∷ 102 ∷ 111 ∷ 114 ∷ 32
+    ∷ 116 ∷ 104 ∷ 101 ∷ 32
+    ∷ 97 ∷ 110 ∷ 115 ∷ 119 ∷ 101 ∷ 114 ∷ 115 ∷ 32
+    ∷ 105 ∷ 115 ∷ 32
+    ∷ 116 ∷ 111 ∷ 111 ∷ 32
+    ∷ 115 ∷ 109 ∷ 97 ∷ 108 ∷ 108 ∷ []
+
+-- ---- what is said
 
 -- the state at the end of a session, with 65,536 bytes of reply room
 unfoldable pub lastOf : List ℕ → Session
-lastOf s = endOf emptyOf 65536 (recsOf s)
+lastOf s = endAfter didOf emptyOf 65536 (recsOf s)
 
--- where nothing was run, the answer number of the session
-abbrev pub imageNumber : Outcome → Session → List ℕ → ℕ
-imageNumber Done σ room = takeOutNumber σ room
-imageNumber Over σ room = outcomeNumber Over
-imageNumber Short σ room = outcomeNumber Short
-
-abbrev pub imageRoom : Outcome → Session → List ℕ → List ℕ
-imageRoom Done σ room = takeOutRoom σ room
-imageRoom Over σ room = room
-imageRoom Short σ room = room
+-- the image goes to standard output, a refusal to standard error: that of a session that was not run, or 5 where no image was accepted
+abbrev pub imageSpeech : Outcome → Session → Speech
+imageSpeech Done σ = pick (σ .loaded) (output (bytesOf (σ .gauge))) (error (refusedText (refusalNumber Order) orderWords))
+imageSpeech Over σ = error (refusedText (outcomeNumber Over) overWords)
+imageSpeech Short σ = error (refusedText (outcomeNumber Short) shortWords)
 
 -- with an answer lent for each record that 32,768 bytes can hold
-pub record ImageTaken (s room : List ℕ) (answer : ℕ) (after : List ℕ) : Type 0 where
-  pub number : answer ≡ imageNumber (outcomeOf s 8192) (lastOf s) room
-  pub written : after ≡ imageRoom (outcomeOf s 8192) (lastOf s) room
+unfoldable pub takenSpeech : List ℕ → Speech
+takenSpeech s = imageSpeech (outcomeOf (length s) 8192) (lastOf s)
+
+-- what is said of standard input s, or where a read of it failed
+abbrev pub extractedOf : Bool → List ℕ → Speech
+extractedOf failed s = pick failed (error (unreadText imageName)) (takenSpeech s)

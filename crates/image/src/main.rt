@@ -1,13 +1,53 @@
 // image: runs the session on standard input and writes the pack image taken out at its end
-use libc::STDERR_FILENO;
-use libc::STDIN_FILENO;
-use libc::STDOUT_FILENO;
-use records::Outcome;
-ghost use Rattle.image.specs.Image.{ImageTaken};
+use runs::Outcome;
+use steps::Session;
+use streams::Input;
+use streams::Said;
+use streams::Stream;
+ghost use mathlib.Core.Path.{_≡_};
+ghost use mathlib.Core.List.{List};
+ghost use Prim.Native.Nat.{ℕ, _+_, _≤_};
+ghost use lib.ListN.{length};
+ghost use Rattle.runs.specs.declared.Outcome.the-variants.{Done};
+ghost use Rattle.streams.specs.Streams.{Front, Saying, error};
+ghost use Rattle.image.specs.Image.{refusedText, imageSpeech, takenSpeech, extractedOf};
 
-// The image at a session's end, in the first 60 bytes of the room, and its answer number: that of the session where nothing was run.
-fn taken(s: &[u8], room: &mut [u8]) -> u8
-    ensures { λ r. ⌜ ImageTaken (now (s .entry)) (now (room .entry)) r (now (room .exit)) ⌝ }
+// A refusal: its number and its meaning.
+fn put_refused(number: u8, words: &[u8], room: &mut [u8]) -> Said
+    requires { ⌜ length (now words) + 8 ≤ length (now room) ⌝ }
+    ensures { λ r. ⌜ Saying (error (refusedText number (now (words .entry)))) (now (room .entry)) r (now (room .exit)) ⌝ }
+{
+    let a = digits::put_decimal(number as usize, room, 0);
+    let b = digits::put_bytes(b": ", room, a);
+    let c = digits::put_bytes(words, room, b);
+    let count = digits::put_byte(b'\n', room, c);
+    let stream = Stream::Error;
+    Said {
+        stream: stream,
+        count: count,
+    }
+}
+
+// The image of a session that was run to its end.
+fn put_image(session: Session, room: &mut [u8]) -> Said
+    requires { ⌜ length (now room) ≡ 60 ⌝ }
+    ensures { λ r. ⌜ Saying (imageSpeech Done session) (now (room .entry)) r (now (room .exit)) ⌝ }
+{
+    let answer = records::take_out(session, room);
+    if answer == 0 {
+        let count = room.len();
+        let stream = Stream::Output;
+        return Said {
+            stream: stream,
+            count: count,
+        };
+    }
+    put_refused(answer, b"no image was accepted", room)
+}
+
+fn put_taken(s: &[u8], room: &mut [u8]) -> Said
+    requires { ⌜ length (now room) ≡ 60 ⌝ }
+    ensures { λ r. ⌜ Saying (takenSpeech (now (s .entry))) (now (room .entry)) r (now (room .exit)) ⌝ }
 {
     let mut replies = [0u8; 65536];
     let mut answers = [0u64; 8192];
@@ -15,22 +55,29 @@ fn taken(s: &[u8], room: &mut [u8]) -> u8
     let outcome = ran.outcome;
     let session = ran.session;
     match outcome {
-        Outcome::Done => records::take_out(session, room),
-        Outcome::Over => 1,
-        Outcome::Short => 9,
+        Outcome::Done => put_image(session, room),
+        Outcome::Over => put_refused(1, b"the session is over 32,768 bytes", room),
+        Outcome::Short => put_refused(9, b"the room for the answers is too small", room),
     }
 }
 
-fn main() {
-    // a byte more than a session may have is enough to know
-    let mut input = [0u8; 32769];
-    let n = io::read_full(STDIN_FILENO, &mut input);
-    let mut image = [0u8; 60];
-    let answer = taken(&input[..n], &mut image);
-    if answer == 0 {
-        io::write_all(STDOUT_FILENO, &image);
-        return;
+// What the program says. A byte more than a session may have is enough to know of any input. (That the room keeps its length is said for `main`.)
+fn extracted(input: &[u8; 32769], got: Input, room: &mut [u8; 60]) -> Said
+    ensures { λ r. ⌜ ((s : List ℕ) → Front s (now (input .entry)) (got .count) → Saying (extractedOf (got .failed) s) (now (room .entry)) r (now (room .exit))) ⌝ }
+    ensures { λ _. ⌜ 60 ≡ length (now (room .exit)) ⌝ }
+{
+    if got.failed {
+        return streams::put_unread(b"image", room);
     }
-    io::print_decimal(STDERR_FILENO, answer as u64);
-    io::write_all(STDERR_FILENO, b"\n");
+    let n = streams::within(got.count, input);
+    let all: &[u8] = input;
+    put_taken(&all[..n], room)
+}
+
+fn main() {
+    let mut input = [0u8; 32769];
+    let got = streams::read_input(&mut input);
+    let mut room = [0u8; 60];
+    let said = extracted(&input, got, &mut room);
+    streams::say(b"image", said, &room);
 }

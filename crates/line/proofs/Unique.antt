@@ -1,7 +1,15 @@
--- The contract of this crate's public function leaves no choice. Assumes nothing.
+-- The contracts of this crate's public functions leave no choice.
 use mathlib.Core.Path.{sym, _∙_}
 use Rattle.once.specs.Once.{Once}
-use Rattle.line.proofs.put_line
+use Rattle.line.proofs.put_start
+use Rattle.line.proofs.put_bare_end
+use Rattle.line.proofs.put_end
 
-pub put-line-once : Once put_line.ended put_line.Reads.Pre put_line.Reads.Learnt
-put-line-once κs a r r′ w w′ p h h′ = (h .onward ∙ sym (h′ .onward), λ i. (tt, (tt, (tt, (tt, ((h .written ∙ sym (h′ .written)) i, (tt, tt)))))))
+pub put-start-once : Once put_start.ended put_start.Reads.Pre put_start.Reads.Learnt
+put-start-once κs a r r′ w w′ p h h′ = (h .onward ∙ sym (h′ .onward), λ i. (tt, (tt, (tt, (tt, (tt, ((h .written ∙ sym (h′ .written)) i, (tt, tt))))))))
+
+pub put-bare-end-once : Once put_bare_end.ended put_bare_end.Reads.Pre put_bare_end.Reads.Learnt
+put-bare-end-once κs a r r′ w w′ p h h′ = (h .onward ∙ sym (h′ .onward), λ i. ((h .written ∙ sym (h′ .written)) i, (tt, tt)))
+
+pub put-end-once : Once put_end.ended put_end.Reads.Pre put_end.Reads.Learnt
+put-end-once κs a r r′ w w′ p h h′ = (h .onward ∙ sym (h′ .onward), λ i. (tt, ((h .written ∙ sym (h′ .written)) i, (tt, tt))))

@@ -1,4 +1,4 @@
--- What the registers mean. Assumes nothing.
+-- What the registers mean.
 use mathlib.Core.Path.{_≡_, refl, sym, ap, _∙_}
 use Prim.Native.Nat.{ℕ, suc, _+_, _-_, _*_, _^_, _<_}
 use native.Mathlib.Nat.{mul-add, div-add-mod'}
@@ -9,8 +9,8 @@ use Rattle.numbers.specs.Offset.{value, signed, joinedOf}
 use Rattle.numbers.proofs.Offset.{order, sub-eq, sub-pos, sub-neg, neg-sub, word, word-fits}
 use Rattle.meter.specs.declared.Meter.{Meter}
 use Rattle.meter.specs.State.{MeterWF}
-use Rattle.blocks.specs.declared.Common.{Common}
-use Rattle.map.specs.Registers.{highOf, lowOf, wordOf, tempRegister, registersOf}
+use Rattle.label.specs.declared.Common.{Common}
+use Rattle.map.specs.Registers.{upperOf, lowerOf, wordOf, tempRegister, registersOf}
 
 -- two's complement: the register of a number kept as z + 2^15 is z
 pub signed-word : (x : ℕ) → x < 2 ^ 16 → signed 15 (wordOf x) ≡ value 15 x
@@ -33,11 +33,11 @@ sub-times n a b =
     ap (λ (z : ℤ). pos n *ℤ z) (sub-pos a b h) ∙ ap pos rest ∙ sym (sub-pos (n * a) (n * b) (omega arith)))
 
 -- TEMP is the count × 32
-pub signed-temp : (m : Meter) → m .reading .temp < 2 ^ 11 → signed 15 (tempRegister m) ≡ pos 32 *ℤ value 10 (m .reading .temp)
+pub signed-temp : (m : Meter) → m .shown .reading .temp < 2 ^ 11 → signed 15 (tempRegister m) ≡ pos 32 *ℤ value 10 (m .shown .reading .temp)
 signed-temp m h =
-    signed-word (m .reading .temp * 32) (omega arith) ∙
-    sub-eq (m .reading .temp * 32) (2 ^ 15) (32 * m .reading .temp) (32 * 2 ^ 10) (omega arith) ∙
-    sym (sub-times 32 (m .reading .temp) (2 ^ 10))
+    signed-word (m .shown .reading .temp * 32) (omega arith) ∙
+    sub-eq (m .shown .reading .temp * 32) (2 ^ 15) (32 * m .shown .reading .temp) (32 * 2 ^ 10) (omega arith) ∙
+    sym (sub-times 32 (m .shown .reading .temp) (2 ^ 10))
 
 -- ---- in the bytes that a read finds
 
@@ -45,7 +45,7 @@ signed-temp m h =
 abbrev pub registerAt : Common → Meter → ℕ → ℕ
 registerAt k m at = joinedOf (getD (registersOf k m) at 0) (getD (registersOf k m) (at + 1) 0)
 
-joined-back : (x : ℕ) → joinedOf (highOf x) (lowOf x) ≡ x
+joined-back : (x : ℕ) → joinedOf (upperOf x) (lowerOf x) ≡ x
 joined-back x = div-add-mod' x 256
 
 module _ (k : Common) (m : Meter) where
@@ -53,14 +53,14 @@ module _ (k : Common) (m : Meter) where
   unfolding registersOf
   registers-length = refl
 
-  pub average-shown : m .average .iavg < 2 ^ 16 → signed 15 (registerAt k m 0x08) ≡ value 15 (m .average .iavg)
+  pub average-shown : m .flow .average .iavg < 2 ^ 16 → signed 15 (registerAt k m 0x08) ≡ value 15 (m .flow .average .iavg)
   unfolding registersOf
-  average-shown h = ap (signed 15) (joined-back (wordOf (m .average .iavg))) ∙ signed-word (m .average .iavg) h
+  average-shown h = ap (signed 15) (joined-back (wordOf (m .flow .average .iavg))) ∙ signed-word (m .flow .average .iavg) h
 
-  pub temp-shown : MeterWF m → signed 15 (registerAt k m 0x0a) ≡ pos 32 *ℤ value 10 (m .reading .temp)
+  pub temp-shown : MeterWF m → signed 15 (registerAt k m 0x0a) ≡ pos 32 *ℤ value 10 (m .shown .reading .temp)
   unfolding registersOf
   temp-shown w = ap (signed 15) (joined-back (tempRegister m)) ∙ signed-temp m (w .temp)
 
-  pub current-shown : m .trace .last < 2 ^ 16 → signed 15 (registerAt k m 0x0e) ≡ value 15 (m .trace .last)
+  pub current-shown : m .flow .trace .last < 2 ^ 16 → signed 15 (registerAt k m 0x0e) ≡ value 15 (m .flow .trace .last)
   unfolding registersOf
-  current-shown h = ap (signed 15) (joined-back (wordOf (m .trace .last))) ∙ signed-word (m .trace .last) h
+  current-shown h = ap (signed 15) (joined-back (wordOf (m .flow .trace .last))) ∙ signed-word (m .flow .trace .last) h

@@ -10,73 +10,77 @@ use Rattle.reading.specs.declared.Flags.{Flags}
 use Rattle.meter.specs.declared.Locks.{Locks}
 use Rattle.meter.specs.declared.Meter.{Meter}
 use Rattle.charge.specs.Charge.{acrOf, fractionOf}
-use Rattle.blocks.specs.declared.Common.{Common}
-use Rattle.blocks.specs.Blocks.{inBlock}
+use Rattle.label.specs.declared.Common.{Common}
+use Rattle.label.specs.Label.{inBlock}
 
-abbrev pub highOf : ℕ → ℕ
-highOf x = x / 256
+-- the two bytes of a register
+abbrev pub upperOf : ℕ → ℕ
+upperOf x = x / 256
 
-abbrev pub lowOf : ℕ → ℕ
-lowOf x = x % 256
+abbrev pub lowerOf : ℕ → ℕ
+lowerOf x = x % 256
 
 -- a signed register in two's complement, of a number that is kept as z + 2^15
 abbrev pub wordOf : ℕ → ℕ
 wordOf x = (x + zeroAt 15) % 2 ^ 16
 
 -- a flag in its place
-abbrev pub bitOf : Bool → ℕ → ℕ
-bitOf on weight = pick on weight 0
+abbrev pub flagOf : Bool → ℕ → ℕ
+flagOf on weight = pick on weight 0
 
 -- 01h: CHGTF, AEF, SEF, LEARNF in bits 7 to 4 and PORF in bit 1; UVF and the reserved bits read 0
 unfoldable pub statusOf : Flags → Bool → ℕ
 statusOf f learnf =
-    bitOf (f .chgtf) 128 + bitOf (f .aef) 64 + bitOf (f .sef) 32 + bitOf learnf 16 + bitOf (f .porf) 2
+    flagOf (f .chgtf) 128 + flagOf (f .aef) 64 + flagOf (f .sef) 32 + flagOf learnf 16 + flagOf (f .porf) 2
 
 -- 1Fh: LOCK in bit 6, BL1 and BL0 in bits 1 and 0; EEC and the reserved bits read 0
 unfoldable pub eepromOf : Common → Locks → ℕ
-eepromOf k l = bitOf (l .lock) 64 + bitOf (l .bl1) 2 + bitOf (k .bl0) 1
+eepromOf k l = flagOf (l .lock) 64 + flagOf (l .bl1) 2 + flagOf (k .bl0) 1
 
 -- VOLT is the count × 32; TEMP too, and a temperature kept as z + 2^10 times 32 is one kept as z + 2^15
 abbrev pub voltRegister : Meter → ℕ
-voltRegister m = m .reading .volt * 32
+voltRegister m = m .shown .reading .volt * 32
+
+abbrev pub tempWordOf : ℕ → ℕ
+tempWordOf temp = wordOf (temp * 32)
 
 abbrev pub tempRegister : Meter → ℕ
-tempRegister m = wordOf (m .reading .temp * 32)
+tempRegister m = tempWordOf (m .shown .reading .temp)
 
 -- ACRL is the 12-bit fraction × 16
 abbrev pub acrlRegister : Meter → ℕ
 acrlRegister m = fractionOf (m .charge .count) * 16
 
 -- the bytes from 00h on with a two-byte register put in at an address
-abbrev pub putAt : ℕ → ℕ → List ℕ → List ℕ
-putAt at x bytes = set (set bytes at (highOf x)) (at + 1) (lowOf x)
+abbrev pub putOf : List ℕ → ℕ → ℕ → List ℕ
+putOf bytes at x = set (set bytes at (upperOf x)) (at + 1) (lowerOf x)
 
 -- 00h to 1Fh, a line a register
 unfoldable pub registersOf : Common → Meter → List ℕ
 registersOf k m =
     0xff
-    ∷ statusOf (m .flags) (m .charge .learnf)
-    ∷ highOf (m .results .raac) ∷ lowOf (m .results .raac)
-    ∷ highOf (m .results .rsac) ∷ lowOf (m .results .rsac)
-    ∷ m .results .rarc
-    ∷ m .results .rsrc
-    ∷ highOf (wordOf (m .average .iavg)) ∷ lowOf (wordOf (m .average .iavg))
-    ∷ highOf (tempRegister m) ∷ lowOf (tempRegister m)
-    ∷ highOf (voltRegister m) ∷ lowOf (voltRegister m)
-    ∷ highOf (wordOf (m .trace .last)) ∷ lowOf (wordOf (m .trace .last))
-    ∷ highOf (acrOf (m .charge .count)) ∷ lowOf (acrOf (m .charge .count))
-    ∷ highOf (acrlRegister m) ∷ lowOf (acrlRegister m)
+    ∷ statusOf (m .shown .flags) (m .charge .learnf)
+    ∷ upperOf (m .shown .results .raac) ∷ lowerOf (m .shown .results .raac)
+    ∷ upperOf (m .shown .results .rsac) ∷ lowerOf (m .shown .results .rsac)
+    ∷ m .shown .results .rarc
+    ∷ m .shown .results .rsrc
+    ∷ upperOf (wordOf (m .flow .average .iavg)) ∷ lowerOf (wordOf (m .flow .average .iavg))
+    ∷ upperOf (tempRegister m) ∷ lowerOf (tempRegister m)
+    ∷ upperOf (voltRegister m) ∷ lowerOf (voltRegister m)
+    ∷ upperOf (wordOf (m .flow .trace .last)) ∷ lowerOf (wordOf (m .flow .trace .last))
+    ∷ upperOf (acrOf (m .charge .count)) ∷ lowerOf (acrOf (m .charge .count))
+    ∷ upperOf (acrlRegister m) ∷ lowerOf (acrlRegister m)
     ∷ m .charge .aging
     ∷ 0x00
-    ∷ highOf (m .model .full) ∷ lowOf (m .model .full)
-    ∷ highOf (m .model .ae) ∷ lowOf (m .model .ae)
-    ∷ highOf (m .model .se) ∷ lowOf (m .model .se)
+    ∷ upperOf (m .shown .model .full) ∷ lowerOf (m .shown .model .full)
+    ∷ upperOf (m .shown .model .ae) ∷ lowerOf (m .shown .model .ae)
+    ∷ upperOf (m .shown .model .se) ∷ lowerOf (m .shown .model .se)
     ∷ 0xff ∷ 0xff ∷ 0xff
-    ∷ eepromOf k (m .locks)
+    ∷ eepromOf k (m .cells .locks)
     ∷ []
 
 -- the byte at any other address: a register, a parameter, or FFh where there is nothing, past FFh too
 unfoldable pub meterByte : Common → Meter → ℕ → ℕ
 meterByte k m a =
     pick (ltb a 0x20) (getD (registersOf k m) a 0)
-    (pick (inBlock a) (getD (m .block .shadow) (a - 0x60) 0) 0xff)
+    (pick (inBlock a) (getD (m .cells .block .shadow) (a - 0x60) 0) 0xff)

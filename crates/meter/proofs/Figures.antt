@@ -1,20 +1,18 @@
 -- The cases of "Figures to hold" that document 01 marks with *, in its order: one table, one statement, closed by computation. A row is a
--- sentence: what the definitions give and, after `is`, what document 01 says. Assumes nothing.
+-- sentence: what the definitions give and, after `is`, what document 01 says.
 use mathlib.Core.Path.{_≡_, refl}
 use mathlib.Core.Bool.{true, false}
 use mathlib.Core.List.{List, [], _∷_, map}
 use Prim.Native.Nat.{ℕ, _+_, _-_, _*_}
 use lib.ListN.{set}
 use Rattle.numbers.specs.Offset.{zeroAt}
-use Rattle.params.specs.Params.{countingOf, limitsOf, capacityOf, curvesOf}
-use Rattle.charge.specs.declared.Charge.{Charge}
-use Rattle.charge.specs.Charge.{acrOf, fractionOf, tracedOf, countedOf, agedFullOf, shareOf}
+use Rattle.charge.specs.Charge.{acrOf, fractionOf, countedOf, agedFullOf, shareOf}
 use Rattle.full.specs.Full.{averagedOf, renewedOf, foundOf, learntOf, filledOf, settledOf, loweredOf}
-use Rattle.model.specs.Model.{slopeOf, slopesOver, linesOf}
-use Rattle.reading.specs.Reading.{degreesOf, drainingOf, pointOf, emptiedOf, leftOf, spanOf, percentOf, amountOf, resultsOf, ratedOf, flagsOf, keptOf, seenOf}
+use Rattle.model.specs.Model.{slopesOver, linesOf}
+use Rattle.reading.specs.Reading.{degreesOf, drainingOf, pointOf, emptiedOf, leftOf, usableOf, percentOf, amountOf, resultsOf, ratedOf, flaggedOf, keptOf, seenOf}
 use Rattle.meter.specs.declared.Meter.{Meter}
-use Rattle.meter.specs.State.{poweredOf}
-use Rattle.meter.specs.Convert.{convertOf}
+use Rattle.meter.specs.State.{withCharge, poweredOf}
+use Rattle.meter.specs.Convert.{flowedOf, convertOf}
 use Rattle.meter.specs.Read.{drainedOf, shownOf, readOf}
 
 -- ---- model M
@@ -58,23 +56,11 @@ minus n = zeroAt 31 - n
 -- after a power-on with this block, ACR and AS
 abbrev powered : List ℕ → ℕ → ℕ → Meter
 powered block acr aging =
-    poweredOf (record { shadow = block; eeprom = block }) (record { lock = false; bl1 = false }) (record { acr = acr; aging = aging })
-
--- the same meter, but for the charge
-abbrev charged : Meter → Charge → Meter
-charged m g = record {
-  block = m .block;
-  locks = m .locks;
-  charge = g;
-  trace = m .trace;
-  average = m .average;
-  since = m .since;
-  model = m .model;
-  results = m .results;
-  reading = m .reading;
-  flags = m .flags;
-  saved = m .saved;
-}
+    poweredOf (record {
+      block = record { shadow = block; eeprom = block };
+      locks = record { lock = false; bl1 = false };
+      saved = record { acr = acr; aging = aging };
+    })
 
 -- a reading at a temperature, with a voltage of 4 × VCHG + 1
 abbrev readAt : ℕ → Meter → Meter
@@ -100,10 +86,10 @@ abbrev fraction : Meter → ℕ
 fraction m = fractionOf (m .charge .count)
 
 abbrev agedFull : Meter → ℕ
-agedFull m = agedFullOf (m .model .full) (m .charge .aging)
+agedFull m = agedFullOf (m .shown .model .full) (m .charge .aging)
 
 abbrev degrees : Meter → ℕ
-degrees m = degreesOf (m .reading .temp)
+degrees m = degreesOf (m .shown .reading .temp)
 
 -- ---- the table
 
@@ -136,7 +122,7 @@ cold = filled (plus (8 * 0)) (powered M 5000 122)
 
 -- FULL 16384, Full40 10,000, ACR 9,000 and LEARNF, full found
 abbrev taught : Meter
-taught = filled (plus (8 * 40)) (charged (powered M 9000 128) (record { count = 9000 * 4096; age = 0; aging = 128; learnf = true }))
+taught = filled (plus (8 * 40)) (withCharge (powered M 9000 128) (record { count = 9000 * 4096; age = 0; aging = 128; learnf = true }))
 
 -- ACR 100, fraction 0: the count after a conversion
 abbrev counted : List ℕ → ℕ → ℕ
@@ -147,7 +133,7 @@ fallen = convertOf (powered M 100 128) (minus 1)
 
 -- with AC 1 and counter 31
 abbrev aged : Meter
-aged = convertOf (charged (powered aging 100 128) (record { count = 100 * 4096; age = 31; aging = 128; learnf = false })) (minus 1)
+aged = convertOf (withCharge (powered aging 100 128) (record { count = 100 * 4096; age = 31; aging = 128; learnf = false })) (minus 1)
 
 -- AS 63, N > 0
 abbrev worn : Meter
@@ -156,16 +142,16 @@ worn = readAt (plus (8 * 0)) (powered steep 9000 63)
 abbrev pub figures : List Figure
 figures =
     -- F3 to F7. M at 40, 18, 0, -12, -20 °C: FULL, AE, SE
-    (map (λ t. readM t .model .full) temperatures is 16384 ∷ 16164 ∷ 15804 ∷ 15444 ∷ 15124 ∷ []) ∷
-    (map (λ t. readM t .model .ae) temperatures is 64 ∷ 174 ∷ 354 ∷ 594 ∷ 834 ∷ []) ∷
-    (map (λ t. readM t .model .se) temperatures is 0 ∷ 22 ∷ 58 ∷ 94 ∷ 126 ∷ []) ∷
+    (map (λ t. readM t .shown .model .full) temperatures is 16384 ∷ 16164 ∷ 15804 ∷ 15444 ∷ 15124 ∷ []) ∷
+    (map (λ t. readM t .shown .model .ae) temperatures is 64 ∷ 174 ∷ 354 ∷ 594 ∷ 834 ∷ []) ∷
+    (map (λ t. readM t .shown .model .se) temperatures is 0 ∷ 22 ∷ 58 ∷ 94 ∷ 126 ∷ []) ∷
     -- F8 to F10. Temperature count -1 is -1 °C: FULL 15774. Count 319 is 39 °C, 320 is 40
-    (degrees (readM (minus 1)) ∷ readM (minus 1) .model .full ∷ [] is (zeroAt 7 - 1) ∷ 15774 ∷ []) ∷
+    (degrees (readM (minus 1)) ∷ readM (minus 1) .shown .model .full ∷ [] is (zeroAt 7 - 1) ∷ 15774 ∷ []) ∷
     (degrees (readM (plus 319)) ∷ degrees (readM (plus 320)) ∷ [] is (zeroAt 7 + 39) ∷ (zeroAt 7 + 40) ∷ []) ∷
     -- F11. M, 40 °C, ACR 5,000: RARC 49, RSRC 50, RAAC 968, RSAC 976
-    (warm .results .rarc ∷ warm .results .rsrc ∷ warm .results .raac ∷ warm .results .rsac ∷ [] is 49 ∷ 50 ∷ 968 ∷ 976 ∷ []) ∷
+    (warm .shown .results .rarc ∷ warm .shown .results .rsrc ∷ warm .shown .results .raac ∷ warm .shown .results .rsac ∷ [] is 49 ∷ 50 ∷ 968 ∷ 976 ∷ []) ∷
     -- F12. M, 0 °C, AS 122, LEARNF 0, full found: AF 15063, ACR 9193, then RARC 99
-    (agedFull cold ∷ acr cold ∷ readAt (plus (8 * 0)) cold .results .rarc ∷ [] is 15063 ∷ 9193 ∷ 99 ∷ []) ∷
+    (agedFull cold ∷ acr cold ∷ readAt (plus (8 * 0)) cold .shown .results .rarc ∷ [] is 15063 ∷ 9193 ∷ 99 ∷ []) ∷
     -- F13. Learn: FULL 16384, Full40 10,000, ACR 9,000 gives AS 115, ACR 8984
     (taught .charge .aging ∷ acr taught ∷ [] is 115 ∷ 8984 ∷ []) ∷
     -- F14 to F17. Blanking: 63 to 0, 64 to 64; with NBEN -15 to 0, -16 to -16
@@ -176,11 +162,11 @@ figures =
     -- F19. With AC 1 and counter 31, AS 128 becomes 127
     (aged .charge .aging ∷ [] is 127 ∷ []) ∷
     -- F20. One c of -1 and seven of 0: IAVG -1
-    (converted (minus 1 ∷ seven (plus 0)) (powered M 100 128) .average .iavg ∷ [] is (zeroAt 15 - 1) ∷ []) ∷
+    (converted (minus 1 ∷ seven (plus 0)) (powered M 100 128) .flow .average .iavg ∷ [] is (zeroAt 15 - 1) ∷ []) ∷
     -- F21. AF 4032, AE 5000: RARC 0
-    (agedFull worn ∷ worn .model .ae ∷ worn .results .rarc ∷ [] is 4032 ∷ 5000 ∷ 0 ∷ []) ∷
+    (agedFull worn ∷ worn .shown .model .ae ∷ worn .shown .results .rarc ∷ [] is 4032 ∷ 5000 ∷ 0 ∷ []) ∷
     []
 
 pub figures-hold : Hold figures
-unfolding poweredOf countingOf limitsOf capacityOf curvesOf tracedOf countedOf averagedOf renewedOf foundOf learntOf agedFullOf shareOf filledOf settledOf convertOf slopeOf slopesOver linesOf drainingOf pointOf emptiedOf leftOf spanOf percentOf amountOf resultsOf ratedOf flagsOf keptOf loweredOf seenOf drainedOf shownOf readOf
+unfolding poweredOf countedOf averagedOf renewedOf foundOf learntOf agedFullOf shareOf filledOf settledOf flowedOf convertOf slopesOver linesOf drainingOf pointOf emptiedOf leftOf usableOf percentOf amountOf resultsOf ratedOf flaggedOf keptOf loweredOf seenOf drainedOf shownOf readOf
 figures-hold = (refl, (refl, (refl, (refl, (refl, (refl, (refl, (refl, (refl, (refl, (refl, (refl, (refl, (refl, tt))))))))))))))

@@ -1,5 +1,4 @@
 -- What the definitions of the steps mean in signed numbers: each is the definition of Signed, which says it as document 01 does.
--- Assumes nothing.
 use mathlib.Core.Path.{_≡_, refl, sym, ap, _∙_}
 use mathlib.Core.Bool.{Bool, not}
 use mathlib.Core.List.{List, [], _∷_}
@@ -11,7 +10,7 @@ use lib.ListN.{length}
 use lib.IntN.{ℤ, pos, negsuc, negℤ, subℕ, _+ℤ_, _-ℤ_, _*ℤ_}
 use lib.Signed.{ltZ, leZ}
 use borrow.Author.Tests.{lt-ltb, le-ltb, eq-eqb, ne-eqb}
-use Rattle.numbers.specs.Choice.{pick, both}
+use Rattle.numbers.specs.Choice.{pick, both, either}
 use Rattle.numbers.specs.Offset.{zeroAt, value, signed, clampZ, divZ}
 use Rattle.numbers.proofs.Bounds.{through}
 use Rattle.numbers.proofs.Offset as offset
@@ -23,10 +22,10 @@ use Rattle.params.specs.Params.{byteAt, signedAt}
 use Rattle.charge.specs.declared.Charge.{Charge}
 use Rattle.charge.specs.Charge.{acrOf, currentOf, negative, turnedOf, blankedOf, grownOf, newCount, fallOf}
 use Rattle.full.specs.declared.Average.{Average}
-use Rattle.full.specs.Full.{averagedOf, taperOf}
+use Rattle.full.specs.Full.{averagedOf, tapersOf}
 use Rattle.model.specs.Model.{slopeOf, forty, slopesOver, slopesTo, fullLineOf}
-use Rattle.reading.specs.Reading.{voltOf, tempOf, degreesOf, drainsOf, leftOf, spanOf, percentOf, amountOf}
-use Rattle.meter.specs.Signed.{minus, orZero, atMostZ, atLeastZ, currentZ, negativeZ, turnedZ, blankedZ, grownZ, fallZ, sumZ, meanZ, taperZ, voltZ, tempZ, degreesZ, slopeZ, slopesOverZ, slopesZ, fullLineZ, averagedOver, drainsZ, leftZ, spanZ, percentZ, amountZ}
+use Rattle.reading.specs.Reading.{voltOf, tempOf, degreesOf, drainsOf, leftOf, usableOf, percentOf, amountOf}
+use Rattle.meter.specs.Signed.{minus, orZero, atMostZ, atLeastZ, currentZ, negativeZ, turnedZ, blankedZ, grownZ, fallZ, sumZ, meanZ, tapersZ, voltZ, tempZ, degreesZ, slopeZ, slopesOverZ, slopesZ, fullLineZ, averagedOver, drainsZ, leftZ, usableZ, percentZ, amountZ}
 
 -- ---- differences
 
@@ -70,16 +69,14 @@ negative-means c = offset.below-zero 15 c
 pub turned-means : (last c : ℕ) → turnedOf last c ≡ turnedZ (value 15 last) (value 15 c)
 turned-means last c = λ i. both (negative-means c i) (not (negative-means last i))
 
--- a number that each of two tests makes 0
-zeroed : {t u v w : Bool} (c : ℕ) → t ≡ v → u ≡ w → value 15 (pick t (zeroAt 15) (pick u (zeroAt 15) c)) ≡ pick v (pos 0) (pick w (pos 0) (value 15 c))
-zeroed {t} {u} c p q =
-    through (value 15) t (zeroAt 15) (pick u (zeroAt 15) c) ∙ ap (pick t (pos 0)) (through (value 15) u (zeroAt 15) c) ∙
-    (λ i. pick (p i) (pos 0) (pick (q i) (pos 0) (value 15 c)))
-
 pub blanked-means : (nben : Bool) (c : ℕ) → value 15 (blankedOf nben c) ≡ blankedZ nben (value 15 c)
 blanked-means nben c =
-    zeroed c (λ i. both (compared 15 (zeroAt 15) c i) (compared 15 c (zeroAt 15 + 64) i))
-    (λ i. both nben (both (compared 15 (zeroAt 15 - 16) c i) (compared 15 c (zeroAt 15) i)))
+    let small = both (ltb (zeroAt 15) c) (ltb c (zeroAt 15 + 64)) in
+    let slight = both nben (both (ltb (zeroAt 15 - 16) c) (ltb c (zeroAt 15))) in
+    through (value 15) (either small slight) (zeroAt 15) c ∙
+    (λ i. pick
+    (either (both (compared 15 (zeroAt 15) c i) (compared 15 c (zeroAt 15 + 64) i))
+    (both nben (both (compared 15 (zeroAt 15 - 16) c i) (compared 15 c (zeroAt 15) i)))) (pos 0) (value 15 c))
 
 pub grown-means : (count counted ab : ℕ) → pos (grownOf count counted ab) ≡ grownZ (pos count) (value 15 counted) (value 7 ab)
 grown-means count counted ab = offset.grown 15 7 count counted ab (2 ^ 28 - 1)
@@ -124,8 +121,8 @@ mean-means a (c ∷ cs) r s h =
     ap (λ (z : ℤ). divZ z 8)
     (sub-eq (total (c ∷ cs)) (2 ^ 15 * 8) (total (c ∷ cs)) (length (c ∷ cs) * zeroAt 15) (omega arith) ∙ sym (sum-is (c ∷ cs)))
 
-pub taper-means : (imin x : ℕ) → taperOf imin x ≡ taperZ imin (value 15 x)
-taper-means imin x =
+pub tapers-means : (imin x : ℕ) → tapersOf imin x ≡ tapersZ imin (value 15 x)
+tapers-means imin x =
     let y = zeroAt 15 + 32 * imin - 1 in
     let next : zeroAt 15 + 32 * imin ≡ suc y = omega arith in
     let below : ltb x (zeroAt 15 + 32 * imin) ≡ leZ (value 15 x) (pos (32 * imin) -ℤ pos 1) =
@@ -146,7 +143,6 @@ pub degrees-means : (temp : ℕ) → value 7 (degreesOf temp) ≡ degreesZ (valu
 degrees-means temp = offset.divided temp (2 ^ 7) 8 (omega arith)
 
 pub slope-means : (b : Breaks) (s : Slopes) (t : ℕ) → slopeOf b s t ≡ slopeZ b s (value 7 t)
-unfolding slopeOf
 slope-means b s t = λ i.
     pick (at-most 7 (b .b34) t i) (s .s4) (pick (at-most 7 (b .b23) t i) (s .s3) (pick (at-most 7 (b .b12) t i) (s .s2) (s .s1)))
 
@@ -189,9 +185,9 @@ neg-stops : (n : ℕ) → 0 ≡ orZero (negℤ (pos n))
 neg-stops zero = refl
 neg-stops (suc n) = refl
 
-pub span-means : (agedFull empty full40 : ℕ) → spanOf agedFull empty full40 ≡ orZero (spanZ agedFull empty full40)
-unfolding spanOf
-span-means agedFull empty full40 =
+pub usable-means : (agedFull empty full40 : ℕ) → usableOf agedFull empty full40 ≡ orZero (usableZ agedFull empty full40)
+unfolding usableOf
+usable-means agedFull empty full40 =
     order agedFull empty ((agedFull - empty) * full40 ≡ orZero (subℕ agedFull empty *ℤ pos full40))
     (λ h. let none : agedFull - empty ≡ 0 = omega arith in
     ap (λ (x : ℕ). x * full40) none ∙ zero-mul full40 ∙ neg-stops (suc (empty - suc agedFull) * full40) ∙
@@ -219,10 +215,10 @@ amount-is (pos zero) rsnsp = simp zero-mul
 amount-is (pos (suc n)) rsnsp = simp leb·suc-zero
 
 -- RARC and RAAC; with SE for AE, RSRC and RSAC
-pub percent-means : (acr agedFull empty full40 : ℕ) → pos (percentOf (leftOf acr empty full40) (spanOf agedFull empty full40)) ≡ percentZ (leftZ acr empty full40) (spanZ agedFull empty full40)
+pub percent-means : (acr agedFull empty full40 : ℕ) → pos (percentOf (leftOf acr empty full40) (usableOf agedFull empty full40)) ≡ percentZ (leftZ acr empty full40) (usableZ agedFull empty full40)
 percent-means acr agedFull empty full40 =
-    (λ i. pos (percentOf (left-means acr empty full40 i) (span-means agedFull empty full40 i))) ∙
-    percent-is (leftZ acr empty full40) (spanZ agedFull empty full40)
+    (λ i. pos (percentOf (left-means acr empty full40 i) (usable-means agedFull empty full40 i))) ∙
+    percent-is (leftZ acr empty full40) (usableZ agedFull empty full40)
 
 pub amount-means : (acr empty full40 rsnsp : ℕ) → pos (amountOf (leftOf acr empty full40) rsnsp) ≡ amountZ (leftZ acr empty full40) rsnsp
 amount-means acr empty full40 rsnsp =

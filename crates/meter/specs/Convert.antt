@@ -1,31 +1,40 @@
 -- Conversion, in the six steps of document 01. Currents are kept as z + 2^15.
 use Prim.Native.Nat.{ℕ}
-use Rattle.numbers.specs.Choice.{either}
+use mathlib.Core.Bool.{Bool}
+use Rattle.numbers.specs.Choice.{both, either}
+use Rattle.params.specs.declared.Limits.{Limits}
 use Rattle.params.specs.Params.{countingOf, limitsOf, capacityOf}
 use Rattle.charge.specs.Charge.{currentOf, tracedOf, countedOf}
 use Rattle.full.specs.Full.{eighth, averagedOf, renewedOf, foundOf, settledOf}
+use Rattle.reading.specs.declared.Flags.{Flags}
 use Rattle.meter.specs.declared.Meter.{Meter}
+use Rattle.meter.specs.State.{withCharge, withFlags}
 
+-- CHGTF sets where full is found
+abbrev pub filledFlags : Flags → Bool → Flags
+filledFlags f found = record { porf = f .porf; chgtf = either found (f .chgtf); aef = f .aef; sef = f .sef }
+
+-- CURRENT = c, and step 6: the run of eight goes on, or ends with IAVG, where full may be found
+unfoldable pub flowedOf : Meter → Limits → ℕ → ℕ → Meter
+flowedOf m p full40 c =
+    let f = m .flow in
+    let found = both (eighth (f .average)) (foundOf (f .average) (f .since) p c) in
+    record {
+      cells = m .cells;
+      charge = settledOf (m .charge) found (m .shown .model .full) full40;
+      flow = record {
+        trace = tracedOf (f .trace) c;
+        average = averagedOf (f .average) c;
+        since = renewedOf (f .since) (eighth (f .average));
+      };
+      shown = withFlags (m .shown) (filledFlags (m .shown .flags) found);
+    }
+
+-- steps 1 to 5 of the charge, then step 6
 unfoldable pub convertOf : Meter → ℕ → Meter
 convertOf m raw =
-    let p = countingOf (m .block .shadow) in
+    let block = m .cells .block .shadow in
+    let p = countingOf block in
     let c = currentOf raw (p .cob) in
-    let found = foundOf (m .average) (m .since) (limitsOf (m .block .shadow)) c in
-    record {
-      block = m .block;
-      locks = m .locks;
-      charge = settledOf (countedOf p (m .charge) (m .trace .last) c) found (m .model .full) (capacityOf (m .block .shadow) .full40);
-      trace = tracedOf (m .trace) c;
-      average = averagedOf (m .average) c;
-      since = renewedOf (m .since) (eighth (m .average));
-      model = m .model;
-      results = m .results;
-      reading = m .reading;
-      flags = record {
-        porf = m .flags .porf;
-        chgtf = either found (m .flags .chgtf);
-        aef = m .flags .aef;
-        sef = m .flags .sef;
-      };
-      saved = m .saved;
-    }
+    let counted = withCharge m (countedOf p (m .charge) (m .flow .trace .last) c) in
+    flowedOf counted (limitsOf block) (capacityOf block .full40) c

@@ -45,8 +45,7 @@ turnedZ last c = both (negativeZ c) (not (negativeZ last))
 -- 0 < c < 64 counts as 0; with NBEN, -16 < c < 0 counts as 0
 abbrev pub blankedZ : Bool → ℤ → ℤ
 blankedZ nben c =
-    pick (both (ltZ (pos 0) c) (ltZ c (pos 64))) (pos 0)
-    (pick (both nben (both (ltZ (minus 16) c) (ltZ c (pos 0)))) (pos 0) c)
+    pick (either (both (ltZ (pos 0) c) (ltZ c (pos 64))) (both nben (both (ltZ (minus 16) c) (ltZ c (pos 0))))) (pos 0) c
 
 -- the count grows by that plus AB, clamped to 0..2^28 - 1
 abbrev pub grownZ : ℤ → ℤ → ℤ → ℤ
@@ -71,8 +70,8 @@ abbrev pub meanZ : List ℕ → ℤ
 meanZ cs = divZ (sumZ cs) 8
 
 -- in 1..32 × IMIN - 1
-abbrev pub taperZ : ℕ → ℤ → Bool
-taperZ imin x = both (leZ (pos 1) x) (leZ x (pos (32 * imin) -ℤ pos 1))
+abbrev pub tapersZ : ℕ → ℤ → Bool
+tapersZ imin x = both (leZ (pos 1) x) (leZ x (pos (32 * imin) -ℤ pos 1))
 
 -- ---- reading
 
@@ -116,8 +115,8 @@ abbrev pub leftZ : ℕ → ℕ → ℕ → ℤ
 leftZ acr empty full40 = pos (16384 * acr) -ℤ pos (empty * full40)
 
 -- D = (AF - AE) × Full40
-abbrev pub spanZ : ℕ → ℕ → ℕ → ℤ
-spanZ agedFull empty full40 = (pos agedFull -ℤ pos empty) *ℤ pos full40
+abbrev pub usableZ : ℕ → ℕ → ℕ → ℤ
+usableZ agedFull empty full40 = (pos agedFull -ℤ pos empty) *ℤ pos full40
 
 -- 100 × N / D rounded down, at most 100; 0 if N ≤ 0 or D ≤ 0
 abbrev pub percentZ : ℤ → ℤ → ℤ

@@ -1,43 +1,96 @@
--- What the meter remembers: what holds of it always, and what a power-on leaves.
+-- What the meter remembers: what holds of it always, a part of it replaced, and what a power-on leaves.
 use mathlib.Core.Bool.{true, false}
 use Prim.Native.Nat.{ℕ, _*_, _^_, _≤_, _<_}
 use Rattle.numbers.specs.Offset.{zeroAt, movedInto}
+use Rattle.charge.specs.declared.Charge.{Charge}
 use Rattle.charge.specs.Charge.{ChargeWF}
+use Rattle.full.specs.declared.Since.{Since}
 use Rattle.full.specs.Full.{AverageWF}
+use Rattle.reading.specs.declared.Flags.{Flags}
 use Rattle.reading.specs.declared.Saved.{Saved}
 use Rattle.meter.specs.declared.Block.{Block}
 use Rattle.meter.specs.declared.Locks.{Locks}
+use Rattle.meter.specs.declared.Cells.{Cells}
+use Rattle.meter.specs.declared.Flow.{Flow}
+use Rattle.meter.specs.declared.Shown.{Shown}
 use Rattle.meter.specs.declared.Meter.{Meter}
 
 -- what holds of every meter: a power-on establishes it and every event keeps it
 pub record MeterWF (m : Meter) : Type 0 where
   pub charge : ChargeWF (m .charge)
-  pub average : AverageWF (m .average)
-  pub full : m .model .full ≤ 16384
-  pub volt : m .reading .volt ≤ 1023
-  pub temp : m .reading .temp < 2 ^ 11
+  pub average : AverageWF (m .flow .average)
+  pub full : m .shown .model .full ≤ 16384
+  pub volt : m .shown .reading .volt ≤ 1023
+  pub temp : m .shown .reading .temp < 2 ^ 11
 
--- ---- power-on: EEPROM bytes to the shadow; ACR and AS from the saved cells, AS moved into 63..128; PORF = 1; all else 0, and no
--- previous reading, conversion or average. BL1 stays.
+-- ---- a meter with one of its groups replaced
+
+abbrev pub withCells : Meter → Cells → Meter
+withCells m cells = record { cells = cells; charge = m .charge; flow = m .flow; shown = m .shown }
+
+abbrev pub withCharge : Meter → Charge → Meter
+withCharge m charge = record { cells = m .cells; charge = charge; flow = m .flow; shown = m .shown }
+
+abbrev pub withFlow : Meter → Flow → Meter
+withFlow m flow = record { cells = m .cells; charge = m .charge; flow = flow; shown = m .shown }
+
+abbrev pub withShown : Meter → Shown → Meter
+withShown m shown = record { cells = m .cells; charge = m .charge; flow = m .flow; shown = shown }
+
+-- ---- a group with one of its parts replaced
+
+abbrev pub withBlock : Cells → Block → Cells
+withBlock c block = record { block = block; locks = c .locks; saved = c .saved }
+
+abbrev pub withLocks : Cells → Locks → Cells
+withLocks c locks = record { block = c .block; locks = locks; saved = c .saved }
+
+abbrev pub withSaved : Cells → Saved → Cells
+withSaved c saved = record { block = c .block; locks = c .locks; saved = saved }
+
+abbrev pub withSince : Flow → Since → Flow
+withSince f since = record { trace = f .trace; average = f .average; since = since }
+
+abbrev pub withFlags : Shown → Flags → Shown
+withFlags s flags = record { model = s .model; results = s .results; reading = s .reading; flags = flags }
+
+-- ---- power-on
+
+-- EEPROM bytes to the shadow; LOCK 0, BL1 stays; the saved cells themselves are untouched
+abbrev pub poweredCells : Cells → Cells
+poweredCells c = record {
+  block = record { shadow = c .block .eeprom; eeprom = c .block .eeprom };
+  locks = record { lock = false; bl1 = c .locks .bl1 };
+  saved = c .saved;
+}
 
 abbrev pub asIn : ℕ → ℕ
 asIn aging = movedInto 63 128 aging
 
-unfoldable pub poweredOf : Block → Locks → Saved → Meter
-poweredOf block locks saved = record {
-  block = record { shadow = block .eeprom; eeprom = block .eeprom };
-  locks = record { lock = false; bl1 = locks .bl1 };
-  charge = record { count = saved .acr * 4096; age = 0; aging = asIn (saved .aging); learnf = false };
+-- ACR and AS from the saved cells, AS moved into 63..128
+abbrev pub poweredCharge : Saved → Charge
+poweredCharge s = record { count = s .acr * 4096; age = 0; aging = asIn (s .aging); learnf = false }
+
+-- no previous conversion or average, and the run of eight starts anew
+abbrev pub noFlow : Flow
+noFlow = record {
   trace = record { last = zeroAt 15; before = zeroAt 15; any = false; two = false };
   average = record { run = 0; sum = 0; iavg = zeroAt 15; known = false };
   since = record { any = false; lowest = 0 };
+}
+
+-- no previous reading; PORF = 1, all else 0
+abbrev pub noneShown : Shown
+noneShown = record {
   model = record { full = 0; ae = 0; se = 0 };
   results = record { rarc = 0; rsrc = 0; raac = 0; rsac = 0 };
   reading = record { volt = 0; temp = zeroAt 10; known = false };
   flags = record { porf = true; chgtf = false; aef = false; sef = false };
-  saved = saved;
 }
+
+unfoldable pub poweredOf : Cells → Meter
+poweredOf c = record { cells = poweredCells c; charge = poweredCharge (c .saved); flow = noFlow; shown = noneShown }
 
 -- a power-on of the meter as it stands
 abbrev pub restartedOf : Meter → Meter
-restartedOf m = poweredOf (m .block) (m .locks) (m .saved)
+restartedOf m = poweredOf (m .cells)

@@ -4,6 +4,9 @@ use charge::Trace;
 use full::Average;
 use full::Since;
 use model::Model;
+use params::Capacity;
+use params::Counting;
+use params::Curves;
 use params::Limits;
 use reading::Flags;
 use reading::Reading;
@@ -11,14 +14,11 @@ use reading::Results;
 use reading::Saved;
 use reading::Seen;
 ghost use mathlib.Core.Path.{_≡_};
-ghost use Prim.Native.Nat.{_≤_};
 ghost use Rattle.charge.specs.Charge.{ChargeWF};
+ghost use Rattle.reading.specs.Reading.{SeenWF};
 ghost use Rattle.meter.specs.State.{MeterWF, poweredOf, restartedOf};
-ghost use Rattle.meter.specs.Convert.{convertOf};
+ghost use Rattle.meter.specs.Convert.{flowedOf, convertOf};
 ghost use Rattle.meter.specs.Read.{drainedOf, shownOf, readOf};
-
-// What a current of 0 is kept as.
-const ZERO: u16 = 32768;
 
 // Block 1.
 pub struct Block {
@@ -32,74 +32,112 @@ pub struct Locks {
     pub bl1: bool,
 }
 
-pub struct Meter {
+// What writes, copy, recall, lock and the save change.
+pub struct Cells {
     pub block: Block,
     pub locks: Locks,
-    pub charge: Charge,
+    pub saved: Saved,
+}
+
+// The flow of currents: the last two, the run of eight, and the readings since it began.
+pub struct Flow {
     pub trace: Trace,
     pub average: Average,
     pub since: Since,
+}
+
+// What a reading shows, and the flags.
+pub struct Shown {
     pub model: Model,
     pub results: Results,
     pub reading: Reading,
     pub flags: Flags,
-    pub saved: Saved,
+}
+
+pub struct Meter {
+    pub cells: Cells,
+    pub charge: Charge,
+    pub flow: Flow,
+    pub shown: Shown,
 }
 
 impl Meter {
+    // Step 6 of a conversion, and CURRENT.
+    fn flowed(mut self, p: Limits, full40: u16, c: u16) -> Meter
+        requires { ⌜ MeterWF self ⌝ }
+        ensures { λ r. ⌜ r ≡ flowedOf self p full40 c ⌝ }
+        ensures kept { λ r. ⌜ MeterWF r ⌝ }
+    {
+        let mut flow = self.flow;
+        flow.trace = flow.trace.traced(c);
+        if flow.average.run == 7 {
+            let found = flow.average.found(flow.since, p, c);
+            self.charge = full::settled(self.charge, found, self.shown.model.full, full40);
+            let chgtf = numbers::or(found, self.shown.flags.chgtf);
+            self.shown.flags.chgtf = chgtf;
+            flow.since.any = false;
+            flow.since.lowest = 0;
+        }
+        flow.average = flow.average.averaged(c);
+        self.flow = flow;
+        self
+    }
+
     // A conversion of any signed 32-bit raw current, which comes as z + 2^31.
     pub fn convert(mut self, raw: u32) -> Meter
         requires { ⌜ MeterWF self ⌝ }
         ensures { λ r. ⌜ r ≡ convertOf self raw ⌝ }
         ensures kept { λ r. ⌜ MeterWF r ⌝ }
     {
-        let block = self.block.shadow;
-        let p = params::counting_from(block);
+        let p = Counting::of(&self.cells.block.shadow);
+        let limits = Limits::of(&self.cells.block.shadow);
+        let full = Capacity::of(&self.cells.block.shadow);
         let c = charge::current(raw, p.cob);
-        let found = self.average
-            .found(self.since, params::limits_from(block), c);
-        let counted = self.charge.counted(p, self.trace.last, c);
-        let full = params::capacity_from(block);
-        self.charge = full::settled(counted, found, self.model.full, full.full40);
-        self.trace = self.trace.traced(c);
-        self.since = self.since.renewed(self.average.run == 7);
-        self.average = self.average.averaged(c);
-        let chgtf = numbers::or(found, self.flags.chgtf);
-        self.flags.chgtf = chgtf;
-        self
+        self.charge = self.charge.counted(p, self.flow.trace.last, c);
+        self.flowed(limits, full.full40, c)
     }
 
     // Step 3.
     fn drained(self, p: Limits, full40: u16, s: Seen) -> Charge
         requires { ⌜ ChargeWF (self .charge) ⌝ }
-        requires { ⌜ s .lines .ae ≤ 8191 ⌝ }
+        requires { ⌜ SeenWF s ⌝ }
         ensures { λ r. ⌜ r ≡ drainedOf self p full40 s ⌝ }
+        ensures kept { λ r. ⌜ ChargeWF r ⌝ }
     {
         let e = charge::share(s.lines.ae as u32, full40) as u16;
-        let point = self.reading.point(self.trace, p);
-        reading::emptied(self.charge, s.low, point, e)
+        let point = self.shown.reading.point(self.flow.trace, p);
+        reading::emptied(self.charge, s.holds, point, e)
     }
 
     // Steps 5 and 6.
     fn shown(mut self, s: Seen, g: Charge, r: Results) -> Meter
+        requires { ⌜ MeterWF self ⌝ }
+        requires { ⌜ SeenWF s ⌝ }
         requires { ⌜ ChargeWF g ⌝ }
         ensures { λ m. ⌜ m ≡ shownOf self s g r ⌝ }
+        ensures kept { λ m. ⌜ MeterWF m ⌝ }
     {
-        let same = self.results.rarc / 4 == r.rarc / 4;
-        let save = numbers::and_not(self.reading.known, same);
-        self.saved = self.saved.kept(save, g);
-        self.flags = self.flags.shown(s.low, r);
-        self.since = self.since.lowered(s.volt);
+        let same = self.shown.results.rarc / 4 == r.rarc / 4;
+        let save = numbers::and_not(self.shown.reading.known, same);
+        let saved = self.cells.saved.kept(save, g);
+        self.cells.saved.acr = saved.acr;
+        self.cells.saved.aging = saved.aging;
         self.charge = g;
+        let since = self.flow.since.lowered(s.volt);
+        self.flow.since.any = since.any;
+        self.flow.since.lowest = since.lowest;
         let lines = s.lines;
-        self.model = lines;
-        self.results = r;
-        let reading = Reading {
-            volt: s.volt,
-            temp: s.temp,
-            known: true,
+        let shown = Shown {
+            model: lines,
+            results: r,
+            reading: Reading {
+                volt: s.volt,
+                temp: s.temp,
+                known: true,
+            },
+            flags: self.shown.flags.flagged(s.holds, r),
         };
-        self.reading = reading;
+        self.shown = shown;
         self
     }
 
@@ -109,29 +147,33 @@ impl Meter {
         ensures { λ r. ⌜ r ≡ readOf self v t ⌝ }
         ensures kept { λ r. ⌜ MeterWF r ⌝ }
     {
-        let block = self.block.shadow;
-        let p = params::limits_from(block);
-        let full = params::capacity_from(block);
-        let s = reading::observed(p, params::curves_from(block), v, t);
+        let p = Limits::of(&self.cells.block.shadow);
+        let full = Capacity::of(&self.cells.block.shadow);
+        let curves = Curves::of(&self.cells.block.shadow);
+        let s = Seen::of(p, curves, v, t);
         let g = self.drained(p, full.full40, s);
         let r = reading::rated(g, s.lines, full);
         self.shown(s, g, r)
     }
 
-    // The meter that an image's cells power on to.
-    pub fn powered(block: Block, locks: Locks, saved: Saved) -> Meter
-        ensures { λ r. ⌜ r ≡ poweredOf block locks saved ⌝ }
+    // The meter that cells power on to: of them it takes the EEPROM, BL1 and what is saved.
+    pub fn powered(cells: Cells) -> Meter
+        ensures { λ r. ⌜ r ≡ poweredOf cells ⌝ }
         ensures kept { λ r. ⌜ MeterWF r ⌝ }
     {
-        let eeprom = block.eeprom;
+        let eeprom = cells.block.eeprom;
+        let saved = cells.saved;
         Meter {
-            block: Block {
-                shadow: eeprom,
-                eeprom: eeprom,
-            },
-            locks: Locks {
-                lock: false,
-                bl1: locks.bl1,
+            cells: Cells {
+                block: Block {
+                    shadow: eeprom,
+                    eeprom: eeprom,
+                },
+                locks: Locks {
+                    lock: false,
+                    bl1: cells.locks.bl1,
+                },
+                saved: saved,
             },
             charge: Charge {
                 count: (saved.acr as u32) * 4096,
@@ -139,45 +181,48 @@ impl Meter {
                 aging: numbers::moved_into(63, 128, saved.aging as u64),
                 learnf: false,
             },
-            trace: Trace {
-                last: ZERO,
-                before: ZERO,
-                any: false,
-                two: false,
+            flow: Flow {
+                trace: Trace {
+                    last: numbers::ZERO15,
+                    before: numbers::ZERO15,
+                    any: false,
+                    two: false,
+                },
+                average: Average {
+                    run: 0,
+                    sum: 0,
+                    iavg: numbers::ZERO15,
+                    known: false,
+                },
+                since: Since {
+                    any: false,
+                    lowest: 0,
+                },
             },
-            average: Average {
-                run: 0,
-                sum: 0,
-                iavg: ZERO,
-                known: false,
+            shown: Shown {
+                model: Model {
+                    full: 0,
+                    ae: 0,
+                    se: 0,
+                },
+                results: Results {
+                    rarc: 0,
+                    rsrc: 0,
+                    raac: 0,
+                    rsac: 0,
+                },
+                reading: Reading {
+                    volt: 0,
+                    temp: numbers::ZERO10,
+                    known: false,
+                },
+                flags: Flags {
+                    porf: true,
+                    chgtf: false,
+                    aef: false,
+                    sef: false,
+                },
             },
-            since: Since {
-                any: false,
-                lowest: 0,
-            },
-            model: Model {
-                full: 0,
-                ae: 0,
-                se: 0,
-            },
-            results: Results {
-                rarc: 0,
-                rsrc: 0,
-                raac: 0,
-                rsac: 0,
-            },
-            reading: Reading {
-                volt: 0,
-                temp: 1024,
-                known: false,
-            },
-            flags: Flags {
-                porf: true,
-                chgtf: false,
-                aef: false,
-                sef: false,
-            },
-            saved: saved,
         }
     }
 
@@ -186,9 +231,7 @@ impl Meter {
         ensures { λ r. ⌜ r ≡ restartedOf self ⌝ }
         ensures kept { λ r. ⌜ MeterWF r ⌝ }
     {
-        let block = self.block;
-        let locks = self.locks;
-        let saved = self.saved;
-        Meter::powered(block, locks, saved)
+        let cells = self.cells;
+        Meter::powered(cells)
     }
 }

@@ -1,4 +1,4 @@
--- The walk down the slopes, step by step, and bounds of the lines. Assumes nothing.
+-- The walk down the slopes, step by step, and bounds of the lines.
 use mathlib.Core.Path.{_≡_}
 use Prim.Native.Nat.{ℕ, _+_, _-_, _≤_}
 use native.Mathlib.Omega.{arith}

@@ -7,9 +7,10 @@ use Rattle.params.specs.declared.Breaks.{Breaks}
 use Rattle.params.specs.declared.Slopes.{Slopes}
 use Rattle.params.specs.declared.Curves.{Curves}
 use Rattle.model.specs.declared.Model.{Model}
+use Rattle.model.specs.declared.Sums.{Sums}
 
 -- the segment's slope of the step from t + 1 to t
-unfoldable pub slopeOf : Breaks → Slopes → ℕ → ℕ
+abbrev pub slopeOf : Breaks → Slopes → ℕ → ℕ
 slopeOf b s t = pick (leb (b .b34) t) (s .s4) (pick (leb (b .b23) t) (s .s3) (pick (leb (b .b12) t) (s .s2) (s .s1)))
 
 abbrev pub forty : ℕ
@@ -23,6 +24,10 @@ slopesOver b s (suc n) = slopesOver b s n + slopeOf b s (forty - 1 - n)
 -- the slopes going down from 40 to t
 abbrev pub slopesTo : Breaks → Slopes → ℕ → ℕ
 slopesTo b s t = slopesOver b s (forty - t)
+
+-- the slopes of FULL, AE and SE, each going down to t
+abbrev pub walkedOf : Breaks → Slopes → Slopes → Slopes → ℕ → Sums
+walkedOf b full ae se t = record { full = slopesTo b full t; ae = slopesTo b ae t; se = slopesTo b se t }
 
 -- FULL = 16,384 less the Full slopes, at least 8,192
 abbrev pub fullLineOf : ℕ → ℕ

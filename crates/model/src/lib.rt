@@ -4,7 +4,7 @@ use params::Curves;
 use params::Slopes;
 ghost use mathlib.Core.Path.{_≡_};
 ghost use Prim.Native.Nat.{_≤_};
-ghost use Rattle.model.specs.Model.{slopeOf, slopesTo, fullLineOf, emptyLineOf, linesOf};
+ghost use Rattle.model.specs.Model.{slopeOf, walkedOf, fullLineOf, emptyLineOf, linesOf};
 
 // FULL, AE and SE.
 pub struct Model {
@@ -31,7 +31,7 @@ struct Sums {
 
 // Step 2: the slopes f of FULL, a of AE and s of SE going down from 40 degrees, which stand as 168, to t. One walk for the three decides a step's segment once.
 fn walked(b: Breaks, f: Slopes, a: Slopes, s: Slopes, t: u8) -> Sums
-    ensures { λ r. ⌜ (r .full ≡ slopesTo b f t) × (r .ae ≡ slopesTo b a t) × (r .se ≡ slopesTo b s t) ⌝ }
+    ensures { λ r. ⌜ r ≡ walkedOf b f a s t ⌝ }
 {
     let steps = numbers::less(168, t as u64) as u8;
     let mut done: u8 = 0;

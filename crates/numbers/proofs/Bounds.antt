@@ -1,4 +1,4 @@
--- Bounds of products, what holds of the one that a test picks, and tests that hold together. Assumes nothing.
+-- Bounds of products, what holds of the one that a test picks, and tests that hold together.
 use mathlib.Core.Path.{_≡_, refl, sym, subst}
 use mathlib.Core.Bool.{Bool, true, false}
 use Prim.Native.Nat.{ℕ, _*_, _≤_}

@@ -1,4 +1,4 @@
--- That `divZ` and `clampZ` are what their names say. Assumes nothing.
+-- That `divZ` and `clampZ` are what their names say.
 use mathlib.Core.Path.{_≡_, refl, sym, ap, _∙_}
 use mathlib.Core.Bool.{false}
 use Prim.Native.Nat.{ℕ, suc, _+_, _-_, _*_, _/_, _%_, _<_}

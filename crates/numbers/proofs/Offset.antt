@@ -1,5 +1,5 @@
 -- What the offset form means: each step on offset numbers, read through `value`, is the step on integers. The offsets are variables
--- here, so each law stands once for every width. Assumes nothing.
+-- here, so each law stands once for every width.
 use mathlib.Core.Path.{_≡_, refl, sym, ap, _∙_}
 use mathlib.Core.Bool.{Bool, true, false, not}
 use Prim.Native.Nat.{ℕ, zero, suc, _+_, _-_, _*_, _/_, _%_, _^_, _≤_, _<_, min}

@@ -4,6 +4,15 @@ ghost use Prim.Native.Nat.{_-_, _/_, min, max};
 ghost use Rattle.numbers.specs.Choice.{pick, both, either, butNot};
 ghost use Rattle.numbers.specs.Offset.{movedInto, offset8Of, offset32Of, joinedOf};
 
+// What 0 is kept as where z is kept as z + 2^k: k = 31 in a raw count, 15 in a current, 10 in a temperature, 7 in a signed byte.
+pub const ZERO31: u32 = 0x8000_0000;
+
+pub const ZERO15: u16 = 0x8000;
+
+pub const ZERO10: u16 = 0x400;
+
+pub const ZERO7: u8 = 0x80;
+
 // The first where the test holds, else the second.
 pub fn choose(t: bool, a: u32, b: u32) -> u32
     ensures { λ r. ⌜ r ≡ pick t a b ⌝ }
@@ -86,18 +95,14 @@ pub fn moved_into(low: u8, high: u8, x: u64) -> u8
 pub fn offset8(b: u8) -> u8
     ensures { λ r. ⌜ r ≡ offset8Of b ⌝ }
 {
-    if b < 0x80 { b + 0x80 } else { b - 0x80 }
+    if b < ZERO7 { b + ZERO7 } else { b - ZERO7 }
 }
 
 // A 32-bit word in two's complement, z or z + 2^32, as z + 2^31.
 pub fn offset32(x: u32) -> u32
     ensures { λ r. ⌜ r ≡ offset32Of x ⌝ }
 {
-    if x < 0x8000_0000 {
-        x + 0x8000_0000
-    } else {
-        x - 0x8000_0000
-    }
+    if x < ZERO31 { x + ZERO31 } else { x - ZERO31 }
 }
 
 // Two bytes as one number, the high one first.

@@ -1,4 +1,4 @@
--- The image, taken out and read in again: a power-on, and accepted. Assumes nothing.
+-- The image, taken out and read in again: a power-on, and accepted.
 use mathlib.Core.Path.{_≡_, refl, sym, ap, _∙_}
 use mathlib.Core.Bool.{Bool, true, false}
 use mathlib.Core.List.{List, _++_}
@@ -11,10 +11,11 @@ use borrow.Author.Tests.{eq-eqb}
 use Rattle.parts.specs.Parts.{part, put, pairAt}
 use Rattle.parts.proofs.Laws.{put-next, put-front}
 use Rattle.meter.specs.State.{poweredOf}
-use Rattle.blocks.specs.Blocks.{labelRecalled}
 use Rattle.gauge.specs.declared.Gauge.{Gauge}
-use Rattle.events.specs.declared.Verdict.the-variants.{Accepted}
-use Rattle.events.specs.Verdict.{addressedOf, verdictOf}
+use Rattle.events.specs.declared.Event.the-variants.{Image}
+use Rattle.events.specs.declared.Taken.the-variants.{Run}
+use Rattle.events.specs.Image.{imageSize, imageAddress, imageLabel, imageBlock, acrAt}
+use Rattle.events.specs.Record.{addressedOf, judgedOf}
 use Rattle.gauge.specs.Gauge.{Sized, powerOnOf}
 use Rattle.pack.specs.Image.{imageOf, lockByte, tailOf, bytesOf}
 
@@ -65,18 +66,18 @@ bits false false = (refl, refl, refl)
 
 -- what stands in the image of a gauge
 record Holds (g : Gauge) (p : List ℕ) : Type 0 where
-  size : length p ≡ 60
-  address : part 8 p 0 ≡ g .common .address
-  label : part 16 p 8 ≡ g .label .eeprom
-  block : part 32 p 24 ≡ g .meter .block .eeprom
-  byte : (i : ℕ) → getD p (56 + i) 0 ≡ getD (tailOf g) i 0
+  size : length p ≡ imageSize
+  address : imageAddress p ≡ g .common .address
+  label : imageLabel p ≡ g .label .eeprom
+  block : imageBlock p ≡ g .meter .cells .block .eeprom
+  byte : (i : ℕ) → getD p (acrAt + i) 0 ≡ getD (tailOf g) i 0
 
 image-holds : (g : Gauge) → Sized g → Holds g (bytesOf g)
 unfolding bytesOf
 image-holds g z =
     let a = g .common .address in
     let e = g .label .eeprom in
-    let b = g .meter .block .eeprom in
+    let b = g .meter .cells .block .eeprom in
     record {
       size = joint-length a e b (tailOf g) (z .address) (z .label .eeprom) (z .block .eeprom) refl;
       address = joint-address a e b (tailOf g) (z .address) (z .label .eeprom) (z .block .eeprom) refl;
@@ -87,19 +88,19 @@ image-holds g z =
 
 -- read in again it is a power-on
 pub round-trip : (g : Gauge) → Sized g → imageOf (bytesOf g) ≡ powerOnOf g
-unfolding imageOf powerOnOf poweredOf labelRecalled
+unfolding imageOf powerOnOf poweredOf
 round-trip g z =
     let p = image-holds g z in
-    let l = bits (g .meter .locks .bl1) (g .common .bl0) in
-    let acr : pairAt (bytesOf g) 56 ≡ g .meter .saved .acr = omega (arith, p .byte 0, p .byte 1) in
+    let l = bits (g .meter .cells .locks .bl1) (g .common .bl0) in
+    let acr : pairAt (bytesOf g) 56 ≡ g .meter .cells .saved .acr = omega (arith, p .byte 0, p .byte 1) in
     rw (p .address, p .label, p .block, acr, p .byte 2, p .byte 3, l .0, l .1) refl
 
 -- and accepted, where the address is one
-pub image-accepted : (g : Gauge) → Sized g → addressedOf (g .common .address) ≡ true → verdictOf (bytesOf g) ≡ Accepted
-unfolding verdictOf
+pub image-accepted : (g : Gauge) → Sized g → addressedOf (g .common .address) ≡ true → judgedOf (bytesOf g) ≡ Run Image
+unfolding judgedOf
 image-accepted g z h =
     let p = image-holds g z in
-    rw (eq-eqb (length (bytesOf g)) 60 (p .size), p .address, h, p .byte 3, bits (g .meter .locks .bl1) (g .common .bl0) .2) refl
+    rw (eq-eqb (length (bytesOf g)) imageSize (p .size), p .address, h, p .byte 3, bits (g .meter .cells .locks .bl1) (g .common .bl0) .2) refl
 
-pub image-length : (g : Gauge) → Sized g → length (bytesOf g) ≡ 60
+pub image-length : (g : Gauge) → Sized g → length (bytesOf g) ≡ imageSize
 image-length g z = image-holds g z .size

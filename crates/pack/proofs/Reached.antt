@@ -1,5 +1,5 @@
 -- The gauges that events reach from an accepted image: what is kept holds of them all, and so their image, taken out and read in again, is
--- accepted and is a power-on. Assumes nothing.
+-- accepted and is a power-on.
 use mathlib.Core.Path.{_≡_, refl}
 use mathlib.Core.Bool.{Bool, true, false}
 use mathlib.Core.List.{List}
@@ -16,28 +16,31 @@ use Rattle.gauge.specs.declared.Gauge.{Gauge}
 use Rattle.gauge.specs.Gauge.{Sized, powerOnOf}
 use Rattle.gauge.specs.Kept.{Kept}
 use Rattle.gauge.proofs.Kept.{address-kept, sized-kept}
-use Rattle.events.specs.declared.Verdict.the-variants.{Accepted, Size, Address, Locks as BadLocks}
-use Rattle.events.specs.Verdict.{addressedOf, lockableOf, verdictOf}
+use Rattle.events.specs.declared.Refusal.the-variants.{Size, Address, Locks}
+use Rattle.events.specs.declared.Event.the-variants.{Image}
+use Rattle.events.specs.declared.Taken.the-variants.{Run, Refused}
+use Rattle.events.specs.Image.{imageSize, imageAddress}
+use Rattle.events.specs.Record.{addressedOf, lockableOf, judgedOf}
 use Rattle.pack.specs.Image.{imageOf, bytesOf}
 use Rattle.pack.specs.Reach.{Reached}
-use Rattle.pack.specs.Reach.Reached.{accepted, converted, read, powered, acted-on}
+use Rattle.pack.specs.Reach.Reached.{accepted, changed, acted-on}
 use Rattle.pack.proofs.Image.{round-trip, image-accepted}
 
 -- ---- an image that is accepted
 
 -- the first two of its tests
-tests : (x y z : Bool) → pick x (pick y (pick z Accepted BadLocks) Address) Size ≡ Accepted → (x ≡ true) × (y ≡ true)
+tests : (x y z : Bool) → pick x (pick y (pick z (Run Image) (Refused Locks)) (Refused Address)) (Refused Size) ≡ Run Image → (x ≡ true) × (y ≡ true)
 tests true true z e = (refl, refl)
 tests true false z e = (refl, cc)
 tests false y z e = (cc, cc)
 
-module _ (p : List ℕ) (e : verdictOf p ≡ Accepted) where
-  passed : (eqb (length p) 60 ≡ true) × (addressedOf (part 8 p 0) ≡ true)
-  unfolding verdictOf
-  passed = tests (eqb (length p) 60) (addressedOf (part 8 p 0)) (lockableOf p) e
+module _ (p : List ℕ) (e : judgedOf p ≡ Run Image) where
+  passed : (eqb (length p) imageSize ≡ true) × (addressedOf (imageAddress p) ≡ true)
+  unfolding judgedOf
+  passed = tests (eqb (length p) imageSize) (addressedOf (imageAddress p)) (lockableOf p) e
 
-  pub accepted-length : length p ≡ 60
-  accepted-length = eqb-true (length p) 60 (passed .0)
+  pub accepted-length : length p ≡ imageSize
+  accepted-length = eqb-true (length p) imageSize (passed .0)
 
   pub accepted-address : addressedOf (imageOf p .common .address) ≡ true
   unfolding imageOf
@@ -56,12 +59,10 @@ image-sized p e =
 -- ---- every gauge that is reached
 
 -- what holds of every image accepted, and is kept, holds of them all
-pub reached-keeps : (P : Gauge → Type 0) → Kept P → ((p : List ℕ) → verdictOf p ≡ Accepted → P (imageOf p))
+pub reached-keeps : (P : Gauge → Type 0) → Kept P → ((p : List ℕ) → judgedOf p ≡ Run Image → P (imageOf p))
     → (g : Gauge) → Reached g → P g
 reached-keeps P k start g (accepted p e) = start p e
-reached-keeps P k start g (converted f raw r) = k .conversion f raw (reached-keeps P k start f r)
-reached-keeps P k start g (read f volt temp r) = k .reading f volt temp (reached-keeps P k start f r)
-reached-keeps P k start g (powered f r) = k .power-on f (reached-keeps P k start f r)
+reached-keeps P k start g (changed f c r) = k .change f c (reached-keeps P k start f r)
 reached-keeps P k start g (acted-on f t master r) = k .act f t master (reached-keeps P k start f r)
 
 module _ (g : Gauge) (r : Reached g) where
@@ -72,7 +73,7 @@ module _ (g : Gauge) (r : Reached g) where
   reached-address = reached-keeps _ (address-kept (λ a. addressedOf a ≡ true)) accepted-address g r
 
   -- the image that is taken out is accepted, and is a power-on
-  pub out-accepted : verdictOf (bytesOf g) ≡ Accepted
+  pub out-accepted : judgedOf (bytesOf g) ≡ Run Image
   out-accepted = image-accepted g reached-sized reached-address
 
   pub out-in : imageOf (bytesOf g) ≡ powerOnOf g

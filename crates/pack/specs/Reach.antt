@@ -4,15 +4,15 @@ use mathlib.Core.List.{List}
 use Prim.Native.Nat.{ℕ}
 use Rattle.bus.specs.declared.Transaction.{Transaction}
 use Rattle.gauge.specs.declared.Gauge.{Gauge}
-use Rattle.gauge.specs.Gauge.{conversionOf, readingOf, powerOnOf}
+use Rattle.gauge.specs.Change.{changedOf}
 use Rattle.gauge.specs.Act.{actOf}
-use Rattle.events.specs.declared.Verdict.the-variants.{Accepted}
-use Rattle.events.specs.Verdict.{verdictOf}
+use Rattle.events.specs.declared.Change.{Change}
+use Rattle.events.specs.declared.Event.the-variants.{Image}
+use Rattle.events.specs.declared.Taken.the-variants.{Run}
+use Rattle.events.specs.Record.{judgedOf}
 use Rattle.pack.specs.Image.{imageOf}
 
 pub data Reached : Gauge → Type 0 where
-  accepted : (p : List ℕ) → verdictOf p ≡ Accepted → Reached (imageOf p)
-  converted : (g : Gauge) (raw : ℕ) → Reached g → Reached (conversionOf g raw)
-  read : (g : Gauge) (volt temp : ℕ) → Reached g → Reached (readingOf g volt temp)
-  powered : (g : Gauge) → Reached g → Reached (powerOnOf g)
+  accepted : (p : List ℕ) → judgedOf p ≡ Run Image → Reached (imageOf p)
+  changed : (g : Gauge) (c : Change) → Reached g → Reached (changedOf g c)
   acted-on : (g : Gauge) (t : Transaction) (master : List ℕ) → Reached g → Reached (actOf g t master)

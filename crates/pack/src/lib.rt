@@ -1,49 +1,63 @@
 // The pack image: read into a gauge, and written out of one.
-use blocks::Common;
-use blocks::Label;
+use events::ACR_AT;
+use events::ADDRESS_AT;
+use events::AGING_AT;
+use events::BLOCK_AT;
+use events::IMAGE_SIZE;
+use events::LABEL_AT;
+use events::LOCKS_AT;
 use gauge::Gauge;
+use label::Common;
+use label::Label;
 use meter::Block;
+use meter::Cells;
 use meter::Locks;
 use meter::Meter;
 use reading::Saved;
 ghost use mathlib.Core.Path.{_≡_};
 ghost use lib.ListN.{length};
+ghost use Rattle.events.specs.Image.{imageSize};
 ghost use Rattle.gauge.specs.Gauge.{GaugeWF};
 ghost use Rattle.pack.specs.Image.{imageOf, lockByte, cellsOf, tailOf, ImageOut};
 
 // ---- in
 
-// The gauge that the 60 bytes of an image power on to.
+// The gauge that the bytes of an image power on to.
 pub fn image_in(p: &[u8]) -> Gauge
-    requires { ⌜ length (now p) ≡ 60 ⌝ }
+    requires { ⌜ length (now p) ≡ imageSize ⌝ }
     ensures { λ r. ⌜ r ≡ imageOf (now (p .entry)) ⌝ }
     ensures kept { λ r. ⌜ GaugeWF r ⌝ }
 {
-    let address = parts::eight(p, 0);
-    let label = parts::sixteen(p, 8);
-    let eeprom = parts::thirty_two(p, 24);
+    let address = parts::eight(p, ADDRESS_AT);
+    let label = parts::sixteen(p, LABEL_AT);
+    let eeprom = parts::thirty_two(p, BLOCK_AT);
     let saved = Saved {
-        acr: parts::pair(p, 56),
-        aging: p[58],
+        acr: parts::pair(p, ACR_AT),
+        aging: p[AGING_AT],
     };
     let locks = Locks {
         lock: false,
-        bl1: p[59] / 2 % 2 == 1,
+        bl1: p[LOCKS_AT] / 2 % 2 == 1,
     };
     let block = Block {
         shadow: eeprom,
         eeprom: eeprom,
     };
+    let cells = Cells {
+        block: block,
+        locks: locks,
+        saved: saved,
+    };
     Gauge {
         common: Common {
             address: address,
-            bl0: p[59] % 2 == 1,
+            bl0: p[LOCKS_AT] % 2 == 1,
         },
         label: Label {
             shadow: label,
             eeprom: label,
         },
-        meter: Meter::powered(block, locks, saved),
+        meter: Meter::powered(cells),
     }
 }
 
@@ -76,22 +90,25 @@ fn cells(saved: Saved, lock: u8) -> [u8; 4]
 fn tail(g: Gauge) -> [u8; 4]
     ensures { λ r. ⌜ r ≡ tailOf g ⌝ }
 {
-    cells(g.meter.saved, lock_byte(g.meter.locks.bl1, g.common.bl0))
+    cells(
+        g.meter.cells.saved,
+        lock_byte(g.meter.cells.locks.bl1, g.common.bl0),
+    )
 }
 
-// The image goes to the first 60 bytes of the room; false, and nothing is written, where they do not fit.
+// The image goes to the first bytes of the room; false, and nothing is written, where they do not fit.
 pub fn image_out(g: Gauge, room: &mut [u8]) -> bool
     ensures { λ r. ⌜ ImageOut g (now (room .entry)) r (now (room .exit)) ⌝ }
 {
-    if room.len() < 60 {
+    if room.len() < IMAGE_SIZE {
         return false;
     }
     let address = g.common.address;
     let label = g.label.eeprom;
-    let block = g.meter.block.eeprom;
-    parts::store8(address, room, 0);
-    parts::store16(label, room, 8);
-    parts::store32(block, room, 24);
-    parts::store4(tail(g), room, 56);
+    let block = g.meter.cells.block.eeprom;
+    parts::store8(address, room, ADDRESS_AT);
+    parts::store16(label, room, LABEL_AT);
+    parts::store32(block, room, BLOCK_AT);
+    parts::store4(tail(g), room, ACR_AT);
     true
 }

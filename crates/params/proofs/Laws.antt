@@ -1,14 +1,14 @@
--- The slopes by their index in the block. Assumes nothing.
+-- The slopes by their index in the block.
 use mathlib.Core.Path.{_≡_}
 use mathlib.Core.List.{List}
 use Prim.Native.Nat.{ℕ, _+_, _-_}
 use native.Mathlib.Omega.{arith}
 use lib.ListN.{getD}
-use Rattle.params.specs.Params.{slopesFrom}
+use Rattle.params.specs.Params.{slopesOf}
 
 -- the slopes at an index of the block
 pub slopes-at : (block : List ℕ) (at : ℕ) →
-    slopesFrom block (0x60 + at) ≡
+    slopesOf block (0x60 + at) ≡
     record { s4 = getD block at 0; s3 = getD block (at + 1) 0; s2 = getD block (at + 2) 0; s1 = getD block (at + 3) 0 }
 slopes-at block at =
     let e : 0x60 + at - 0x60 ≡ at = omega arith in

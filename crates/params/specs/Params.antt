@@ -31,7 +31,7 @@ abbrev pub rnaopOf : List ℕ → Bool
 rnaopOf block = eqb (byteAt block 0x60 / 16 % 2) 1
 
 -- what a count is worked out with: NBEN, AB, AC, COB
-unfoldable pub countingOf : List ℕ → Counting
+abbrev pub countingOf : List ℕ → Counting
 countingOf block = record {
   nben = nbenOf block;
   ab = signedAt block 0x61;
@@ -40,7 +40,7 @@ countingOf block = record {
 }
 
 -- VCHG, IMIN, VAE, IAE
-unfoldable pub limitsOf : List ℕ → Limits
+abbrev pub limitsOf : List ℕ → Limits
 limitsOf block = record {
   vchg = byteAt block 0x64;
   imin = byteAt block 0x65;
@@ -49,12 +49,12 @@ limitsOf block = record {
 }
 
 -- RSNSP, Full40
-unfoldable pub capacityOf : List ℕ → Capacity
+abbrev pub capacityOf : List ℕ → Capacity
 capacityOf block = record { rsnsp = byteAt block 0x69; full40 = joinedAt block 0x6a 0x6b }
 
 -- the slopes of a line, which stand from segment 4 to 1
-abbrev pub slopesFrom : List ℕ → ℕ → Slopes
-slopesFrom block address = record {
+abbrev pub slopesOf : List ℕ → ℕ → Slopes
+slopesOf block address = record {
   s4 = byteAt block address;
   s3 = byteAt block (address + 1);
   s2 = byteAt block (address + 2);
@@ -62,11 +62,11 @@ slopesFrom block address = record {
 }
 
 -- the breakpoints, byte 68h and the slopes of Full, AE and SE
-unfoldable pub curvesOf : List ℕ → Curves
+abbrev pub curvesOf : List ℕ → Curves
 curvesOf block = record {
   breaks = record { b34 = signedAt block 0x7c; b23 = signedAt block 0x7d; b12 = signedAt block 0x7e };
   start = byteAt block 0x68;
-  full = slopesFrom block 0x6c;
-  ae = slopesFrom block 0x70;
-  se = slopesFrom block 0x74;
+  full = slopesOf block 0x6c;
+  ae = slopesOf block 0x70;
+  se = slopesOf block 0x74;
 }

@@ -1,7 +1,7 @@
 // The parameters, out of the shadow bytes of block 1.
 ghost use mathlib.Core.Path.{_≡_};
 ghost use Prim.Native.Nat.{_+_, _≤_};
-ghost use Rattle.params.specs.Params.{rnaopOf, countingOf, limitsOf, capacityOf, curvesOf, slopesFrom};
+ghost use Rattle.params.specs.Params.{rnaopOf, countingOf, limitsOf, capacityOf, curvesOf, slopesOf};
 
 // NBEN, AB, AC and COB.
 pub struct Counting {
@@ -47,71 +47,81 @@ pub struct Curves {
     pub se: Slopes,
 }
 
-pub fn rnaop(b: [u8; 32]) -> bool
-    ensures { λ r. ⌜ r ≡ rnaopOf b ⌝ }
+pub fn rnaop(b: &[u8; 32]) -> bool
+    ensures { λ r. ⌜ r ≡ rnaopOf (now (b .entry)) ⌝ }
 {
     b[0] / 16 % 2 == 1
 }
 
-pub fn counting_from(b: [u8; 32]) -> Counting
-    ensures { λ r. ⌜ r ≡ countingOf b ⌝ }
-{
-    Counting {
-        nben: 128 <= b[0],
-        ab: numbers::offset8(b[1]),
-        ac: numbers::joined(b[2], b[3]),
-        cob: numbers::offset8(b[27]),
+impl Counting {
+    pub fn of(b: &[u8; 32]) -> Counting
+        ensures { λ r. ⌜ r ≡ countingOf (now (b .entry)) ⌝ }
+    {
+        Counting {
+            nben: 128 <= b[0],
+            ab: numbers::offset8(b[1]),
+            ac: numbers::joined(b[2], b[3]),
+            cob: numbers::offset8(b[27]),
+        }
     }
 }
 
-pub fn limits_from(b: [u8; 32]) -> Limits
-    ensures { λ r. ⌜ r ≡ limitsOf b ⌝ }
-{
-    Limits {
-        vchg: b[4],
-        imin: b[5],
-        vae: b[6],
-        iae: b[7],
+impl Limits {
+    pub fn of(b: &[u8; 32]) -> Limits
+        ensures { λ r. ⌜ r ≡ limitsOf (now (b .entry)) ⌝ }
+    {
+        Limits {
+            vchg: b[4],
+            imin: b[5],
+            vae: b[6],
+            iae: b[7],
+        }
     }
 }
 
-pub fn capacity_from(b: [u8; 32]) -> Capacity
-    ensures { λ r. ⌜ r ≡ capacityOf b ⌝ }
-{
-    Capacity {
-        rsnsp: b[9],
-        full40: numbers::joined(b[10], b[11]),
+impl Capacity {
+    pub fn of(b: &[u8; 32]) -> Capacity
+        ensures { λ r. ⌜ r ≡ capacityOf (now (b .entry)) ⌝ }
+    {
+        Capacity {
+            rsnsp: b[9],
+            full40: numbers::joined(b[10], b[11]),
+        }
     }
 }
 
-fn slopes_at(b: [u8; 32], at: usize) -> Slopes
-    requires { ⌜ at ≤ 28 ⌝ }
-    ensures { λ r. ⌜ r ≡ slopesFrom b (0x60 + at) ⌝ }
-{
-    Slopes {
-        s4: b[at],
-        s3: b[at + 1],
-        s2: b[at + 2],
-        s1: b[at + 3],
+impl Slopes {
+    fn of(b: &[u8; 32], at: usize) -> Slopes
+        requires { ⌜ at ≤ 28 ⌝ }
+        ensures { λ r. ⌜ r ≡ slopesOf (now (b .entry)) (0x60 + at) ⌝ }
+    {
+        Slopes {
+            s4: b[at],
+            s3: b[at + 1],
+            s2: b[at + 2],
+            s1: b[at + 3],
+        }
     }
 }
 
-pub fn curves_from(b: [u8; 32]) -> Curves
-    ensures { λ r. ⌜ r ≡ curvesOf b ⌝ }
-{
-    let breaks = Breaks {
-        b34: numbers::offset8(b[28]),
-        b23: numbers::offset8(b[29]),
-        b12: numbers::offset8(b[30]),
-    };
-    let full = slopes_at(b, 12);
-    let ae = slopes_at(b, 16);
-    let se = slopes_at(b, 20);
-    Curves {
-        breaks: breaks,
-        start: b[8],
-        full: full,
-        ae: ae,
-        se: se,
+impl Curves {
+    pub fn of(b: &[u8; 32]) -> Curves
+        ensures { λ r. ⌜ r ≡ curvesOf (now (b .entry)) ⌝ }
+    {
+        let breaks = Breaks {
+            b34: numbers::offset8(b[28]),
+            b23: numbers::offset8(b[29]),
+            b12: numbers::offset8(b[30]),
+        };
+        let full = Slopes::of(b, 12);
+        let ae = Slopes::of(b, 16);
+        let se = Slopes::of(b, 20);
+        Curves {
+            breaks: breaks,
+            start: b[8],
+            full: full,
+            ae: ae,
+            se: se,
+        }
     }
 }

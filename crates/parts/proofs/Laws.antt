@@ -1,14 +1,17 @@
 -- What follows of `part`, `put` and the little-endian numbers, for the proofs of this crate and of those above it.
--- Assumes nothing.
 use mathlib.Core.Path.{_≡_, refl, sym, ap, _∙_}
+use mathlib.Core.Bool.{Bool, true, false}
+use mathlib.Core.Logic.{_⊎_, inl, inr, ⊎-elim}
 use mathlib.Core.List.{List, [], _∷_, _++_, append-assoc, append-nil}
-use Prim.Native.Nat.{ℕ, suc, _+_, _-_, _/_, _%_, _≤_, _<_}
-use native.Mathlib.Nat.{zero-add, add-zero, suc-add, add-suc}
+use Prim.Native.Nat.{ℕ, zero, suc, _+_, _-_, _/_, _%_, _≤_, _<_, min, max}
+use native.Mathlib.Nat.{zero-add, add-zero, suc-add, add-suc, sub-zero}
 use native.Mathlib.Numerals.{add-one}
 use native.Mathlib.Omega.{arith}
-use lib.ListN.{length, getD, take, drop, set, length-append, length-drop, drop-of-length-le}
-use lib.Seq.{sets-eq, length-sets, drop-cons, take-all, take-at, drop-at, drop-drop, length-take-le}
-use Rattle.parts.specs.Parts.{part, put, pairAt}
+use lib.Dec.{eqb, leb}
+use lib.ListN.{length, getD, take, drop, set, length-append, length-take, length-drop, length-set, drop-of-length-le}
+use lib.Seq.{sets-eq, length-sets, drop-cons, drop-length, take-all, take-nil, take-at, drop-at, drop-drop, length-take-le, getD-set-same, getD-set-other, getD-take, getD-drop}
+use borrow.Author.Tests.{eqb-true, eqb-false, leb-true, leb-false}
+use Rattle.parts.specs.Parts.{part, put, laidOf, pairAt}
 
 -- What `put` means
 
@@ -92,6 +95,123 @@ back-length l x i h e =
     let d : length (drop (length l - i) (drop i l)) ≡ 0 = length-drop (length l - i) (drop i l) ∙ omega (arith, length-drop i l) in
     length-append (take i l) (x ++ drop (length l - i) (drop i l))
     ∙ omega (arith, length-append x (drop (length l - i) (drop i l)), length-take-le i l h)
+
+-- A part up to the end
+
+-- nothing is past the end
+pub drop-lower : (i : ℕ) (s : List ℕ) → drop (min i (length s)) s ≡ drop i s
+drop-lower i s = go (leb i (length s)) refl
+  where
+    go : (t : Bool) → leb i (length s) ≡ t → drop (min i (length s)) s ≡ drop i s
+    go true e = let f : min i (length s) ≡ i = omega (arith, leb-true i (length s) e) in rw f refl
+    go false e =
+        let f : min i (length s) ≡ length s = omega (arith, leb-false i (length s) e) in
+        rw f (drop-length s ∙ sym (drop-of-length-le s {i = i} (omega (arith, leb-false i (length s) e))))
+
+-- Bytes laid over an array
+
+-- an index before what was put, or behind it, has what it had
+put-other : (l : List ℕ) (i : ℕ) (vs : List ℕ) (j d : ℕ) → (j < i) ⊎ (i + length vs ≤ j) → getD (put l i vs) j d ≡ getD l j d
+put-other l i [] j d h = refl
+put-other l i (v ∷ vs) j d h =
+    put-other (set l i v) (suc i) vs j d (⊎-elim (λ e. inl (omega arith)) (λ e. inr (omega arith)) h)
+    ∙ getD-set-other l i j v d (λ e. ⊎-elim (λ f. omega arith) (λ f. omega arith) h)
+
+-- any other index has what was put there
+put-same : (l : List ℕ) (i : ℕ) (vs : List ℕ) (j d : ℕ) → j < length l → i ≤ j → j < i + length vs → getD (put l i vs) j d ≡ getD vs (j - i) d
+put-same l i [] j d inside low high = absurd (omega arith)
+put-same l i (v ∷ vs) j d inside low high =
+    go (eqb i j) refl (λ apart. put-same (set l i v) (suc i) vs j d (rw (length-set l i v) inside) (omega arith) (omega arith))
+  where
+    go : (t : Bool) → eqb i j ≡ t → (i < j → getD (put (set l i v) (suc i) vs) j d ≡ getD vs (j - suc i) d)
+        → getD (put (set l i v) (suc i) vs) j d ≡ getD (v ∷ vs) (j - i) d
+    go true e later =
+        let f : j ≡ i = sym (eqb-true i j e) in
+        let z : i - i ≡ 0 = omega arith in
+        rw (f, z) (put-other (set l i v) (suc i) vs i d (inl (omega arith)) ∙ getD-set-same l i v d (omega arith))
+    go false e later =
+        let apart : i < j = omega (arith, eqb-false i j e) in
+        let k : j - i ≡ suc (j - suc i) = omega arith in
+        rw k (later apart)
+
+module _ (low high : ℕ) (array : List ℕ) (a : ℕ) (bytes : List ℕ) where
+  -- where no byte falls into the array it stays
+  pub laid-none : min (a + length bytes) high ≤ max a low → laidOf low high array a bytes ≡ array
+  unfolding laidOf
+  laid-none h =
+      ap (put array (a - low))
+      (drop-of-length-le (take (high - a) bytes) {i = low - a} (rw (length-take (high - a) bytes) (omega arith)))
+
+  pub laid-length : length (laidOf low high array a bytes) ≡ length array
+  unfolding laidOf
+  laid-length = put-length array (a - low) (drop (low - a) (take (high - a) bytes))
+
+  module _ (i : ℕ) (inside : i < length array) (below : low + i < high) where
+    fallen : length (drop (low - a) (take (high - a) bytes)) ≡ min (high - a) (length bytes) - (low - a)
+    fallen = rw (length-drop (low - a) (take (high - a) bytes), length-take (high - a) bytes) refl
+
+    -- an address that the bytes reach has its byte of them
+    pub laid-reached : a ≤ low + i → low + i < a + length bytes → getD (laidOf low high array a bytes) i 0 ≡ getD bytes (low + i - a) 0
+    unfolding laidOf
+    laid-reached from to =
+        put-same array (a - low) (drop (low - a) (take (high - a) bytes)) i 0 inside (omega arith) (rw fallen (omega arith))
+        ∙ getD-drop (low - a) (take (high - a) bytes) (i - (a - low)) 0
+        ∙ ap (λ (k : ℕ). getD (take (high - a) bytes) k 0) at
+        ∙ getD-take (high - a) bytes (low + i - a) 0 (omega arith)
+      where
+        at : low - a + (i - (a - low)) ≡ low + i - a
+        at = omega arith
+
+    -- any other keeps what it had
+    pub laid-missed : (low + i < a) ⊎ (a + length bytes ≤ low + i) → getD (laidOf low high array a bytes) i 0 ≡ getD array i 0
+    unfolding laidOf
+    laid-missed h =
+        put-other array (a - low) (drop (low - a) (take (high - a) bytes)) i 0
+        (⊎-elim (λ e. inl (omega arith)) (λ (e : a + length bytes ≤ low + i). inr (rw fallen (omega arith))) h)
+
+-- an array of n bytes stands up to low + n
+pub laid-sized : (low : ℕ) (array : List ℕ) (a : ℕ) (bytes : List ℕ) {r : List ℕ} (n : ℕ) → length array ≡ n
+    → r ≡ laidOf low (low + length array) array a bytes → r ≡ laidOf low (low + n) array a bytes
+laid-sized low array a bytes n e h = h ∙ ap (λ (k : ℕ). laidOf low (low + k) array a bytes) e
+
+-- some of the first m bytes, taken out of all of them
+part-of-first : (s : List ℕ) (k n m : ℕ) → n + k ≡ min m (length s) → part n s k ≡ drop k (take m s)
+part-of-first s k n m e = go (leb m (length s)) refl
+  where
+    turned : (s : List ℕ) (k m : ℕ) → drop k (take m s) ≡ take (m - k) (drop k s)
+    turned s zero m = rw (sub-zero m) refl
+    turned [] (suc k) m = rw (take-nil {A = ℕ} m) (sym (take-nil (m - suc k)))
+    turned (x ∷ xs) (suc k) zero = let z : 0 - suc k ≡ 0 = omega arith in rw z refl
+    turned (x ∷ xs) (suc k) (suc m) = let e : suc m - suc k ≡ m - k = omega arith in rw e (turned xs k m)
+
+    go : (t : Bool) → leb m (length s) ≡ t → part n s k ≡ drop k (take m s)
+    go true f =
+        let h : n ≡ m - k = omega (arith, leb-true m (length s) f) in
+        rw h (sym (turned s k m))
+    go false f =
+        let rest = length-drop k s in
+        take-all n (drop k s) (omega (arith, leb-false m (length s) f))
+        ∙ ap (drop k) (sym (take-all m s (omega (arith, leb-false m (length s) f))))
+
+-- what a copy of the bytes from the first address that is in both up to the end of one of them leaves
+module _ (low high : ℕ) (array : List ℕ) (a : ℕ) (bytes : List ℕ) (first past : ℕ) where
+  pub laid-copied : first ≡ max a low → past ≡ min (a + length bytes) high → first < past
+      → put array (first - low) (part (past - a - (first - a)) bytes (first - a)) ≡ laidOf low high array a bytes
+  unfolding laidOf
+  laid-copied f p some =
+      rw (part-of-first bytes (first - a) (past - a - (first - a)) (high - a) (all (omega arith) ∙ upto p), start f, skip f) refl
+    where
+      start : first ≡ max a low → first - low ≡ a - low
+      start f = omega arith
+
+      skip : first ≡ max a low → first - a ≡ low - a
+      skip f = omega arith
+
+      all : first - a ≤ past - a → past - a - (first - a) + (first - a) ≡ past - a
+      all h = omega arith
+
+      upto : past ≡ min (a + length bytes) high → past - a ≡ min (high - a) (length bytes)
+      upto p = omega arith
 
 -- Little-endian numbers
 

@@ -1,7 +1,10 @@
--- The contracts of this crate's public functions leave no choice. Assumes nothing.
+-- The contracts of this crate's public functions leave no choice.
 use mathlib.Core.Path.{refl, sym, _∙_}
 use Rattle.once.specs.Once.{Once}
 use Rattle.parts.proofs.store
+use Rattle.parts.proofs.higher
+use Rattle.parts.proofs.lower
+use Rattle.parts.proofs.laid
 use Rattle.parts.proofs.eight
 use Rattle.parts.proofs.sixteen
 use Rattle.parts.proofs.thirty_two
@@ -15,6 +18,15 @@ use Rattle.parts.proofs.quad
 
 pub store-once : Once store.ended store.Reads.Pre store.Reads.Learnt
 store-once κs a r r′ w w′ p h h′ = (refl, λ i. (tt, ((h ∙ sym h′) i, (tt, tt))))
+
+pub higher-once : Once higher.ended higher.Reads.Pre higher.Reads.Learnt
+higher-once κs a r r′ w w′ p h h′ = (h ∙ sym h′, refl)
+
+pub lower-once : Once lower.ended lower.Reads.Pre lower.Reads.Learnt
+lower-once κs a r r′ w w′ p h h′ = (h ∙ sym h′, refl)
+
+pub laid-once : Once laid.ended laid.Reads.Pre laid.Reads.Learnt
+laid-once κs a r r′ w w′ p h h′ = (refl, λ i. ((h ∙ sym h′) i, (tt, (tt, (tt, tt)))))
 
 pub eight-once : Once eight.ended eight.Reads.Pre eight.Reads.Learnt
 eight-once κs a r r′ w w′ p h h′ = (h ∙ sym h′, refl)

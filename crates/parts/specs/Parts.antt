@@ -1,7 +1,7 @@
 -- Parts of a list of bytes, and little-endian numbers in it ("all house numbers are little-endian").
 use mathlib.Core.Path.{_≡_}
 use mathlib.Core.List.{List}
-use Prim.Native.Nat.{ℕ, _+_, _*_}
+use Prim.Native.Nat.{ℕ, _+_, _-_, _*_}
 use lib.ListN.{length, getD, take, drop}
 use lib.Seq.{sets}
 
@@ -12,6 +12,11 @@ part n s at = take n (drop at s)
 -- the list l with the bytes vs written over what it has from i on (`put-is` of proofs/Laws.antt says it in one line)
 abbrev pub put : List ℕ → ℕ → List ℕ → List ℕ
 put l i vs = sets l i vs
+
+-- an array that stands at the addresses from low up to high, high not in it, once bytes are written from the address a upward: those that fall
+-- into it are laid over it, the others are dropped. Nothing wraps
+unfoldable pub laidOf : ℕ → ℕ → List ℕ → ℕ → List ℕ → List ℕ
+laidOf low high array a bytes = put array (a - low) (drop (low - a) (take (high - a) bytes))
 
 -- an array of n bytes was written into a slice from the index at on. Its length is said for the proofs of callers, to which the array is a list
 pub record Stored (n : ℕ) (array before : List ℕ) (at : ℕ) (after : List ℕ) : Type 0 where

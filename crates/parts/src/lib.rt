@@ -1,8 +1,8 @@
 // Bytes in and out of slices: what every layer above copies and reads numbers with.
 ghost use mathlib.Core.Path.{_≡_};
-ghost use Prim.Native.Nat.{_+_, _<_, _≤_};
+ghost use Prim.Native.Nat.{_+_, _<_, _≤_, min, max};
 ghost use lib.ListN.{length};
-ghost use Rattle.parts.specs.Parts.{part, put, Stored, pairAt, quadAt};
+ghost use Rattle.parts.specs.Parts.{part, put, laidOf, Stored, pairAt, quadAt};
 
 // Writes src into dst from the index at on; the rest of dst stays.
 pub fn store(src: &[u8], dst: &mut [u8], at: usize)
@@ -13,6 +13,32 @@ pub fn store(src: &[u8], dst: &mut [u8], at: usize)
     while i < src.len() {
         dst[at + i] = src[i];
         i += 1;
+    }
+}
+
+pub fn higher(a: usize, b: usize) -> usize
+    ensures { λ r. ⌜ r ≡ max a b ⌝ }
+{
+    if a < b { b } else { a }
+}
+
+pub fn lower(a: usize, b: usize) -> usize
+    ensures { λ r. ⌜ r ≡ min a b ⌝ }
+{
+    if a < b { a } else { b }
+}
+
+// Lays the bytes that are written from the address a upward over an array that stands from the address low upward: those that fall into it.
+pub fn laid(array: &mut [u8], low: usize, a: usize, bytes: &[u8])
+    requires { ⌜ (low < 256) × (a < 256) ⌝ }
+    ensures { λ _. ⌜ now (array .exit) ≡ laidOf low (low + length (now (array .entry))) (now (array .entry)) a (now (bytes .entry)) ⌝ }
+{
+    let first = higher(a, low);
+    let past = lower(a + bytes.len(), low + array.len());
+    if first < past {
+        let from = first - a;
+        let to = past - a;
+        store(&bytes[from..to], array, first - low);
     }
 }
 

@@ -1,41 +1,27 @@
--- What the definitions keep: a charge is well-formed after step 3, and bounds of what is seen. Assumes nothing.
+-- What the definitions keep: a charge is well-formed after step 3, and bounds of what is seen.
 use mathlib.Core.Bool.{Bool}
-use Prim.Native.Nat.{ℕ, _^_, _≤_, _<_}
+use Prim.Native.Nat.{ℕ, _≤_}
 use native.Mathlib.Omega.{arith}
 use lib.Dec.{ltb}
-use Rattle.numbers.specs.Choice.{both, either, butNot}
+use Rattle.numbers.specs.Choice.{butNot}
 use Rattle.numbers.proofs.Bounds.{picked}
 use Rattle.params.specs.declared.Curves.{Curves}
 use Rattle.params.specs.declared.Limits.{Limits}
 use Rattle.charge.specs.declared.Charge.{Charge}
 use Rattle.charge.specs.Charge.{acrOf, ChargeWF}
+use Rattle.charge.proofs.Laws.{set-wf}
 use Rattle.model.proofs.Laws.{lines-full, lines-ae}
-use Rattle.reading.specs.Reading.{tempOf, degreesOf, emptiedOf, seenOf}
+use Rattle.reading.specs.Reading.{SeenWF, tempOf, degreesOf, emptiedOf, seenOf}
 
-pub emptied-wf : (g : Charge) (low point : Bool) (e : ℕ) → e ≤ 65535 → ChargeWF g → ChargeWF (emptiedOf g low point e)
+pub emptied-wf : (g : Charge) (holds point : Bool) (e : ℕ) → e ≤ 65535 → ChargeWF g → ChargeWF (emptiedOf g holds point e)
 unfolding emptiedOf
-emptied-wf g low point e h w =
-    record {
-      count =
-          picked (λ (x : ℕ). x < 2 ^ 28) (both low (either point (butNot (ltb e (acrOf (g .count))) (g .learnf)))) _ _
-          (λ d. omega arith) (λ d. w .count);
-      age = w .age;
-      low = w .low;
-      high = w .high;
-    }
+emptied-wf g holds point e h w =
+    picked ChargeWF holds g _ (λ d. w)
+    (λ d. picked ChargeWF point _ _ (λ d. set-wf g e (ltb 0 e) h w)
+    (λ d. picked ChargeWF (butNot (ltb e (acrOf (g .count))) (g .learnf)) _ g (λ d. set-wf g e (g .learnf) h w) (λ d. w)))
 
-pub seen-full : (p : Limits) (curves : Curves) (v t : ℕ) → seenOf p curves v t .lines .full ≤ 16384
+pub seen-wf : (p : Limits) (curves : Curves) (v t : ℕ) → SeenWF (seenOf p curves v t)
 unfolding seenOf
-seen-full p curves v t = lines-full curves (degreesOf (tempOf t))
-
-pub seen-ae : (p : Limits) (curves : Curves) (v t : ℕ) → seenOf p curves v t .lines .ae ≤ 8191
-unfolding seenOf
-seen-ae p curves v t = lines-ae curves (degreesOf (tempOf t))
-
-pub seen-volt : (p : Limits) (curves : Curves) (v t : ℕ) → seenOf p curves v t .volt ≤ 1023
-unfolding seenOf
-seen-volt p curves v t = omega arith
-
-pub seen-temp : (p : Limits) (curves : Curves) (v t : ℕ) → seenOf p curves v t .temp < 2 ^ 11
-unfolding seenOf
-seen-temp p curves v t = omega arith
+seen-wf p curves v t =
+    let degrees = degreesOf (tempOf t) in
+    record { volt = omega arith; temp = omega arith; full = lines-full curves degrees; ae = lines-ae curves degrees }

@@ -1,15 +1,15 @@
--- The contracts of this crate's public functions leave no choice. Assumes nothing.
+-- The contracts of this crate's public functions leave no choice.
 use mathlib.Core.Path.{refl, sym, _∙_}
 use Rattle.once.specs.Once.{Once}
-use Rattle.reading.proofs.observed
+use Rattle.reading.proofs.Seen.of as seen
 use Rattle.reading.proofs.Reading.point
 use Rattle.reading.proofs.emptied
 use Rattle.reading.proofs.rated
-use Rattle.reading.proofs.Flags.shown
+use Rattle.reading.proofs.Flags.flagged
 use Rattle.reading.proofs.Saved.kept
 
-pub observed-once : Once observed.ended observed.Reads.Pre observed.Reads.Learnt
-observed-once κs a r r′ w w′ p h h′ = (h ∙ sym h′, refl)
+pub seen-once : Once seen.ended seen.Reads.Pre seen.Reads.Learnt
+seen-once κs a r r′ w w′ p h h′ = (h .0 ∙ sym (h′ .0), refl)
 
 pub point-once : Once point.ended point.Reads.Pre point.Reads.Learnt
 point-once κs a r r′ w w′ p h h′ = (h ∙ sym h′, refl)
@@ -20,8 +20,8 @@ emptied-once κs a r r′ w w′ p h h′ = (h ∙ sym h′, refl)
 pub rated-once : Once rated.ended rated.Reads.Pre rated.Reads.Learnt
 rated-once κs a r r′ w w′ p h h′ = (h ∙ sym h′, refl)
 
-pub shown-once : Once shown.ended shown.Reads.Pre shown.Reads.Learnt
-shown-once κs a r r′ w w′ p h h′ = (h ∙ sym h′, refl)
+pub flagged-once : Once flagged.ended flagged.Reads.Pre flagged.Reads.Learnt
+flagged-once κs a r r′ w w′ p h h′ = (h ∙ sym h′, refl)
 
 pub kept-once : Once kept.ended kept.Reads.Pre kept.Reads.Learnt
 kept-once κs a r r′ w w′ p h h′ = (h ∙ sym h′, refl)

@@ -1,6 +1,6 @@
 -- Reading, step by step: 1 and 3 to 6. Voltage and temperature come as z + 2^31, currents are kept as z + 2^15.
-use Prim.Native.Nat.{ℕ, _-_, _*_, _/_, _^_, min}
-use mathlib.Core.Bool.{Bool, not}
+use Prim.Native.Nat.{ℕ, _-_, _*_, _/_, _^_, _≤_, _<_, min}
+use mathlib.Core.Bool.{Bool, true}
 use lib.Dec.{ltb, leb, eqb}
 use Rattle.numbers.specs.Choice.{pick, both, either, butNot}
 use Rattle.numbers.specs.Offset.{zeroAt}
@@ -9,7 +9,7 @@ use Rattle.params.specs.declared.Limits.{Limits}
 use Rattle.params.specs.declared.Capacity.{Capacity}
 use Rattle.charge.specs.declared.Charge.{Charge}
 use Rattle.charge.specs.declared.Trace.{Trace}
-use Rattle.charge.specs.Charge.{acrOf, agedFullOf}
+use Rattle.charge.specs.Charge.{acrOf, setOf, agedFullOf}
 use Rattle.model.specs.declared.Model.{Model}
 use Rattle.model.specs.Model.{linesOf}
 use Rattle.reading.specs.declared.Results.{Results}
@@ -50,14 +50,12 @@ drainingOf t iae = both (both (t .any) (t .two)) (both (drainsOf (t .last) iae) 
 unfoldable pub pointOf : Reading → Trace → Limits → Bool
 pointOf previous t p = both (both (previous .known) (holdsOf (previous .volt) (p .vae))) (drainingOf t (p .iae))
 
--- ACR = E, fraction 0: at the empty point, or with LEARNF 0 and ACR > E; LEARNF = (E > 0) at the empty point. Skipped where VOLT holds.
+-- at VOLT ≥ 4 × VAE this whole step is skipped. At the empty point ACR = E, fraction 0, LEARNF = (E > 0). Otherwise, with LEARNF 0 and ACR > E: ACR = E, fraction 0
 unfoldable pub emptiedOf : Charge → Bool → Bool → ℕ → Charge
-emptiedOf g low point e = record {
-  count = pick (both low (either point (butNot (ltb e (acrOf (g .count))) (g .learnf)))) (e * 4096) (g .count);
-  age = g .age;
-  aging = g .aging;
-  learnf = pick (both low point) (ltb 0 e) (g .learnf);
-}
+emptiedOf g holds point e =
+    pick holds g
+    (pick point (setOf g e (ltb 0 e))
+    (pick (butNot (ltb e (acrOf (g .count))) (g .learnf)) (setOf g e (g .learnf)) g))
 
 -- ---- step 4. With N ≤ 0 or D ≤ 0 the truncating difference is 0, and so is what is divided, or divided by 0
 
@@ -66,8 +64,8 @@ unfoldable pub leftOf : ℕ → ℕ → ℕ → ℕ
 leftOf acr empty full40 = 16384 * acr - empty * full40
 
 -- D = (AF - AE) × Full40
-unfoldable pub spanOf : ℕ → ℕ → ℕ → ℕ
-spanOf agedFull empty full40 = (agedFull - empty) * full40
+unfoldable pub usableOf : ℕ → ℕ → ℕ → ℕ
+usableOf agedFull empty full40 = (agedFull - empty) * full40
 
 -- RARC = 100 × N / D rounded down, at most 100
 unfoldable pub percentOf : ℕ → ℕ → ℕ
@@ -79,8 +77,8 @@ amountOf n rsnsp = n * rsnsp / 2 ^ 22
 
 unfoldable pub resultsOf : Model → ℕ → ℕ → Capacity → Results
 resultsOf l acr agedFull p = record {
-  rarc = percentOf (leftOf acr (l .ae) (p .full40)) (spanOf agedFull (l .ae) (p .full40));
-  rsrc = percentOf (leftOf acr (l .se) (p .full40)) (spanOf agedFull (l .se) (p .full40));
+  rarc = percentOf (leftOf acr (l .ae) (p .full40)) (usableOf agedFull (l .ae) (p .full40));
+  rsrc = percentOf (leftOf acr (l .se) (p .full40)) (usableOf agedFull (l .se) (p .full40));
   raac = amountOf (leftOf acr (l .ae) (p .full40)) (p .rsnsp);
   rsac = amountOf (leftOf acr (l .se) (p .full40)) (p .rsnsp);
 }
@@ -91,11 +89,11 @@ ratedOf g l p = resultsOf l (acrOf (g .count)) (agedFullOf (l .full) (g .aging))
 
 -- ---- step 5, and AEF of step 3
 
-unfoldable pub flagsOf : Flags → Bool → Results → Flags
-flagsOf f low r = record {
+unfoldable pub flaggedOf : Flags → Bool → Results → Flags
+flaggedOf f holds r = record {
   porf = f .porf;
   chgtf = butNot (f .chgtf) (ltb (r .rarc) 90);
-  aef = either low (butNot (f .aef) (ltb 5 (r .rarc)));
+  aef = pick holds (butNot (f .aef) (ltb 5 (r .rarc))) true;
   sef = either (ltb (r .rsrc) 10) (butNot (f .sef) (ltb 15 (r .rsrc)));
 }
 
@@ -113,11 +111,18 @@ keptOf s save g = record {
 
 -- ---- what a reading sees
 
+-- what holds of it
+pub record SeenWF (s : Seen) : Type 0 where
+  pub volt : s .volt ≤ 1023
+  pub temp : s .temp < 2 ^ 11
+  pub full : s .lines .full ≤ 16384
+  pub ae : s .lines .ae ≤ 8191
+
 -- steps 1 and 2, with the test of step 3
 unfoldable pub seenOf : Limits → Curves → ℕ → ℕ → Seen
 seenOf p curves v t = record {
   volt = voltOf v;
   temp = tempOf t;
-  low = not (holdsOf (voltOf v) (p .vae));
+  holds = holdsOf (voltOf v) (p .vae);
   lines = linesOf curves (degreesOf (tempOf t));
 }

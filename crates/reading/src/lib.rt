@@ -8,12 +8,7 @@ use params::Limits;
 ghost use mathlib.Core.Path.{_≡_};
 ghost use Prim.Native.Nat.{_*_, _≤_};
 ghost use Rattle.charge.specs.Charge.{ChargeWF};
-ghost use Rattle.reading.specs.Reading.{voltOf, tempOf, seenOf, drainingOf, pointOf, emptiedOf, leftOf, spanOf, percentOf, amountOf, resultsOf, ratedOf, flagsOf, keptOf};
-
-// What 0 is kept as: in a 32-bit count and in a current.
-const RAW_ZERO: u64 = 2147483648;
-
-const ZERO: u16 = 32768;
+ghost use Rattle.reading.specs.Reading.{SeenWF, voltOf, tempOf, seenOf, drainingOf, pointOf, emptiedOf, leftOf, usableOf, percentOf, amountOf, resultsOf, ratedOf, flaggedOf, keptOf};
 
 pub struct Results {
     pub rarc: u8,
@@ -42,40 +37,43 @@ pub struct Saved {
     pub aging: u8,
 }
 
-// What a reading sees: steps 1 and 2, and whether the voltage is below 4 × VAE.
+// What a reading sees: steps 1 and 2, and whether VOLT ≥ 4 × VAE.
 pub struct Seen {
     pub volt: u16,
     pub temp: u16,
-    pub low: bool,
+    pub holds: bool,
     pub lines: Model,
 }
 
 // Step 1.
-fn volt_of(raw: u32) -> u16
+fn volt(raw: u32) -> u16
     ensures { λ r. ⌜ r ≡ voltOf raw ⌝ }
 {
-    numbers::at_most(1023, numbers::less(raw as u64, RAW_ZERO)) as u16
+    numbers::at_most(1023, numbers::less(raw as u64, numbers::ZERO31 as u64)) as u16
 }
 
-fn temp_of(raw: u32) -> u16
+fn temp(raw: u32) -> u16
     ensures { λ r. ⌜ r ≡ tempOf raw ⌝ }
 {
-    numbers::at_most(2047, numbers::less(raw as u64, RAW_ZERO - 1024)) as u16
+    let lowest = (numbers::ZERO31 as u64) - (numbers::ZERO10 as u64);
+    numbers::at_most(2047, numbers::less(raw as u64, lowest)) as u16
 }
 
-// Steps 1 and 2, and the test of step 3.
-pub fn observed(p: Limits, curves: Curves, v: u32, t: u32) -> Seen
-    ensures { λ r. ⌜ r ≡ seenOf p curves v t ⌝ }
-{
-    let volt = volt_of(v);
-    let temp = temp_of(t);
-    let lines = model::lines(curves, (temp / 8) as u8);
-    let holds = 4 * (p.vae as u16) <= volt;
-    Seen {
-        volt: volt,
-        temp: temp,
-        low: !holds,
-        lines: lines,
+impl Seen {
+    // Steps 1 and 2, and the test of step 3.
+    pub fn of(p: Limits, curves: Curves, v: u32, t: u32) -> Seen
+        ensures { λ r. ⌜ r ≡ seenOf p curves v t ⌝ }
+        ensures kept { λ r. ⌜ SeenWF r ⌝ }
+    {
+        let volt = volt(v);
+        let temp = temp(t);
+        let lines = model::lines(curves, (temp / 8) as u8);
+        Seen {
+            volt: volt,
+            temp: temp,
+            holds: 4 * (p.vae as u16) <= volt,
+            lines: lines,
+        }
     }
 }
 
@@ -83,7 +81,7 @@ pub fn observed(p: Limits, curves: Curves, v: u32, t: u32) -> Seen
 fn draining(trace: Trace, iae: u8) -> bool
     ensures { λ r. ⌜ r ≡ drainingOf trace iae ⌝ }
 {
-    let top = ZERO - 128 * (iae as u16);
+    let top = numbers::ZERO15 - 128 * (iae as u16);
     let there = numbers::and(trace.any, trace.two);
     numbers::and(there, numbers::and(trace.last < top, trace.before < top))
 }
@@ -98,20 +96,20 @@ impl Reading {
     }
 }
 
-// Step 3: low says that the voltage is below 4 × VAE, point that the empty point is found, and e is E.
-pub fn emptied(g: Charge, low: bool, point: bool, e: u16) -> Charge
-    requires { ⌜ ChargeWF g ⌝ }
-    ensures { λ r. ⌜ r ≡ emptiedOf g low point e ⌝ }
+// Step 3: holds says that VOLT ≥ 4 × VAE, point that the empty point is found, and e is E.
+pub fn emptied(g: Charge, holds: bool, point: bool, e: u16) -> Charge
+    ensures { λ r. ⌜ r ≡ emptiedOf g holds point e ⌝ }
 {
-    let count = (e as u32) * 4096;
-    let over = numbers::and_not((e as u32) < g.count / 4096, g.learnf);
-    let cut = numbers::and(low, numbers::or(point, over));
-    Charge {
-        count: numbers::choose(cut, count, g.count),
-        age: g.age,
-        aging: g.aging,
-        learnf: numbers::choose_bool(numbers::and(low, point), 0 < e, g.learnf),
+    if holds {
+        return g;
     }
+    if point {
+        return g.set(e, 0 < e);
+    }
+    if numbers::and_not((e as u32) < g.count / 4096, g.learnf) {
+        return g.set(e, g.learnf);
+    }
+    g
 }
 
 // Step 4: N, or 0 where it is not above 0.
@@ -124,8 +122,8 @@ fn left(acr: u16, empty: u16, full40: u16) -> u32
 }
 
 // Step 4: D, or 0 where it is not above 0.
-fn span(af: u16, empty: u16, full40: u16) -> u32
-    ensures { λ r. ⌜ r ≡ spanOf af empty full40 ⌝ }
+fn usable(af: u16, empty: u16, full40: u16) -> u32
+    ensures { λ r. ⌜ r ≡ usableOf af empty full40 ⌝ }
 {
     (numbers::less(af as u64, empty as u64) as u32) * (full40 as u32)
 }
@@ -143,17 +141,19 @@ fn amount(n: u32, rsnsp: u8) -> u16
     ((n as u64) * (rsnsp as u64) / 4194304) as u16
 }
 
-// Step 4: the four results, of the lines, ACR and AF.
-fn results_of(lines: Model, acr: u16, af: u16, p: Capacity) -> Results
-    ensures { λ r. ⌜ r ≡ resultsOf lines acr af p ⌝ }
-{
-    let active = left(acr, lines.ae, p.full40);
-    let standby = left(acr, lines.se, p.full40);
-    Results {
-        rarc: percent(active, span(af, lines.ae, p.full40)),
-        rsrc: percent(standby, span(af, lines.se, p.full40)),
-        raac: amount(active, p.rsnsp),
-        rsac: amount(standby, p.rsnsp),
+impl Results {
+    // Step 4: the four results, of the lines, ACR and AF.
+    fn of(lines: Model, acr: u16, af: u16, p: Capacity) -> Results
+        ensures { λ r. ⌜ r ≡ resultsOf lines acr af p ⌝ }
+    {
+        let active = left(acr, lines.ae, p.full40);
+        let standby = left(acr, lines.se, p.full40);
+        Results {
+            rarc: percent(active, usable(af, lines.ae, p.full40)),
+            rsrc: percent(standby, usable(af, lines.se, p.full40)),
+            raac: amount(active, p.rsnsp),
+            rsac: amount(standby, p.rsnsp),
+        }
     }
 }
 
@@ -165,20 +165,20 @@ pub fn rated(g: Charge, lines: Model, p: Capacity) -> Results
 {
     let acr = (g.count / 4096) as u16;
     let af = charge::aged_full(lines.full, g.aging) as u16;
-    results_of(lines, acr, af, p)
+    Results::of(lines, acr, af, p)
 }
 
 impl Flags {
     // Step 5, and AEF of step 3.
-    pub fn shown(self, low: bool, r: Results) -> Flags
-        ensures { λ f. ⌜ f ≡ flagsOf self low r ⌝ }
+    pub fn flagged(self, holds: bool, r: Results) -> Flags
+        ensures { λ f. ⌜ f ≡ flaggedOf self holds r ⌝ }
     {
         let aef = numbers::and_not(self.aef, 5 < r.rarc);
         let sef = numbers::and_not(self.sef, 15 < r.rsrc);
         Flags {
             porf: self.porf,
             chgtf: numbers::and_not(self.chgtf, r.rarc < 90),
-            aef: numbers::or(low, aef),
+            aef: numbers::choose_bool(holds, aef, true),
             sef: numbers::or(r.rsrc < 10, sef),
         }
     }

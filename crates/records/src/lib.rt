@@ -1,19 +1,18 @@
 // Sessions: records in, an answer each, replies into one lent room; and the image taken out.
+use events::Change;
+use events::Event;
+use events::IMAGE_SIZE;
 use events::Refusal;
 use events::Taken;
+use runs::Outcome;
+use steps::Asked;
 use steps::Session;
 ghost use mathlib.Core.Path.{_≡_};
 ghost use Prim.Native.Nat.{_+_, _/_, _≤_};
 ghost use lib.ListN.{length};
-ghost use Rattle.steps.specs.Step.{SessionWF};
-ghost use Rattle.records.specs.Run.{emptyOf, codeOf, outcomeOf, idleOf, Running, Runs, TakenOut};
-
-// Run to its end; over 32,768 bytes; or too few lent answers.
-pub enum Outcome {
-    Done,
-    Over,
-    Short,
-}
+ghost use Rattle.runs.specs.Run.{Running, Runs};
+ghost use Rattle.steps.specs.Step.{SessionWF, didOf};
+ghost use Rattle.records.specs.Run.{emptyOf, resultOf, idleOf, TakenOut};
 
 // What a session did: the state at its end, how many lines it has, and how many bytes of reply.
 pub struct Ran {
@@ -28,7 +27,7 @@ pub fn empty() -> Session
     ensures { λ r. ⌜ r ≡ emptyOf ⌝ }
     ensures kept { λ r. ⌜ SessionWF r ⌝ }
 {
-    let zeros = [0u8; 60];
+    let zeros = [0u8; IMAGE_SIZE];
     let g = pack::image_in(&zeros);
     Session {
         loaded: false,
@@ -36,33 +35,62 @@ pub fn empty() -> Session
     }
 }
 
-// A line of the answers.
-fn code(kind: u16, answer: u8, replied: u16) -> u64
-    ensures { λ r. ⌜ r ≡ codeOf kind answer replied ⌝ }
-{
-    (kind as u64) + 65536 * (answer as u64) + 16777216 * (replied as u64)
-}
-
+// The match on the event stands in the loop itself, so that no state goes through a result.
 fn run_all(s: &[u8], room: &mut [u8], answers: &mut [u64]) -> Ran
     requires { ⌜ length (now s) ≤ 32768 ⌝ }
     requires { ⌜ (length (now s) + 3) / 4 ≤ length (now answers) ⌝ }
-    ensures { λ r. ⌜ Running (now (s .entry)) (now (room .entry)) (now (answers .entry)) r (now (room .exit)) (now (answers .exit)) ⌝ }
+    ensures { λ r. ⌜ Running didOf emptyOf (now (s .entry)) (now (room .entry)) (now (answers .entry)) (resultOf r) (now (room .exit)) (now (answers .exit)) ⌝ }
 {
-    let mut state = empty();
+    let start = empty();
+    let mut loaded = start.loaded;
+    let mut gauge = start.gauge;
     let mut at = 0;
     let mut used = 0;
     let mut lines = 0;
     while at < s.len() {
-        let r = steps::step(state, &s[at..], &mut room[used..]);
-        answers[lines] = code(r.kind, r.answer, r.replied);
-        state = r.session;
-        at = at + r.used;
-        used = used + (r.replied as usize);
+        let l = &s[at..];
+        let r = steps::front(l, loaded, room.len() - used);
+        let end = r.used;
+        let mut line = runs::code(r.kind, r.answer, 0);
+        let asked = r.event;
+        match asked {
+            Asked::Nothing => {}
+            Asked::Run(e) => {
+                loaded = true;
+                match e {
+                    Event::Image => {
+                        gauge = pack::image_in(&l[4..end]);
+                    }
+                    Event::Change(c) => match c {
+                        Change::Reading(volt, temp) => {
+                            gauge = gauge.read(volt, temp);
+                        }
+                        Change::Conversion(raw) => {
+                            gauge = gauge.convert(raw);
+                        }
+                        Change::PowerOn => {
+                            gauge = gauge.power_on();
+                        }
+                    },
+                    Event::Transact(t) => {
+                        let from = 4 + t.start as usize;
+                        gauge = gauge.transact(t, &l[from..end], &mut room[used..]);
+                        used = used + (t.count as usize);
+                        line = runs::code(r.kind, r.answer, t.count);
+                    }
+                }
+            }
+        }
+        answers[lines] = line;
+        at = at + end;
         lines = lines + 1;
     }
     Ran {
         outcome: Outcome::Done,
-        session: state,
+        session: Session {
+            loaded: loaded,
+            gauge: gauge,
+        },
         lines: lines,
         replied: used,
     }
@@ -84,15 +112,13 @@ fn idle(outcome: Outcome) -> Ran
 // A whole session: an answer for each record, the replies one after the other at the front of the room, the state at the end. Nothing
 // is run and nothing written where it is over 32,768 bytes, or where fewer answers are lent than it may have records.
 pub fn run(s: &[u8], room: &mut [u8], answers: &mut [u64]) -> Ran
-    ensures { λ r. ⌜ Runs (outcomeOf (now (s .entry)) (length (now (answers .entry)))) (now (s .entry)) (now (room .entry)) (now (answers .entry)) r (now (room .exit)) (now (answers .exit)) ⌝ }
+    ensures { λ r. ⌜ Runs didOf emptyOf (now (s .entry)) (now (room .entry)) (now (answers .entry)) (resultOf r) (now (room .exit)) (now (answers .exit)) ⌝ }
 {
-    if 32768 < s.len() {
-        return idle(Outcome::Over);
+    match runs::outcome_of(s.len(), answers.len()) {
+        Outcome::Done => run_all(s, room, answers),
+        Outcome::Over => idle(Outcome::Over),
+        Outcome::Short => idle(Outcome::Short),
     }
-    if answers.len() < (s.len() + 3) / 4 {
-        return idle(Outcome::Short);
-    }
-    run_all(s, room, answers)
 }
 
 // The image taken out of a session's state: its answer number, and the first 60 bytes of the room.

@@ -1,40 +1,61 @@
--- Laws of a reply as a list: it is written byte by byte at the front of a room. Assumes nothing.
+-- Laws of a reply as a list: it fills a room, first with FFh, then with what is laid over it.
 use mathlib.Core.Path.{_≡_, refl, sym, ap, _∙_}
-use mathlib.Core.List.{List, _∷_, _++_}
+use mathlib.Core.Bool.{Bool, true, false}
+use mathlib.Core.Logic.{inl, inr}
+use mathlib.Core.List.{List}
 use Prim.Native.Nat.{ℕ, zero, suc, _+_, _-_, _≤_, _<_}
 use native.Mathlib.Nat.{sub-zero}
 use native.Mathlib.Numerals.{add-one}
 use native.Mathlib.Omega.{arith}
-use lib.ListN.{length, drop, set, length-set}
-use Rattle.parts.specs.Parts.{put}
-use Rattle.parts.proofs.Laws.{put-front}
-use Rattle.replies.specs.Reply.{listed}
+use lib.Dec.{leb, ltb}
+use lib.ListN.{length, getD, set, length-set}
+use lib.Seq.{ext-getD}
+use borrow.Author.Tests.{le-leb, leb-true, leb-false, ltb-true, ltb-false}
+use Rattle.numbers.specs.Choice.{pick, both}
+use Rattle.parts.specs.Parts.{put, laidOf}
+use Rattle.parts.proofs.Laws.{put-whole, laid-length, laid-reached, laid-missed}
+use Rattle.meter.specs.declared.Meter.{Meter}
+use Rattle.label.specs.declared.Common.{Common}
+use Rattle.label.specs.declared.Label.{Label}
+use Rattle.label.specs.Label.{inLabel, inBlock, labelByte}
+use Rattle.map.specs.Registers.{registersOf, meterByte}
+use Rattle.map.proofs.Meaning.{registers-length}
+use Rattle.replies.specs.Reply.{readByte, netByte, overOf, listed}
 
 pub listed-length : (f : ℕ → ℕ) (i n : ℕ) → length (listed f i n) ≡ n
 listed-length f i zero = refl
 listed-length f i (suc n) = ap suc (listed-length f (i + 1) n)
 
-listed-same : (f g : ℕ → ℕ) → ((i : ℕ) → f i ≡ g i) → (i n : ℕ) → listed f i n ≡ listed g i n
-listed-same f g e i zero = refl
-listed-same f g e i (suc n) = rw (e i) (ap (λ (l : List ℕ). g i ∷ l) (listed-same f g e (i + 1) n))
+pub listed-at : (f : ℕ → ℕ) (i n j : ℕ) → j < n → getD (listed f i n) j 0 ≡ f (i + j)
+listed-at f i zero j h = absurd (omega arith)
+listed-at f i (suc n) zero h = let e : i + 0 ≡ i = omega arith in rw e refl
+listed-at f i (suc n) (suc j) h = let e : i + 1 + j ≡ i + suc j = omega arith in listed-at f (i + 1) n j (omega arith) ∙ ap f e
 
--- a room that was filled with the values of f was filled with those of g
-pub filled-same : (f g : ℕ → ℕ) → ((i : ℕ) → f i ≡ g i) → (n : ℕ) (room after : List ℕ)
-    → after ≡ listed f 0 n ++ drop n room → after ≡ listed g 0 n ++ drop n room
-filled-same f g e n room after h = h ∙ ap (λ (l : List ℕ). l ++ drop n room) (listed-same f g e 0 n)
+-- the same values below n
+pub listed-same : (f g : ℕ → ℕ) (n : ℕ) → ((i : ℕ) → i < n → f i ≡ g i) → listed f 0 n ≡ listed g 0 n
+listed-same f g n e =
+    ext-getD 0 (listed f 0 n) (listed g 0 n) (listed-length f 0 n ∙ sym (listed-length g 0 n))
+    (λ i h. let b : i < n = omega (arith, listed-length f 0 n) in
+    let z : 0 + i ≡ i = omega arith in
+    listed-at f 0 n i b ∙ ap f z ∙ e i b ∙ sym (listed-at g 0 n i b ∙ ap g z))
 
--- where a loop stands that writes n values of f: what is still to be put, over what stands there now, is the whole
-pub record Filling (f : ℕ → ℕ) (n : ℕ) (room₀ room : List ℕ) (i : ℕ) : Type 0 where
-  pub within : i ≤ n
+-- ---- filled with the values of f, one by one: what is still to be put, over what stands there now, is the whole
+
+pub record Filling (f : ℕ → ℕ) (room₀ room : List ℕ) (i : ℕ) : Type 0 where
+  pub within : i ≤ length room₀
   pub same : length room ≡ length room₀
-  pub rest : put room i (listed f i (n - i)) ≡ put room₀ 0 (listed f 0 n)
+  pub rest : put room i (listed f i (length room₀ - i)) ≡ listed f 0 (length room₀)
 
-pub filling-start : (f : ℕ → ℕ) (n : ℕ) (room : List ℕ) → Filling f n room room 0
-filling-start f n room = record { within = omega arith; same = refl; rest = rw (sub-zero n) refl }
+pub filling-start : (f : ℕ → ℕ) (room : List ℕ) → Filling f room room 0
+filling-start f room = record {
+  within = omega arith;
+  same = refl;
+  rest = rw (sub-zero (length room)) (put-whole room (listed f 0 (length room)) (listed-length f 0 (length room)));
+}
 
-pub filling-more : (f : ℕ → ℕ) (n : ℕ) (room₀ room : List ℕ) (i b : ℕ) → Filling f n room₀ room i → i < n → b ≡ f i
-    → Filling f n room₀ (set room i b) (i + 1)
-filling-more f n room₀ room i b g h e =
+pub filling-more : (f : ℕ → ℕ) (room₀ room : List ℕ) (i b : ℕ) → Filling f room₀ room i → i < length room₀ → b ≡ f i → Filling f room₀ (set room i b) (i + 1)
+filling-more f room₀ room i b g h e =
+    let n = length room₀ in
     let k : n - i ≡ suc (n - (i + 1)) = omega arith in
     rw e
     (record {
@@ -43,10 +64,52 @@ filling-more f n room₀ room i b g h e =
       rest = sym (rw k (ap (λ (j : ℕ). put (set room i (f i)) j (listed f (i + 1) (n - (i + 1)))) (sym (add-one i)))) ∙ g .rest;
     })
 
-pub filling-end : (f : ℕ → ℕ) (n : ℕ) (room₀ room : List ℕ) (i : ℕ) → Filling f n room₀ room i → n ≤ i → n ≤ length room₀
-    → room ≡ listed f 0 n ++ drop n room₀
-filling-end f n room₀ room i g h fits =
-    let e : n - i ≡ 0 = omega arith in
+pub filling-end : (f : ℕ → ℕ) (room₀ room : List ℕ) (i : ℕ) → Filling f room₀ room i → length room₀ ≤ i → room ≡ listed f 0 (length room₀)
+filling-end f room₀ room i g h =
+    let e : length room₀ - i ≡ 0 = omega arith in
     sym (ap (λ (k : ℕ). put room i (listed f i k)) e) ∙ g .rest
-    ∙ put-front room₀ (listed f 0 n) (omega (arith, listed-length f 0 n))
-    ∙ ap (λ (k : ℕ). listed f 0 n ++ drop k room₀) (listed-length f 0 n)
+
+-- ---- laid over
+
+-- the byte i of a room from the address low upward, with the values of f, once bytes from the address a upward are laid over it
+abbrev pub laidByte : (ℕ → ℕ) → ℕ → ℕ → List ℕ → ℕ → ℕ
+laidByte f low a bytes i = pick (both (leb a (low + i)) (ltb (low + i) (a + length bytes))) (getD bytes (low + i - a) 0) (f i)
+
+pub laid-listed : (f : ℕ → ℕ) (n low : ℕ) (room : List ℕ) (a : ℕ) (bytes : List ℕ) {r : List ℕ} → room ≡ listed f 0 n
+    → r ≡ laidOf low (low + length room) room a bytes → r ≡ listed (laidByte f low a bytes) 0 n
+laid-listed f n low room a bytes e h =
+    let sized : length room ≡ n = ap length e ∙ listed-length f 0 n in
+    h ∙ ext-getD 0 _ (listed (laidByte f low a bytes) 0 n) (laid-length low (low + length room) room a bytes ∙ sized ∙ sym (listed-length _ 0 n))
+    (λ i b. let inside : i < length room = omega (arith, laid-length low (low + length room) room a bytes) in
+    at i inside (omega arith) ∙ sym (listed-at (laidByte f low a bytes) 0 n i (omega arith) ∙ ap (laidByte f low a bytes) (omega arith)))
+  where
+    at : (i : ℕ) → i < length room → i < n → getD (laidOf low (low + length room) room a bytes) i 0 ≡ laidByte f low a bytes i
+    at i inside below =
+        go (leb a (low + i)) refl (ltb (low + i) (a + length bytes)) refl
+        (ap (λ (l : List ℕ). getD l i 0) e ∙ listed-at f 0 n i below ∙ ap f (omega arith))
+      where
+        go : (s : Bool) → leb a (low + i) ≡ s → (t : Bool) → ltb (low + i) (a + length bytes) ≡ t → getD room i 0 ≡ f i
+            → getD (laidOf low (low + length room) room a bytes) i 0 ≡ pick (both s t) (getD bytes (low + i - a) 0) (f i)
+        go true s true t o = laid-reached low (low + length room) room a bytes i inside (omega arith) (leb-true a (low + i) s) (ltb-true (low + i) (a + length bytes) t)
+        go true s false t o = laid-missed low (low + length room) room a bytes i inside (omega arith) (inr (ltb-false (low + i) (a + length bytes) t)) ∙ o
+        go false s t u o = laid-missed low (low + length room) room a bytes i inside (omega arith) (inl (leb-false a (low + i) s)) ∙ o
+
+-- ---- the two replies that show something, over FFh
+
+-- the address
+pub net-listed : (address : List ℕ) (n : ℕ) (room : List ℕ) {r : List ℕ} → length address ≡ 8 → room ≡ listed (λ i. 0xff) 0 n
+    → r ≡ overOf 0 address 0 room → r ≡ listed (netByte address) 0 n
+net-listed address n room e idle h =
+    laid-listed (λ i. 0xff) n 0 room 0 address idle h ∙ listed-same _ (netByte address) n
+    (λ i b. let z : 0 + i ≡ i = omega arith in rw (z, sub-zero i, e, le-leb 0 i (omega arith)) refl)
+
+-- the map: what is laid last is asked for first
+pub read-listed : (k : Common) (l : Label) (m : Meter) (a n : ℕ) (room₁ room₂ room₃ room₄ : List ℕ) → length (m .cells .block .shadow) ≡ 32
+    → length (l .shadow) ≡ 16 → room₁ ≡ listed (λ i. 0xff) 0 n → room₂ ≡ overOf 0x60 (m .cells .block .shadow) a room₁
+    → room₃ ≡ overOf 0x00 (registersOf k m) a room₂ → room₄ ≡ overOf 0x20 (l .shadow) a room₃ → room₄ ≡ listed (λ i. readByte k l m (a + i)) 0 n
+unfolding readByte labelByte meterByte inLabel inBlock
+read-listed k l m a n room₁ room₂ room₃ room₄ block label e₁ e₂ e₃ e₄ =
+    let f₂ = laid-listed _ n a room₁ 0x60 (m .cells .block .shadow) e₁ e₂ in
+    let f₃ = laid-listed _ n a room₂ 0x00 (registersOf k m) f₂ e₃ in
+    laid-listed _ n a room₃ 0x20 (l .shadow) f₃ e₄ ∙ listed-same _ (λ i. readByte k l m (a + i)) n
+    (λ i b. rw (label, block, registers-length k m, sub-zero (a + i), le-leb 0 (a + i) (omega arith)) refl)

@@ -1,17 +1,18 @@
 // Whom a transaction selects, and the bytes that it is answered with.
-use blocks::Common;
-use blocks::Label;
 use bus::Command;
 use bus::Rom;
 use bus::Transaction;
+use label::Common;
+use label::Label;
+use meter::Block;
 use meter::Meter;
 ghost use mathlib.Core.Path.{_≡_};
 ghost use mathlib.Core.List.{_++_};
-ghost use Prim.Native.Nat.{_≤_, _<_};
+ghost use Prim.Native.Nat.{_+_, _≤_, _<_};
 ghost use lib.ListN.{length, drop};
 ghost use Rattle.meter.specs.State.{MeterWF};
-ghost use Rattle.replies.specs.Reply.{selectedOf, readFrom, netFrom, sourceBy, listed, replyBy};
-ghost use Rattle.replies.specs.View.{viewByte, viewed, netByte};
+ghost use Rattle.map.specs.Registers.{registersOf};
+ghost use Rattle.replies.specs.Reply.{selectedOf, readSourceOf, netSourceOf, replySourceOf, readByte, netByte, overOf, sourceByte, listed, repliedOf};
 
 // Where a reply's bytes come from: the net address, the map from an address on, or nowhere.
 pub enum Source {
@@ -22,17 +23,14 @@ pub enum Source {
 
 // ---- whom it selects
 
-// Whether the gauge with this common part is selected: by CCh, or by 55h and its own address.
-pub fn selected(k: Common, t: Transaction, master: &[u8]) -> bool
-    ensures { λ r. ⌜ r ≡ selectedOf k t (now (master .entry)) ⌝ }
+// Whether the gauge with this address is selected: by CCh, or by 55h and its own address.
+pub fn selected(address: [u8; 8], t: Transaction, master: &[u8]) -> bool
+    ensures { λ r. ⌜ r ≡ selectedOf address t (now (master .entry)) ⌝ }
 {
     let rom = t.rom;
     match rom {
         Rom::Skip => true,
-        Rom::Match => {
-            let address = k.address;
-            bus::own(address, master)
-        }
+        Rom::Match => bus::own(address, master),
         Rom::Net33 => false,
         Rom::Net39 => false,
         Rom::Quiet => false,
@@ -41,8 +39,8 @@ pub fn selected(k: Common, t: Transaction, master: &[u8]) -> bool
 
 // ---- where the reply comes from
 
-fn read_from(command: Command, a: u8) -> Source
-    ensures { λ r. ⌜ r ≡ readFrom command a ⌝ }
+fn read_source(command: Command, a: u8) -> Source
+    ensures { λ r. ⌜ r ≡ readSourceOf command a ⌝ }
 {
     match command {
         Command::Read => Source::Bytes(a),
@@ -54,8 +52,8 @@ fn read_from(command: Command, a: u8) -> Source
     }
 }
 
-fn net_from(rom: Rom, rnaop: bool) -> Source
-    ensures { λ r. ⌜ r ≡ netFrom rom rnaop ⌝ }
+fn net_source(rom: Rom, rnaop: bool) -> Source
+    ensures { λ r. ⌜ r ≡ netSourceOf rom rnaop ⌝ }
 {
     match rom {
         Rom::Net33 => {
@@ -77,99 +75,103 @@ fn net_from(rom: Rom, rnaop: bool) -> Source
 }
 
 // Where the reply of a gauge that is chosen or not comes from; RNAOP is in the shadow bytes of block 1.
-fn reply_from(shadow: [u8; 32], t: Transaction, chosen: bool) -> Source
-    ensures { λ r. ⌜ r ≡ sourceBy chosen shadow t ⌝ }
+fn reply_source(shadow: &[u8; 32], t: Transaction, chosen: bool) -> Source
+    ensures { λ r. ⌜ r ≡ replySourceOf chosen (now (shadow .entry)) t ⌝ }
 {
     if chosen {
         let command = t.command;
-        return read_from(command, t.address);
+        return read_source(command, t.address);
     }
     let rom = t.rom;
-    net_from(rom, params::rnaop(shadow))
+    net_source(rom, params::rnaop(shadow))
 }
 
-// ---- the reply
+// ---- the reply, which fills a room
 
-// The byte at the address a, of the arrays that a read can find: 00h to 1Fh, 20h to 2Fh and 60h to 7Fh. They are lent: a byte of a reply
-// moves none of them.
-fn view_byte(registers: &[u8; 32], label: &[u8; 16], block: &[u8; 32], a: usize) -> u8
-    ensures { λ r. ⌜ r ≡ viewByte (now (registers .entry)) (now (label .entry)) (now (block .entry)) a ⌝ }
+// FFh alone.
+fn idle(room: &mut [u8])
+    ensures { λ _. ⌜ now (room .exit) ≡ listed (λ i. 0xff) 0 (length (now (room .entry))) ⌝ }
+{
+    let mut i = 0;
+    while i < room.len() {
+        room[i] = 0xff;
+        i += 1;
+    }
+}
+
+// The address, then FFh.
+fn net_reply(address: [u8; 8], room: &mut [u8])
+    ensures { λ _. ⌜ now (room .exit) ≡ listed (netByte address) 0 (length (now (room .entry))) ⌝ }
+{
+    idle(room);
+    parts::laid(room, 0, 0, &address);
+}
+
+// What stands from 60h on, laid over a room that stands from the address a upward.
+fn block_laid(b: Block, a: usize, room: &mut [u8])
+    requires { ⌜ a < 256 ⌝ }
+    ensures { λ _. ⌜ now (room .exit) ≡ overOf 0x60 (b .shadow) a (now (room .entry)) ⌝ }
+    ensures sized { λ _. ⌜ length (b .shadow) ≡ 32 ⌝ }
+{
+    let block = b.shadow;
+    parts::laid(room, a, 0x60, &block);
+}
+
+// What stands from 20h on.
+fn label_laid(l: Label, a: usize, room: &mut [u8])
+    requires { ⌜ a < 256 ⌝ }
+    ensures { λ _. ⌜ now (room .exit) ≡ overOf 0x20 (l .shadow) a (now (room .entry)) ⌝ }
+    ensures sized { λ _. ⌜ length (l .shadow) ≡ 16 ⌝ }
+{
+    let label = l.shadow;
+    parts::laid(room, a, 0x20, &label);
+}
+
+// What stands from 00h on: the registers, which are worked out only where the room starts among them.
+fn registers_laid(k: Common, m: Meter, a: usize, room: &mut [u8])
+    requires { ⌜ MeterWF m ⌝ }
+    requires { ⌜ a < 256 ⌝ }
+    ensures { λ _. ⌜ now (room .exit) ≡ overOf 0x00 (registersOf k m) a (now (room .entry)) ⌝ }
 {
     if a < 0x20 {
-        return registers[a];
-    }
-    if blocks::in_label(a) {
-        let i = a - 0x20;
-        return label[i];
-    }
-    if blocks::in_block(a) {
-        let i = a - 0x60;
-        return block[i];
-    }
-    0xff
-}
-
-// n bytes of the map from the address a on, at the front of the room.
-fn read_reply(
-    registers: &[u8; 32],
-    label: &[u8; 16],
-    block: &[u8; 32],
-    a: usize,
-    n: usize,
-    room: &mut [u8],
-)
-    requires { ⌜ (a < 256) × (n < 65536) ⌝ }
-    requires { ⌜ n ≤ length (now room) ⌝ }
-    ensures { λ _. ⌜ now (room .exit) ≡ listed (viewed (now (registers .entry)) (now (label .entry)) (now (block .entry)) a) 0 n ++ drop n (now (room .entry)) ⌝ }
-{
-    let mut i = 0;
-    while i < n {
-        room[i] = view_byte(registers, label, block, a + i);
-        i += 1;
+        let registers = map::registers(k, m);
+        parts::laid(room, a, 0x00, &registers);
     }
 }
 
-fn net_byte(address: [u8; 8], shown: bool, i: usize) -> u8
-    ensures { λ r. ⌜ r ≡ netByte address shown i ⌝ }
+// The map from the address a upward.
+fn read_reply(k: Common, l: Label, m: Meter, a: usize, room: &mut [u8])
+    requires { ⌜ MeterWF m ⌝ }
+    requires { ⌜ a < 256 ⌝ }
+    ensures { λ _. ⌜ now (room .exit) ≡ listed (λ i. readByte k l m (a + i)) 0 (length (now (room .entry))) ⌝ }
 {
-    if shown {
-        if i < 8 {
-            return address[i];
+    idle(room);
+    block_laid(m.cells.block, a, room);
+    registers_laid(k, m, a, room);
+    label_laid(l, a, room);
+}
+
+fn filled(k: Common, l: Label, m: Meter, source: Source, room: &mut [u8])
+    requires { ⌜ MeterWF m ⌝ }
+    ensures { λ _. ⌜ now (room .exit) ≡ listed (sourceByte k l m source) 0 (length (now (room .entry))) ⌝ }
+{
+    match source {
+        Source::Address => {
+            let address = k.address;
+            net_reply(address, room)
         }
-        return 0xff;
-    }
-    0xff
-}
-
-// n bytes at the front of the room: the address where it is shown, and FFh.
-fn net_reply(address: [u8; 8], shown: bool, n: usize, room: &mut [u8])
-    requires { ⌜ n ≤ length (now room) ⌝ }
-    ensures { λ _. ⌜ now (room .exit) ≡ listed (netByte address shown) 0 n ++ drop n (now (room .entry)) ⌝ }
-{
-    let mut i = 0;
-    while i < n {
-        room[i] = net_byte(address, shown, i);
-        i += 1;
+        Source::Bytes(a) => read_reply(k, l, m, parts::wide(a), room),
+        Source::Idle => idle(room),
     }
 }
 
-// The reply of a gauge that is chosen or not goes to the front of the room, exactly the read count of bytes. What a read can find is worked
-// out once.
-pub fn reply(k: Common, l: Label, m: Meter, t: Transaction, chosen: bool, room: &mut [u8])
+// The reply of a gauge that is chosen or not goes to the front of the room, exactly the read count of bytes.
+pub fn replied(k: Common, l: Label, m: Meter, t: Transaction, chosen: bool, room: &mut [u8])
     requires { ⌜ MeterWF m ⌝ }
     requires { ⌜ t .count ≤ length (now room) ⌝ }
-    ensures { λ _. ⌜ now (room .exit) ≡ replyBy chosen k l m t ++ drop (t .count) (now (room .entry)) ⌝ }
+    ensures { λ _. ⌜ now (room .exit) ≡ repliedOf chosen k l m t ++ drop (t .count) (now (room .entry)) ⌝ }
 {
-    let address = k.address;
-    let block = m.block.shadow;
     let n = t.count as usize;
-    match reply_from(block, t, chosen) {
-        Source::Address => net_reply(address, true, n, room),
-        Source::Bytes(a) => {
-            let registers = map::registers(k, m);
-            let label = l.shadow;
-            read_reply(&registers, &label, &block, parts::wide(a), n, room)
-        }
-        Source::Idle => net_reply(address, false, n, room),
-    }
+    let source = reply_source(&m.cells.block.shadow, t, chosen);
+    filled(k, l, m, source, &mut room[..n]);
 }

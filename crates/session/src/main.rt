@@ -1,15 +1,18 @@
 // session: runs the session on standard input and prints an answer for each record
-use libc::STDIN_FILENO;
-use libc::STDOUT_FILENO;
-ghost use Prim.Native.Nat.{_≤_};
+use streams::Input;
+use streams::Said;
+use streams::Stream;
+ghost use mathlib.Core.List.{List};
+ghost use mathlib.Core.Path.{_≡_};
+ghost use Prim.Native.Nat.{ℕ, _≤_};
 ghost use lib.ListN.{length};
-ghost use Rattle.records.specs.Run.{outcomeOf, sessionOf};
-ghost use Rattle.text.specs.Text.{textOf, Reporting};
+ghost use Rattle.text.specs.Text.{Reporting};
+ghost use Rattle.streams.specs.Streams.{Front, Saying};
+ghost use Rattle.session.specs.Session.{sessionText, printedOf};
 
-// The text of a session, with 65,536 bytes of reply room and an answer for each record that 32,768 bytes can hold.
-fn answered(s: &[u8], out: &mut [u8]) -> usize
-    requires { ⌜ 262144 ≤ length (now out) ⌝ }
-    ensures { λ r. ⌜ Reporting (textOf (outcomeOf (now (s .entry)) 8192) (sessionOf (now (s .entry)) 65536)) (now (out .entry)) r (now (out .exit)) ⌝ }
+fn put_session(s: &[u8], out: &mut [u8]) -> usize
+    requires { ⌜ 270372 ≤ length (now out) ⌝ }
+    ensures { λ r. ⌜ Reporting (sessionText (now (s .entry))) (now (out .entry)) r (now (out .exit)) ⌝ }
 {
     let mut room = [0u8; 65536];
     let mut answers = [0u64; 8192];
@@ -20,11 +23,28 @@ fn answered(s: &[u8], out: &mut [u8]) -> usize
     text::report(outcome, &answers[..lines], &room[..replied], out)
 }
 
+// What the program says. A byte more than a session may have is enough to know of any input. (That the room keeps its length is said for `main`.)
+fn printed(input: &[u8; 32769], got: Input, room: &mut [u8; 270372]) -> Said
+    ensures { λ r. ⌜ ((s : List ℕ) → Front s (now (input .entry)) (got .count) → Saying (printedOf (got .failed) s) (now (room .entry)) r (now (room .exit))) ⌝ }
+    ensures { λ _. ⌜ 270372 ≡ length (now (room .exit)) ⌝ }
+{
+    if got.failed {
+        return streams::put_unread(b"session", room);
+    }
+    let n = streams::within(got.count, input);
+    let all: &[u8] = input;
+    let count = put_session(&all[..n], room);
+    let stream = Stream::Output;
+    Said {
+        stream: stream,
+        count: count,
+    }
+}
+
 fn main() {
-    // a byte more than a session may have is enough to know
     let mut input = [0u8; 32769];
-    let n = io::read_full(STDIN_FILENO, &mut input);
-    let mut out = [0u8; 262144];
-    let used = answered(&input[..n], &mut out);
-    io::write_all(STDOUT_FILENO, &out[..used]);
+    let got = streams::read_input(&mut input);
+    let mut room = [0u8; 270372];
+    let said = printed(&input, got, &mut room);
+    streams::say(b"session", said, &room);
 }

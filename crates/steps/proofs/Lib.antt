@@ -1,3 +1,3 @@
 pub mod Steps
-pub mod Bounds
+pub mod Fronts
 pub mod Unique

@@ -1,114 +1,92 @@
--- Laws of one record, over plain variables. Assumes nothing.
-use mathlib.Core.Path.{_≡_, refl, sym, ap, _∙_}
+-- Laws of one record: what is read off it, and how large its answer and its reply are.
+use mathlib.Core.Path.{_≡_, refl}
 use mathlib.Core.Bool.{Bool, true, false}
-use mathlib.Core.List.{List, _++_}
-use Prim.Native.Nat.{ℕ, _+_, _-_, _≤_}
+use mathlib.Core.List.{List}
+use Prim.Native.Nat.{ℕ, _+_, _-_, _≤_, _<_, zero-le}
 use native.Mathlib.Omega.{arith}
-use borrow.Author.Tests.{ltb-false, leb-true}
-use lib.Dec.{ltb, leb}
-use lib.ListN.{length, drop}
-use Rattle.numbers.specs.Choice.{pick}
+use borrow.Author.Tests.{ltb-false}
+use lib.Dec.{ltb}
+use lib.ListN.{length}
+use Rattle.numbers.proofs.Bounds.{picked}
 use Rattle.parts.specs.Parts.{part, pairAt}
-use Rattle.gauge.specs.Gauge.{GaugeWF}
+use Rattle.bus.specs.declared.Transaction.{Transaction}
+use Rattle.replies.proofs.Listed.{listed-length}
 use Rattle.gauge.specs.declared.Gauge.{Gauge}
+use Rattle.gauge.specs.Act.{replyOf}
 use Rattle.events.specs.declared.Refusal.{Refusal}
+use Rattle.events.specs.declared.Refusal.the-variants.{Kind, Size, Order, Address, Locks, Count, Room}
 use Rattle.events.specs.declared.Event.{Event}
+use Rattle.events.specs.declared.Event.the-variants.{Image, Change, Transact}
+use Rattle.events.specs.declared.Taken.{Taken}
 use Rattle.events.specs.declared.Taken.the-variants as taken
+use Rattle.events.specs.Record.{refusalNumber, numberOf, masterOf, takenOf, asksOf, fittedOf}
+use Rattle.runs.specs.Record.{Rec, whole, cut, wholeOf}
+use Rattle.runs.specs.Run.{Did}
+use Rattle.runs.proofs.Records.{rec-whole, size-whole, rec-cut, size-cut}
+use Rattle.runs.proofs.Lines.{Fits}
 use Rattle.steps.specs.declared.Session.{Session}
-use Rattle.steps.specs.declared.Applied.{Applied}
-use Rattle.steps.specs.Step.{whole, cut, wholeOf, recOf, sizeOf, SessionWF, Did, quiet, loadedWith, appliedOf, unmovedOf, eventDid, takenDid, didOf, kindOf, Doing, Stepping}
-use Rattle.events.specs.Record.{refusalNumber, takenNumber, takenOf}
+use Rattle.steps.specs.declared.Asked.the-variants as asked
+use Rattle.steps.specs.declared.Record.{Record}
+use Rattle.steps.specs.Step.{eventDid, takenDid, didOf, refusedOf, takenRead, frontOf}
 
--- ---- an event
+-- ---- what is read
 
--- an answer with no reply leaves the room as it was
-pub doing-quiet : {d : Did} {σ : Session} {n : ℕ} {room : List ℕ} {r : Applied} → r ≡ appliedOf σ n → d ≡ quiet σ n → SessionWF σ → Doing d room r room
-doing-quiet e f w = rw (e, f) (record { session = refl; answer = refl; replied = refl; rest = refl; kept = w })
+-- of a whole record, whose length says n
+pub read-whole : (l : List ℕ) (n kind : ℕ) → wholeOf l ≡ true → n ≡ pairAt l 0 → kind ≡ pairAt l 2 → (loaded : Bool) (room : ℕ)
+    → frontOf loaded room l ≡ takenRead kind (4 + n) (fittedOf room (takenOf kind loaded (part (4 + n - 4) l 4)))
+unfolding frontOf
+read-whole l n kind w en ek loaded room = rw (rec-whole l n kind w en ek, size-whole l n kind w en ek) refl
 
-pub doing-reply : {d : Did} {σ : Session} {reply room after : List ℕ} {n : ℕ} → d ≡ record { session = σ; answer = 0; reply = reply } → length reply ≡ n
-    → after ≡ reply ++ drop n room → SessionWF σ → Doing d room (record { session = σ; answer = 0; replied = n }) after
-doing-reply {reply = reply} {room = room} f l h w =
-    rw f (record { session = refl; answer = refl; replied = sym l; rest = h ∙ ap (λ (k : ℕ). reply ++ drop k room) (sym l); kept = w })
+-- of a cut one
+pub read-cut : (loaded : Bool) (room : ℕ) (l : List ℕ) → wholeOf l ≡ false → frontOf loaded room l ≡ refusedOf 0 2 (length l)
+unfolding frontOf
+read-cut loaded room l w = rw (rec-cut l w, size-cut l w) refl
 
-pub loaded-wf : {g : Gauge} → GaugeWF g → SessionWF (loadedWith g)
-loaded-wf w = record { gauge = w }
+-- what is handed back: of a refused record, and of an event
+module _ {kind used : ℕ} {t : Taken} where
+  pub read-refused : {x : Refusal} {m : ℕ} → t ≡ taken.Refused x → m ≡ numberOf t → refusedOf kind m used ≡ takenRead kind used t
+  read-refused et em = rw (em, et) refl
 
--- ---- a whole record
+  pub read-event : {e : Event} {m : ℕ} → t ≡ taken.Run e → m ≡ numberOf t
+      → _≡_ {A = Record} (record { event = asked.Run e; used = used; kind = kind; answer = m }) (takenRead kind used t)
+  read-event et em = rw (em, et) refl
 
-module _ (σ : Session) (l room : List ℕ) (n kind : ℕ) (w : wholeOf l ≡ true) (en : n ≡ pairAt l 0) (ek : kind ≡ pairAt l 2) where
-  -- the part that is lent to the kind's reader
-  abbrev payload : List ℕ
-  payload = part (4 + n - 4) l 4
+-- ---- the answer is a byte, and the reply fits the room that is left
 
-  rec-whole : recOf l ≡ whole kind payload
-  unfolding recOf
-  rec-whole =
-      let e : 4 + n - 4 ≡ n = omega arith in
-      rw (w, e, en, ek) refl
+pub reply-length : (g : Gauge) (t : Transaction) (master : List ℕ) → length (replyOf g t master) ≡ t .count
+unfolding replyOf
+reply-length g t master = listed-length _ 0 (t .count)
 
-  size-whole : sizeOf l ≡ 4 + n
-  unfolding sizeOf
-  size-whole = rw (w, en) refl
+pub refusal-small : (r : Refusal) → refusalNumber r < 256
+refusal-small Kind = omega arith
+refusal-small Size = omega arith
+refusal-small Order = omega arith
+refusal-small Address = omega arith
+refusal-small Locks = omega arith
+refusal-small Count = omega arith
+refusal-small Room = omega arith
 
-  did-whole : didOf σ (length room) (recOf l) ≡ takenDid σ (length room) payload (takenOf kind (σ .loaded) payload)
+record Small (room : ℕ) (d : Did Session) : Type 0 where
+  answer : d .answer < 256
+  reply : length (d .reply) ≤ room
+
+module _ (σ : Session) (room : ℕ) where
+  event-small : (p : List ℕ) (e : Event) → asksOf e ≤ room → Small room (eventDid σ p e)
+  event-small p Image h = record { answer = omega arith; reply = zero-le }
+  event-small p (Change c) h = record { answer = omega arith; reply = zero-le }
+  event-small p (Transact t) h = record { answer = omega arith; reply = omega (arith, reply-length (σ .gauge) t (masterOf t p)) }
+
+  taken-small : (p : List ℕ) (t : Taken) → Small room (takenDid σ p (fittedOf room t))
+  taken-small p (taken.Run e) =
+      picked (λ (t : Taken). Small room (takenDid σ p t)) (ltb room (asksOf e)) _ _
+      (λ full. record { answer = omega arith; reply = zero-le })
+      (λ fits. event-small p e (ltb-false room (asksOf e) fits))
+  taken-small p (taken.Refused r) = record { answer = refusal-small r; reply = zero-le }
+
+  did-small : (r : Rec) → Small room (didOf σ room r)
   unfolding didOf
-  did-whole = rw rec-whole refl
+  did-small (whole kind p) = taken-small p (takenOf kind (σ .loaded) p)
+  did-small cut = record { answer = omega arith; reply = zero-le }
 
-  pub step-event : {e : Event} {a : Applied} {after : List ℕ} → takenOf kind (σ .loaded) payload ≡ taken.Run e → Doing (eventDid σ (length room) payload e) room a after
-      → Stepping σ l room (record { session = a .session; kind = kind; answer = a .answer; used = 4 + n; replied = a .replied }) after
-  step-event {e} t d =
-      let f : didOf σ (length room) (recOf l) ≡ eventDid σ (length room) payload e = did-whole ∙ ap (takenDid σ (length room) payload) t in
-      record {
-        session = d .session ∙ sym (ap (λ (x : Did). x .session) f);
-        kind = sym (ap kindOf rec-whole);
-        answer = d .answer ∙ sym (ap (λ (x : Did). x .answer) f);
-        used = sym size-whole;
-        replied = d .replied ∙ sym (ap (λ (x : Did). length (x .reply)) f);
-        rest = d .rest ∙ sym (ap (λ (x : Did). x .reply ++ drop (length (x .reply)) room) f);
-        kept = d .kept;
-      }
-
-  pub step-refused : {x : Refusal} {m : ℕ} → takenOf kind (σ .loaded) payload ≡ taken.Refused x → m ≡ takenNumber (taken.Refused x) → SessionWF σ
-      → Stepping σ l room (unmovedOf σ kind m (4 + n)) room
-  step-refused {x} t a k =
-      let f : didOf σ (length room) (recOf l) ≡ quiet σ (refusalNumber x) = did-whole ∙ ap (takenDid σ (length room) payload) t in
-      record {
-        session = sym (ap (λ (y : Did). y .session) f);
-        kind = sym (ap kindOf rec-whole);
-        answer = a ∙ sym (ap (λ (y : Did). y .answer) f);
-        used = sym size-whole;
-        replied = sym (ap (λ (y : Did). length (y .reply)) f);
-        rest = sym (ap (λ (y : Did). y .reply ++ drop (length (y .reply)) room) f);
-        kept = k;
-      }
-
--- ---- a cut record
-
-pub step-cut : (σ : Session) (l room : List ℕ) → wholeOf l ≡ false → SessionWF σ
-    → Stepping σ l room (unmovedOf σ 0 2 (length l)) room
-unfolding recOf sizeOf didOf
-step-cut σ l room w k =
-    let e : recOf l ≡ cut = rw w refl in
-    let f : didOf σ (length room) (recOf l) ≡ quiet σ 2 = rw e refl in
-    record {
-      session = sym (ap (λ (y : Did). y .session) f);
-      kind = sym (ap kindOf e);
-      answer = sym (ap (λ (y : Did). y .answer) f);
-      used = sym (rw w refl);
-      replied = sym (ap (λ (y : Did). length (y .reply)) f);
-      rest = sym (ap (λ (y : Did). y .reply ++ drop (length (y .reply)) room) f);
-      kept = k;
-    }
-
--- a whole record has its header and its payload
-whole-cases : (a b : Bool) → pick a false b ≡ true → (a ≡ false) × (b ≡ true)
-whole-cases true b e = let z : _≡_ {A = ℕ} 0 1 = cc in absurd (omega arith)
-whole-cases false b e = (refl, e)
-
-pub whole-head : (l : List ℕ) → wholeOf l ≡ true → 4 ≤ length l
-unfolding wholeOf
-whole-head l e = ltb-false (length l) 4 (whole-cases (ltb (length l) 4) (leb (4 + pairAt l 0) (length l)) e .0)
-
-pub whole-end : (l : List ℕ) → wholeOf l ≡ true → 4 + pairAt l 0 ≤ length l
-unfolding wholeOf
-whole-end l e = leb-true (4 + pairAt l 0) (length l) (whole-cases (ltb (length l) 4) (leb (4 + pairAt l 0) (length l)) e .1)
+pub did-fits : Fits didOf
+did-fits = record { answer = λ σ room r. did-small σ room r .answer; reply = λ σ room r. did-small σ room r .reply }

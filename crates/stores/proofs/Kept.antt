@@ -1,103 +1,92 @@
--- What a written byte, a copy, a recall and a lock leave of block 1 and of the saved cells as it was. Assumes nothing.
+-- What a write, a copy and a recall leave of block 1 as it was, and what they leave of the whole meter where they are for other addresses.
+-- The saved cells and BL1 stay by the definitions alone.
 use mathlib.Core.Path.{_≡_, refl, _∙_}
 use mathlib.Core.Bool.{Bool, true, false}
-use Prim.Native.Nat.{ℕ, _-_}
-use lib.ListN.{set, length-set}
+use mathlib.Core.List.{List}
+use Prim.Native.Nat.{ℕ, _+_, _≤_, _<_, min, max}
+use native.Mathlib.Omega.{arith}
+use lib.ListN.{length}
+use borrow.Author.Tests.{lt-leb}
+use Rattle.numbers.specs.Choice.{butNot}
 use Rattle.numbers.proofs.Bounds.{picked}
+use Rattle.parts.proofs.Laws.{laid-none, laid-length}
 use Rattle.meter.specs.declared.Block.{Block}
-use Rattle.reading.specs.declared.Saved.{Saved}
 use Rattle.meter.specs.declared.Meter.{Meter}
-use Rattle.stores.specs.declared.Held.{Held}
-use Rattle.stores.specs.Stores.{statusWritten, acrWritten, asWritten, lockWritten, blockWritten, meterWritten, meterCopied, meterRecalled, blockLocked, lockUsed, BlockSized}
-use Rattle.stores.proofs.Laws.{written}
+use Rattle.label.specs.Label.{inLabel, inBlock}
+use Rattle.label.proofs.Kept.{but-none, or-none}
+use Rattle.stores.specs.Stores.{reachesOf, porfWrittenOf, acrWrittenOf, asWrittenOf, lockWrittenOf, blockWrittenOf, meterWrittenOf, blockCopiedOf, blockRecalledOf, meterCopiedOf, meterRecalledOf, meterLockedOf, BlockSized}
 
--- ---- a written byte reaches no more of block 1 than a byte of its shadow, where it is unlocked, and no saved cell
+module _ (b : Block) (locked : Bool) (a : ℕ) where
+  module _ (bytes : List ℕ) where
+    pub written-sized : BlockSized b → BlockSized (blockWrittenOf b locked a bytes)
+    unfolding blockWrittenOf
+    written-sized s =
+        picked BlockSized locked b _ (λ e. s) (λ e. record { shadow = laid-length 0x60 0x80 (b .shadow) a bytes ∙ s .shadow; eeprom = s .eeprom })
 
-module _ (h : Held) (m : Meter) (a b : ℕ) where
-  reached :
-      (P : Block → Bool → Saved → Type 0) →
-      P (m .block) (m .locks .bl1) (m .saved) →
-      (m .locks .bl1 ≡ false → P (record { shadow = set (m .block .shadow) (a - 0x60) b; eeprom = m .block .eeprom }) (m .locks .bl1) (m .saved)) →
-      P (meterWritten h m a b .block) (meterWritten h m a b .locks .bl1) (meterWritten h m a b .saved)
-  unfolding statusWritten acrWritten asWritten lockWritten blockWritten
-  reached P same byte =
-      let Q : Meter → Type 0 = λ n. P (n .block) (n .locks .bl1) (n .saved) in
-      written Q h m a b same (picked Q (h .any) _ m (λ e. same) (λ e. same)) same same
-      (picked Q (m .locks .bl1) m _ (λ e. same) byte) same
+    -- a write leaves the EEPROM, and of a locked block the shadow too
+    pub written-eeprom : blockWrittenOf b locked a bytes .eeprom ≡ b .eeprom
+    unfolding blockWrittenOf
+    written-eeprom = picked (λ (x : Block). x .eeprom ≡ b .eeprom) locked b _ (λ e. refl) (λ e. refl)
 
-  pub written-sized : BlockSized (m .block) → BlockSized (meterWritten h m a b .block)
-  written-sized s =
-      reached (λ block bl1 saved. BlockSized block) s
-      (λ e. record { shadow = length-set (m .block .shadow) (a - 0x60) b ∙ s .shadow; eeprom = s .eeprom })
+    pub written-locked : locked ≡ true → blockWrittenOf b locked a bytes ≡ b
+    unfolding blockWrittenOf
+    written-locked e = simp e
 
-  pub written-eeprom : meterWritten h m a b .block .eeprom ≡ m .block .eeprom
-  written-eeprom = reached (λ block bl1 saved. block .eeprom ≡ m .block .eeprom) refl (λ e. refl)
+    block-written-elsewhere : min (a + length bytes) 0x80 ≤ max a 0x60 → blockWrittenOf b locked a bytes ≡ b
+    unfolding blockWrittenOf
+    block-written-elsewhere h =
+        rw (laid-none 0x60 0x80 (b .shadow) a bytes h) (picked (λ (x : Block). x ≡ b) locked b b (λ e. refl) (λ e. refl))
 
-  pub written-locked : m .locks .bl1 ≡ true → meterWritten h m a b .block ≡ m .block
-  written-locked l = reached (λ block bl1 saved. block ≡ m .block) refl (λ e. cc)
+  pub copied-sized : BlockSized b → BlockSized (blockCopiedOf b locked a)
+  unfolding blockCopiedOf
+  copied-sized s = picked BlockSized (butNot (inBlock a) locked) _ b (λ e. record { shadow = s .shadow; eeprom = s .shadow }) (λ e. s)
 
-  pub written-lock : meterWritten h m a b .locks .bl1 ≡ m .locks .bl1
-  written-lock = reached (λ block bl1 saved. bl1 ≡ m .locks .bl1) refl (λ e. refl)
-
-  pub write-saved : meterWritten h m a b .saved ≡ m .saved
-  write-saved = reached (λ block bl1 saved. saved ≡ m .saved) refl (λ e. refl)
-
--- ---- copy, recall and lock
-
-module _ (m : Meter) where
-  pub copied-sized : BlockSized (m .block) → BlockSized (meterCopied m .block)
-  unfolding meterCopied
-  copied-sized s =
-      picked (λ (n : Meter). BlockSized (n .block)) (m .locks .bl1) m _ (λ e. s) (λ e. record { shadow = s .shadow; eeprom = s .shadow })
-
-  pub copied-locked : m .locks .bl1 ≡ true → meterCopied m ≡ m
-  unfolding meterCopied
+  -- a copy leaves a locked block
+  pub copied-locked : locked ≡ true → blockCopiedOf b locked a ≡ b
+  unfolding blockCopiedOf
   copied-locked e = simp e
 
-  pub copied-lock : meterCopied m .locks ≡ m .locks
-  unfolding meterCopied
-  copied-lock = picked (λ (n : Meter). n .locks ≡ m .locks) (m .locks .bl1) m _ (λ e. refl) (λ e. refl)
+  block-copied-elsewhere : inBlock a ≡ false → blockCopiedOf b locked a ≡ b
+  unfolding blockCopiedOf
+  block-copied-elsewhere e = rw (e, but-none locked) refl
 
-  pub copied-saved : meterCopied m .saved ≡ m .saved
-  unfolding meterCopied
-  copied-saved = picked (λ (n : Meter). n .saved ≡ m .saved) (m .locks .bl1) m _ (λ e. refl) (λ e. refl)
+module _ (b : Block) (a : ℕ) where
+  pub recalled-sized : BlockSized b → BlockSized (blockRecalledOf b a)
+  unfolding blockRecalledOf
+  recalled-sized s = picked BlockSized (inBlock a) _ b (λ e. record { shadow = s .eeprom; eeprom = s .eeprom }) (λ e. s)
 
-  pub recalled-sized : BlockSized (m .block) → BlockSized (meterRecalled m .block)
-  unfolding meterRecalled
-  recalled-sized s = record { shadow = s .eeprom; eeprom = s .eeprom }
+  -- a recall leaves the EEPROM
+  pub recalled-eeprom : blockRecalledOf b a .eeprom ≡ b .eeprom
+  unfolding blockRecalledOf
+  recalled-eeprom = picked (λ (x : Block). x .eeprom ≡ b .eeprom) (inBlock a) _ b (λ e. refl) (λ e. refl)
 
-  pub recalled-eeprom : meterRecalled m .block .eeprom ≡ m .block .eeprom
-  unfolding meterRecalled
-  recalled-eeprom = refl
+-- ---- elsewhere
 
-  pub recalled-lock : meterRecalled m .locks ≡ m .locks
-  unfolding meterRecalled
-  recalled-lock = refl
+missed : (a : ℕ) (bytes : List ℕ) (x : ℕ) → x < a → reachesOf a bytes x ≡ false
+unfolding reachesOf
+missed a bytes x h = rw (lt-leb a x h) refl
 
-  pub recalled-saved : meterRecalled m .saved ≡ m .saved
-  unfolding meterRecalled
-  recalled-saved = refl
+module _ (m : Meter) (a : ℕ) where
+  -- bytes for 20h..2Fh alone are for no register, and not for block 1
+  pub written-elsewhere : (bytes : List ℕ) → 0x20 ≤ a → a + length bytes ≤ 0x30 → meterWrittenOf m a bytes ≡ m
+  unfolding meterWrittenOf porfWrittenOf acrWrittenOf asWrittenOf lockWrittenOf
+  written-elsewhere bytes low high =
+      rw (missed a bytes 0x01 (omega arith), missed a bytes 0x10 (omega arith), missed a bytes 0x14 (omega arith), missed a bytes 0x1f (omega arith), block-kept bytes (omega arith))
+      refl
+    where
+      block-kept : (bytes : List ℕ) → a + length bytes ≤ 0x60 → blockWrittenOf (m .cells .block) (m .cells .locks .bl1) a bytes ≡ m .cells .block
+      block-kept bytes h = block-written-elsewhere (m .cells .block) (m .cells .locks .bl1) a bytes (omega arith)
 
-  pub locked-block : blockLocked m .block ≡ m .block
-  unfolding blockLocked
-  locked-block = refl
+  -- a copy or a recall at an address that is not of block 1
+  pub copied-elsewhere : inBlock a ≡ false → meterCopiedOf m a ≡ m
+  unfolding meterCopiedOf
+  copied-elsewhere e = rw (block-copied-elsewhere (m .cells .block) (m .cells .locks .bl1) a e) refl
 
-  pub locked-lock : blockLocked m .locks .bl1 ≡ true
-  unfolding blockLocked
-  locked-lock = refl
+  pub recalled-elsewhere : inBlock a ≡ false → meterRecalledOf m a ≡ m
+  unfolding meterRecalledOf blockRecalledOf
+  recalled-elsewhere e = simp e
 
-  pub locked-saved : blockLocked m .saved ≡ m .saved
-  unfolding blockLocked
-  locked-saved = refl
-
-  pub lock-used-block : lockUsed m .block ≡ m .block
-  unfolding lockUsed
-  lock-used-block = refl
-
-  pub lock-used-lock : lockUsed m .locks .bl1 ≡ m .locks .bl1
-  unfolding lockUsed
-  lock-used-lock = refl
-
-  pub lock-used-saved : lockUsed m .saved ≡ m .saved
-  unfolding lockUsed
-  lock-used-saved = refl
+  -- a lock at an address in no block
+  pub locked-elsewhere : inLabel a ≡ false → inBlock a ≡ false → meterLockedOf m a ≡ m
+  unfolding meterLockedOf
+  locked-elsewhere e f = rw (e, f, or-none (m .cells .locks .bl1) (m .cells .locks .lock)) refl

@@ -1,150 +1,110 @@
--- What a written byte does to the meter, and copy, recall and lock of block 1: what gauge events touch is a function of the meter.
-use Prim.Native.Nat.{ℕ, _-_, _*_, _/_, _%_}
+-- What a write, a copy, a recall and a lock do to the meter: what gauge events touch is a function of the meter.
+use Prim.Native.Nat.{ℕ, _+_, _-_, _/_, _%_}
 use mathlib.Core.Path.{_≡_}
-use mathlib.Core.Bool.{Bool, true, false}
-use lib.Dec.{eqb}
-use lib.ListN.{length, set}
-use Rattle.numbers.specs.Choice.{pick, both}
+use mathlib.Core.Bool.{Bool, false}
+use mathlib.Core.List.{List}
+use lib.Dec.{eqb, leb, ltb}
+use lib.ListN.{length, getD}
+use Rattle.numbers.specs.Choice.{pick, both, either, butNot}
 use Rattle.numbers.specs.Offset.{joinedOf}
+use Rattle.parts.specs.Parts.{laidOf}
+use Rattle.charge.specs.declared.Charge.{Charge}
+use Rattle.charge.specs.Charge.{setOf, withAs}
+use Rattle.reading.specs.declared.Flags.{Flags}
 use Rattle.meter.specs.declared.Block.{Block}
 use Rattle.meter.specs.declared.Locks.{Locks}
-use Rattle.charge.specs.declared.Charge.{Charge}
-use Rattle.reading.specs.declared.Flags.{Flags}
+use Rattle.meter.specs.declared.Cells.{Cells}
 use Rattle.meter.specs.declared.Meter.{Meter}
-use Rattle.meter.specs.State.{asIn}
-use Rattle.stores.specs.declared.Held.{Held}
-use Rattle.blocks.specs.Blocks.{inBlock}
+use Rattle.meter.specs.State.{asIn, withCells, withBlock, withLocks, withFlags}
+use Rattle.label.specs.Label.{inLabel, inBlock}
 
--- ---- a meter with one of its parts replaced
+-- ---- 6Ch: bytes written from the address a upward. A write runs upward and nothing wraps, so that it reaches each address at most once
 
-abbrev pub withBlock : Meter → Block → Meter
-withBlock m block = record {
-  block = block;
-  locks = m .locks;
-  charge = m .charge;
-  trace = m .trace;
-  average = m .average;
-  since = m .since;
-  model = m .model;
-  results = m .results;
-  reading = m .reading;
-  flags = m .flags;
-  saved = m .saved;
-}
+unfoldable pub reachesOf : ℕ → List ℕ → ℕ → Bool
+reachesOf a bytes x = both (leb a x) (ltb x (a + length bytes))
 
-abbrev pub withLocks : Meter → Locks → Meter
-withLocks m locks = record {
-  block = m .block;
-  locks = locks;
-  charge = m .charge;
-  trace = m .trace;
-  average = m .average;
-  since = m .since;
-  model = m .model;
-  results = m .results;
-  reading = m .reading;
-  flags = m .flags;
-  saved = m .saved;
-}
-
-abbrev pub withCharge : Meter → Charge → Meter
-withCharge m charge = record {
-  block = m .block;
-  locks = m .locks;
-  charge = charge;
-  trace = m .trace;
-  average = m .average;
-  since = m .since;
-  model = m .model;
-  results = m .results;
-  reading = m .reading;
-  flags = m .flags;
-  saved = m .saved;
-}
-
-abbrev pub withFlags : Meter → Flags → Meter
-withFlags m flags = record {
-  block = m .block;
-  locks = m .locks;
-  charge = m .charge;
-  trace = m .trace;
-  average = m .average;
-  since = m .since;
-  model = m .model;
-  results = m .results;
-  reading = m .reading;
-  flags = flags;
-  saved = m .saved;
-}
-
--- ---- writes
+-- the byte for an address that it reaches
+abbrev pub byteFor : ℕ → List ℕ → ℕ → ℕ
+byteFor a bytes x = getD bytes (x - a) 0
 
 abbrev pub bitIn : ℕ → ℕ → Bool
 bitIn b weight = eqb (b / weight % 2) 1
 
 -- 01h clears PORF if bit 1 is 0
-unfoldable pub statusWritten : Meter → ℕ → Meter
-statusWritten m b = withFlags m (record {
-  porf = both (m .flags .porf) (bitIn b 2);
-  chgtf = m .flags .chgtf;
-  aef = m .flags .aef;
-  sef = m .flags .sef;
-})
+unfoldable pub porfWrittenOf : Bool → ℕ → List ℕ → Bool
+porfWrittenOf porf a bytes = pick (reachesOf a bytes 0x01) (both porf (bitIn (byteFor a bytes 0x01) 2)) porf
 
--- 10h is held within its transaction
-unfoldable pub heldOf : Held → ℕ → ℕ → Held
-heldOf h a b = pick (eqb a 0x10) (record { any = true; high = b }) h
-
--- 11h after it sets ACR, clears the fraction and LEARNF; 11h without 10h is dropped
-unfoldable pub acrWritten : Held → Meter → ℕ → Meter
-acrWritten h m b =
-    pick (h .any)
-    (withCharge m (record { count = joinedOf (h .high) b * 4096; age = m .charge .age; aging = m .charge .aging; learnf = false }))
-    m
+-- 10h is held within its transaction and 11h after it sets ACR, clears the fraction and LEARNF. 11h without 10h is dropped: a write that
+-- starts at 11h does not reach 10h
+unfoldable pub acrWrittenOf : Charge → ℕ → List ℕ → Charge
+acrWrittenOf g a bytes =
+    pick (both (reachesOf a bytes 0x10) (reachesOf a bytes 0x11))
+    (setOf g (joinedOf (byteFor a bytes 0x10) (byteFor a bytes 0x11)) false)
+    g
 
 -- 14h is moved into 63..128
-unfoldable pub asWritten : Meter → ℕ → Meter
-asWritten m b =
-    withCharge m (record { count = m .charge .count; age = m .charge .age; aging = asIn b; learnf = m .charge .learnf })
+unfoldable pub asWrittenOf : Charge → ℕ → List ℕ → Charge
+asWrittenOf g a bytes = pick (reachesOf a bytes 0x14) (withAs g (asIn (byteFor a bytes 0x14))) g
 
 -- 1Fh takes bit 6 (LOCK) only
-unfoldable pub lockWritten : Meter → ℕ → Meter
-lockWritten m b = withLocks m (record { lock = bitIn b 64; bl1 = m .locks .bl1 })
+unfoldable pub lockWrittenOf : Bool → ℕ → List ℕ → Bool
+lockWrittenOf lock a bytes = pick (reachesOf a bytes 0x1f) (bitIn (byteFor a bytes 0x1f) 64) lock
 
 -- 60h..7Fh, unless locked
-unfoldable pub blockWritten : Meter → ℕ → ℕ → Meter
-blockWritten m a b =
-    pick (m .locks .bl1) m
-    (withBlock m (record { shadow = set (m .block .shadow) (a - 0x60) b; eeprom = m .block .eeprom }))
+unfoldable pub blockWrittenOf : Block → Bool → ℕ → List ℕ → Block
+blockWrittenOf b locked a bytes =
+    pick locked b (record { shadow = laidOf 0x60 0x80 (b .shadow) a bytes; eeprom = b .eeprom })
 
--- a byte written at an address that is not of the label; all else is dropped
-unfoldable pub meterWritten : Held → Meter → ℕ → ℕ → Meter
-meterWritten h m a b =
-    pick (eqb a 0x01) (statusWritten m b)
-    (pick (eqb a 0x11) (acrWritten h m b)
-    (pick (eqb a 0x14) (asWritten m b)
-    (pick (eqb a 0x1f) (lockWritten m b)
-    (pick (inBlock a) (blockWritten m a b) m))))
+abbrev pub cellsWrittenOf : Cells → ℕ → List ℕ → Cells
+cellsWrittenOf c a bytes = record {
+  block = blockWrittenOf (c .block) (c .locks .bl1) a bytes;
+  locks = record { lock = lockWrittenOf (c .locks .lock) a bytes; bl1 = c .locks .bl1 };
+  saved = c .saved;
+}
 
--- ---- copy: shadow to EEPROM, if unlocked
+abbrev pub flagsWrittenOf : Flags → ℕ → List ℕ → Flags
+flagsWrittenOf f a bytes = record { porf = porfWrittenOf (f .porf) a bytes; chgtf = f .chgtf; aef = f .aef; sef = f .sef }
 
-unfoldable pub meterCopied : Meter → Meter
-meterCopied m =
-    pick (m .locks .bl1) m (withBlock m (record { shadow = m .block .shadow; eeprom = m .block .shadow }))
+-- all else is dropped
+unfoldable pub meterWrittenOf : Meter → ℕ → List ℕ → Meter
+meterWrittenOf m a bytes = record {
+  cells = cellsWrittenOf (m .cells) a bytes;
+  charge = asWrittenOf (acrWrittenOf (m .charge) a bytes) a bytes;
+  flow = m .flow;
+  shown = withFlags (m .shown) (flagsWrittenOf (m .shown .flags) a bytes);
+}
 
--- ---- recall: EEPROM to shadow, locked or not
+-- ---- 48h and B8h at the address a
 
-unfoldable pub meterRecalled : Meter → Meter
-meterRecalled m = withBlock m (record { shadow = m .block .eeprom; eeprom = m .block .eeprom })
+-- shadow to EEPROM if it is block 1's, unless locked
+unfoldable pub blockCopiedOf : Block → Bool → ℕ → Block
+blockCopiedOf b locked a = pick (butNot (inBlock a) locked) (record { shadow = b .shadow; eeprom = b .shadow }) b
 
--- ---- lock: the block's lock bit is set and LOCK cleared
+-- EEPROM to shadow if it is block 1's, locked or not
+unfoldable pub blockRecalledOf : Block → ℕ → Block
+blockRecalledOf b a = pick (inBlock a) (record { shadow = b .eeprom; eeprom = b .eeprom }) b
 
-unfoldable pub blockLocked : Meter → Meter
-blockLocked m = withLocks m (record { lock = false; bl1 = true })
+-- a meter with another block 1
+abbrev pub reblockedOf : Meter → Block → Meter
+reblockedOf m block = withCells m (withBlock (m .cells) block)
 
--- of block 0: LOCK is the meter's, its lock bit is not
-unfoldable pub lockUsed : Meter → Meter
-lockUsed m = withLocks m (record { lock = false; bl1 = m .locks .bl1 })
+unfoldable pub meterCopiedOf : Meter → ℕ → Meter
+meterCopiedOf m a = reblockedOf m (blockCopiedOf (m .cells .block) (m .cells .locks .bl1) a)
+
+unfoldable pub meterRecalledOf : Meter → ℕ → Meter
+meterRecalledOf m a = reblockedOf m (blockRecalledOf (m .cells .block) a)
+
+-- ---- 6Ah at the address a: if LOCK is 1, the block's lock bit is set and LOCK cleared
+
+-- LOCK is the meter's, for block 0 too; the lock bit of block 0 is not
+abbrev pub locksLockedOf : Locks → ℕ → Locks
+locksLockedOf l a = record {
+  lock = butNot (l .lock) (either (inLabel a) (inBlock a));
+  bl1 = either (l .bl1) (both (l .lock) (inBlock a));
+}
+
+unfoldable pub meterLockedOf : Meter → ℕ → Meter
+meterLockedOf m a = withCells m (withLocks (m .cells) (locksLockedOf (m .cells .locks) a))
 
 -- ---- the size of block 1
 

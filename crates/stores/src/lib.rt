@@ -1,170 +1,193 @@
-// What a written byte does to the meter, and copy, recall and lock of block 1.
+// What a write, a copy, a recall and a lock do to the meter.
+use charge::Charge;
 use meter::Block;
+use meter::Cells;
+use meter::Locks;
 use meter::Meter;
 ghost use mathlib.Core.Path.{_≡_};
 ghost use mathlib.Core.Bool.{true};
-ghost use Rattle.numbers.specs.Choice.{pick};
+ghost use Prim.Native.Nat.{_<_};
+ghost use Rattle.charge.specs.Charge.{ChargeWF};
 ghost use Rattle.meter.specs.State.{MeterWF};
-ghost use Rattle.blocks.specs.Blocks.{inBlock};
-ghost use Rattle.stores.specs.Stores.{withBlock, heldOf, statusWritten, acrWritten, asWritten, lockWritten, blockWritten, meterWritten, meterCopied, meterRecalled, blockLocked, lockUsed};
+ghost use Rattle.stores.specs.Stores.{reachesOf, byteFor, porfWrittenOf, acrWrittenOf, asWrittenOf, lockWrittenOf, blockWrittenOf, cellsWrittenOf, meterWrittenOf, blockCopiedOf, blockRecalledOf, reblockedOf, meterCopiedOf, meterRecalledOf, locksLockedOf, meterLockedOf};
 
-// The byte written at 10h, held within its transaction.
-pub struct Held {
-    pub any: bool,
-    pub high: u8,
+// ---- 6Ch: bytes written from the address a upward
+
+// Whether they reach the address x.
+fn reaches(a: usize, bytes: &[u8], x: usize) -> bool
+    requires { ⌜ a < 256 ⌝ }
+    ensures { λ r. ⌜ r ≡ reachesOf a (now (bytes .entry)) x ⌝ }
+{
+    numbers::and(a <= x, x < a + bytes.len())
 }
 
-// ---- writes
+// The byte for an address that they reach.
+fn byte_for(a: usize, bytes: &[u8], x: usize) -> u8
+    requires { ⌜ reachesOf a (now bytes) x ≡ true ⌝ }
+    ensures { λ r. ⌜ r ≡ byteFor a (now (bytes .entry)) x ⌝ }
+{
+    bytes[x - a]
+}
 
 // 01h.
-fn status_written(mut m: Meter, b: u8) -> Meter
-    ensures { λ r. ⌜ r ≡ statusWritten m b ⌝ }
+fn porf_written(porf: bool, a: usize, bytes: &[u8]) -> bool
+    requires { ⌜ a < 256 ⌝ }
+    ensures { λ r. ⌜ r ≡ porfWrittenOf porf a (now (bytes .entry)) ⌝ }
 {
-    let porf = numbers::and(m.flags.porf, b / 2 % 2 == 1);
-    m.flags.porf = porf;
-    m
+    if reaches(a, bytes, 0x01) {
+        return numbers::and(porf, byte_for(a, bytes, 0x01) / 2 % 2 == 1);
+    }
+    porf
 }
 
-// 10h.
-pub fn held_after(h: Held, a: usize, b: u8) -> Held
-    ensures { λ r. ⌜ r ≡ heldOf h a b ⌝ }
+// 10h and 11h.
+fn acr_written(g: Charge, a: usize, bytes: &[u8]) -> Charge
+    requires { ⌜ a < 256 ⌝ }
+    requires { ⌜ ChargeWF g ⌝ }
+    ensures { λ r. ⌜ r ≡ acrWrittenOf g a (now (bytes .entry)) ⌝ }
+    ensures kept { λ r. ⌜ ChargeWF r ⌝ }
 {
-    if a == 0x10 {
-        Held { any: true, high: b }
-    } else {
-        h
+    if numbers::and(reaches(a, bytes, 0x10), reaches(a, bytes, 0x11)) {
+        let acr = numbers::joined(byte_for(a, bytes, 0x10), byte_for(a, bytes, 0x11));
+        return g.set(acr, false);
     }
-}
-
-// 11h.
-fn acr_written(h: Held, mut m: Meter, b: u8) -> Meter
-    ensures { λ r. ⌜ r ≡ acrWritten h m b ⌝ }
-{
-    if h.any {
-        let count = (numbers::joined(h.high, b) as u32) * 4096;
-        m.charge.count = count;
-        m.charge.learnf = false;
-        return m;
-    }
-    m
+    g
 }
 
 // 14h.
-fn as_written(mut m: Meter, b: u8) -> Meter
-    ensures { λ r. ⌜ r ≡ asWritten m b ⌝ }
+fn as_written(mut g: Charge, a: usize, bytes: &[u8]) -> Charge
+    requires { ⌜ a < 256 ⌝ }
+    requires { ⌜ ChargeWF g ⌝ }
+    ensures { λ r. ⌜ r ≡ asWrittenOf g a (now (bytes .entry)) ⌝ }
+    ensures kept { λ r. ⌜ ChargeWF r ⌝ }
 {
-    let aging = numbers::moved_into(63, 128, b as u64);
-    m.charge.aging = aging;
-    m
+    if reaches(a, bytes, 0x14) {
+        let aging = numbers::moved_into(63, 128, byte_for(a, bytes, 0x14) as u64);
+        g.aging = aging;
+    }
+    g
 }
 
 // 1Fh.
-fn lock_written(mut m: Meter, b: u8) -> Meter
-    ensures { λ r. ⌜ r ≡ lockWritten m b ⌝ }
+fn lock_written(lock: bool, a: usize, bytes: &[u8]) -> bool
+    requires { ⌜ a < 256 ⌝ }
+    ensures { λ r. ⌜ r ≡ lockWrittenOf lock a (now (bytes .entry)) ⌝ }
 {
-    let lock = b / 64 % 2 == 1;
-    m.locks.lock = lock;
-    m
-}
-
-// Block 1 replaced, unless it is locked.
-fn replaced(mut m: Meter, block: Block, locked: bool) -> Meter
-    ensures { λ r. ⌜ r ≡ pick locked m (withBlock m block) ⌝ }
-{
-    if locked {
-        return m;
+    if reaches(a, bytes, 0x1f) {
+        return byte_for(a, bytes, 0x1f) / 64 % 2 == 1;
     }
-    m.block = block;
-    m
+    lock
 }
 
 // 60h to 7Fh.
-fn block_written(m: Meter, a: usize, b: u8) -> Meter
-    requires { ⌜ inBlock a ≡ true ⌝ }
-    ensures { λ r. ⌜ r ≡ blockWritten m a b ⌝ }
+fn block_written(mut b: Block, locked: bool, a: usize, bytes: &[u8]) -> Block
+    requires { ⌜ a < 256 ⌝ }
+    ensures { λ r. ⌜ r ≡ blockWrittenOf b locked a (now (bytes .entry)) ⌝ }
 {
-    let i = a - 0x60;
-    let mut written = m.block;
-    written.shadow[i] = b;
-    replaced(m, written, m.locks.bl1)
+    if locked {
+        return b;
+    }
+    let mut shadow = b.shadow;
+    parts::laid(&mut shadow, 0x60, a, bytes);
+    b.shadow = shadow;
+    b
 }
 
-// The address decides.
-fn byte_written(h: Held, m: Meter, a: usize, b: u8) -> Meter
-    ensures { λ r. ⌜ r ≡ meterWritten h m a b ⌝ }
+fn cells_written(mut c: Cells, a: usize, bytes: &[u8]) -> Cells
+    requires { ⌜ a < 256 ⌝ }
+    ensures { λ r. ⌜ r ≡ cellsWrittenOf c a (now (bytes .entry)) ⌝ }
 {
-    if a == 0x01 {
-        return status_written(m, b);
-    }
-    if a == 0x11 {
-        return acr_written(h, m, b);
-    }
-    if a == 0x14 {
-        return as_written(m, b);
-    }
-    if a == 0x1f {
-        return lock_written(m, b);
-    }
-    if blocks::in_block(a) {
-        return block_written(m, a, b);
-    }
+    let block = block_written(c.block, c.locks.bl1, a, bytes);
+    let lock = lock_written(c.locks.lock, a, bytes);
+    c.block = block;
+    c.locks.lock = lock;
+    c
+}
+
+pub fn meter_written(mut m: Meter, a: usize, bytes: &[u8]) -> Meter
+    requires { ⌜ MeterWF m ⌝ }
+    requires { ⌜ a < 256 ⌝ }
+    ensures { λ r. ⌜ r ≡ meterWrittenOf m a (now (bytes .entry)) ⌝ }
+    ensures kept { λ r. ⌜ MeterWF r ⌝ }
+{
+    let cells = cells_written(m.cells, a, bytes);
+    let charge = as_written(acr_written(m.charge, a, bytes), a, bytes);
+    let porf = porf_written(m.shown.flags.porf, a, bytes);
+    m.cells = cells;
+    m.charge = charge;
+    m.shown.flags.porf = porf;
     m
 }
 
-// A byte at an address that is not of the label.
-pub fn meter_written(h: Held, m: Meter, a: usize, b: u8) -> Meter
-    requires { ⌜ MeterWF m ⌝ }
-    ensures { λ r. ⌜ r ≡ meterWritten h m a b ⌝ }
-    ensures kept { λ r. ⌜ MeterWF r ⌝ }
+// ---- 48h and B8h at the address a
+
+fn block_copied(mut b: Block, locked: bool, a: usize) -> Block
+    ensures { λ r. ⌜ r ≡ blockCopiedOf b locked a ⌝ }
 {
-    byte_written(h, m, a, b)
+    if numbers::and_not(label::in_block(a), locked) {
+        let shadow = b.shadow;
+        b.eeprom = shadow;
+    }
+    b
 }
 
-// ---- copy, recall and lock of block 1
-
-pub fn meter_copied(m: Meter) -> Meter
-    requires { ⌜ MeterWF m ⌝ }
-    ensures { λ r. ⌜ r ≡ meterCopied m ⌝ }
-    ensures kept { λ r. ⌜ MeterWF r ⌝ }
+fn block_recalled(mut b: Block, a: usize) -> Block
+    ensures { λ r. ⌜ r ≡ blockRecalledOf b a ⌝ }
 {
-    let shadow = m.block.shadow;
-    let copied = Block {
-        shadow: shadow,
-        eeprom: shadow,
-    };
-    replaced(m, copied, m.locks.bl1)
+    if label::in_block(a) {
+        let eeprom = b.eeprom;
+        b.shadow = eeprom;
+    }
+    b
 }
 
-// Locked or not.
-pub fn meter_recalled(m: Meter) -> Meter
+// A meter with another block 1.
+fn reblocked(mut m: Meter, block: Block) -> Meter
     requires { ⌜ MeterWF m ⌝ }
-    ensures { λ r. ⌜ r ≡ meterRecalled m ⌝ }
+    ensures { λ r. ⌜ r ≡ reblockedOf m block ⌝ }
     ensures kept { λ r. ⌜ MeterWF r ⌝ }
 {
-    let eeprom = m.block.eeprom;
-    let recalled = Block {
-        shadow: eeprom,
-        eeprom: eeprom,
-    };
-    replaced(m, recalled, false)
-}
-
-pub fn block_locked(mut m: Meter) -> Meter
-    requires { ⌜ MeterWF m ⌝ }
-    ensures { λ r. ⌜ r ≡ blockLocked m ⌝ }
-    ensures kept { λ r. ⌜ MeterWF r ⌝ }
-{
-    m.locks.lock = false;
-    m.locks.bl1 = true;
+    let mut cells = m.cells;
+    cells.block = block;
+    m.cells = cells;
     m
 }
 
-// LOCK is cleared by a lock of block 0.
-pub fn lock_used(mut m: Meter) -> Meter
+pub fn meter_copied(m: Meter, a: usize) -> Meter
     requires { ⌜ MeterWF m ⌝ }
-    ensures { λ r. ⌜ r ≡ lockUsed m ⌝ }
+    ensures { λ r. ⌜ r ≡ meterCopiedOf m a ⌝ }
     ensures kept { λ r. ⌜ MeterWF r ⌝ }
 {
-    m.locks.lock = false;
+    reblocked(m, block_copied(m.cells.block, m.cells.locks.bl1, a))
+}
+
+pub fn meter_recalled(m: Meter, a: usize) -> Meter
+    requires { ⌜ MeterWF m ⌝ }
+    ensures { λ r. ⌜ r ≡ meterRecalledOf m a ⌝ }
+    ensures kept { λ r. ⌜ MeterWF r ⌝ }
+{
+    reblocked(m, block_recalled(m.cells.block, a))
+}
+
+// ---- 6Ah at the address a
+
+fn locks_locked(l: Locks, a: usize) -> Locks
+    ensures { λ r. ⌜ r ≡ locksLockedOf l a ⌝ }
+{
+    let one = label::in_block(a);
+    Locks {
+        lock: numbers::and_not(l.lock, numbers::or(label::in_label(a), one)),
+        bl1: numbers::or(l.bl1, numbers::and(l.lock, one)),
+    }
+}
+
+pub fn meter_locked(mut m: Meter, a: usize) -> Meter
+    requires { ⌜ MeterWF m ⌝ }
+    ensures { λ r. ⌜ r ≡ meterLockedOf m a ⌝ }
+    ensures kept { λ r. ⌜ MeterWF r ⌝ }
+{
+    let locks = locks_locked(m.cells.locks, a);
+    m.cells.locks.lock = locks.lock;
+    m.cells.locks.bl1 = locks.bl1;
     m
 }

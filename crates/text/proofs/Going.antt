@@ -1,7 +1,7 @@
--- The loop of `put_lines`: where it stands after some lines, and how it comes there. Assumes nothing.
+-- The loop of `put_codes`: where it stands after some lines, and how it comes there.
 use mathlib.Core.Path.{_≡_, refl, sym, ap, _∙_}
 use mathlib.Core.Bool.{Bool, true, false}
-use mathlib.Core.List.{List, _∷_}
+use mathlib.Core.List.{List, [], _∷_}
 use Prim.Native.Nat.{ℕ, _+_, _-_, _*_, _≤_, _<_, min}
 use native.Mathlib.Numerals.{add-one}
 use native.Mathlib.Omega.{arith}
@@ -12,17 +12,18 @@ use lib.Seq.{drop-cons, drop-drop, take-all}
 use Rattle.parts.specs.Parts.{part}
 use Rattle.parts.proofs.Laws.{part-length}
 use Rattle.text.specs.Text.{codeKind, codeAnswer, codeReplied, codesText}
-use Rattle.line.specs.Line.{lineText, Writing}
-use Rattle.line.proofs.Laws.{kept, none, then, wider}
+use Rattle.digits.specs.Digits.{Writing}
+use Rattle.line.specs.Line.{lineText, startText, endText}
+use Rattle.digits.proofs.Laws.{kept, none, then, wider}
 
 -- i lines are written, with so much of the replies: whatever is written behind them as the rest makes the whole
 pub record Going (codes replies before : List ℕ) (at : ℕ) (room : List ℕ) (next used i : ℕ) : Type 0 where
   pub within : i ≤ length codes
   pub served : used ≤ length replies
   pub sized : length room ≡ length before
-  pub short : next ≤ at + (15 * i + 2 * used)
+  pub short : next ≤ at + (17 * i + 2 * used)
   pub whole : (m last : ℕ) (after : List ℕ) → Writing m (codesText (i + 1) (drop i codes) (drop used replies)) room next last after
-      → Writing (15 * i + 2 * used + m) (codesText 1 codes replies) before at last after
+      → Writing (17 * i + 2 * used + m) (codesText 1 codes replies) before at last after
 
 -- asking for more than a list has is asking for all of it
 take-drop-min : (k : ℕ) (l : List ℕ) (n : ℕ) → n ≡ min k (length l) → (take n l ≡ take k l) × (drop n l ≡ drop k l)
@@ -48,10 +49,13 @@ start codes replies before at = record {
 
 module _ {codes replies before : List ℕ} {at : ℕ} {room : List ℕ} {next used i : ℕ} (g : Going codes replies before at room next used i) where
   -- the line i + 1, with its part of the replies
-  pub more : {after : List ℕ} {last end : ℕ} → i < length codes → end ≡ used + min (codeReplied (getD codes i 0)) (length replies - used)
-      → Writing (15 + 2 * length (part (end - used) replies used)) (lineText (i + 1) (codeKind (getD codes i 0)) (codeAnswer (getD codes i 0)) (part (end - used) replies used)) room next last after
+  pub more : {mid after : List ℕ} {start last end : ℕ} → i < length codes → end ≡ used + min (codeReplied (getD codes i 0)) (length replies - used)
+      → Writing 15 (startText (i + 1) (codeKind (getD codes i 0)) (codeAnswer (getD codes i 0))) room next start mid
+      → Writing (2 + 2 * length (part (end - used) replies used)) (endText (part (end - used) replies used)) mid start last after
       → Going codes replies before at after last end (i + 1)
-  more {after} {last} {end} h e w =
+  more {mid} {after} {start} {last} {end} h e w₁ w₂ =
+      let w : Writing (17 + 2 * length (part (end - used) replies used)) (lineText (i + 1) (codeKind (getD codes i 0)) (codeAnswer (getD codes i 0)) (part (end - used) replies used)) room next last after
+      = wider (then w₁ w₂) (omega arith) in
       let asked = codeReplied (getD codes i 0) in
       let n : end - used ≡ min asked (length (drop used replies)) = omega (arith, length-drop used replies) in
       let fits : end ≤ length replies = omega (arith, g .served) in
@@ -66,9 +70,17 @@ module _ {codes replies before : List ℕ} {at : ℕ} {room : List ℕ} {next us
         sized = kept w ∙ g .sized;
         short = omega (arith, g .short, w .within, size, behind);
         whole = λ m l a v.
-            wider (g .whole (15 + 2 * length (part (end - used) replies used) + m) l a (rw (opened, ← cut .0, left) (then w v)))
+            wider (g .whole (17 + 2 * length (part (end - used) replies used) + m) l a (rw (opened, ← cut .0, left) (then w v)))
             (omega (arith, size, behind));
       }
 
-  pub ended : length codes ≤ i → Writing (15 * length codes + 2 * length replies) (codesText 1 codes replies) before at next room
+  -- the same without a reply
+  pub more-bare : {mid after : List ℕ} {start last : ℕ} → i < length codes → codeReplied (getD codes i 0) ≡ 0
+      → Writing 15 (startText (i + 1) (codeKind (getD codes i 0)) (codeAnswer (getD codes i 0))) room next start mid
+      → Writing 2 (endText []) mid start last after → Going codes replies before at after last used (i + 1)
+  more-bare h none w₁ w₂ =
+      let no : used - used ≡ 0 = omega arith in
+      more h (omega arith) w₁ (rw no (wider w₂ (omega arith)))
+
+  pub ended : length codes ≤ i → Writing (17 * length codes + 2 * length replies) (codesText 1 codes replies) before at next room
   ended h = wider (g .whole 0 next room (rw (drop-of-length-le codes h) (none room next))) (omega (arith, g .within, g .served))

@@ -1,4 +1,4 @@
--- When a text fits the room, and what is said of it then. Assumes nothing.
+-- When a text fits the room, and what is said of it then.
 use mathlib.Core.Path.{_≡_, refl, sym, _∙_}
 use mathlib.Core.Bool.{Bool, true, false}
 use mathlib.Core.List.{List}
@@ -10,9 +10,9 @@ use lib.Dec.{leb}
 use lib.ListN.{length}
 use lib.Seq.{length-take-le}
 use Rattle.numbers.specs.Choice.{both}
-use Rattle.line.specs.Line.{Writing}
-use Rattle.line.proofs.Laws.{kept}
-use Rattle.text.specs.Text.{mostOf, Fitting, fitsOf, Reporting}
+use Rattle.digits.specs.Digits.{Writing}
+use Rattle.digits.proofs.Laws.{kept}
+use Rattle.text.specs.Text.{mostOf, Held, fitsOf, Reporting}
 
 -- whether twice r fits behind a, tested without a product that could wrap
 pub half-test : (a r room : ℕ) → a ≤ room → leb r ((room - a) / 2) ≡ leb (a + 2 * r) room
@@ -23,12 +23,12 @@ half-test a r room h = by (leb r ((room - a) / 2)) refl
     by false e = sym (lt-leb (a + 2 * r) room (omega (arith, leb-false r ((room - a) / 2) e)))
 
 -- what the test says where it holds
-pub fits-room : (lines replied room : ℕ) → fitsOf lines replied room ≡ true → Fitting lines replied room
+pub fits-room : (lines replied room : ℕ) → fitsOf lines replied room ≡ true → Held lines replied room
 unfolding fitsOf
 fits-room lines replied room = by (leb lines 99999) refl
   where
-    by : (b : Bool) → leb lines 99999 ≡ b → both b (leb (mostOf lines replied) room) ≡ true → Fitting lines replied room
-    by true h e = record { numbered = leb-true lines 99999 h; held = leb-true (mostOf lines replied) room e }
+    by : (b : Bool) → leb lines 99999 ≡ b → both b (leb (mostOf lines replied) room) ≡ true → Held lines replied room
+    by true h e = record { numbered = leb-true lines 99999 h; fits = leb-true (mostOf lines replied) room e }
     by false h e = let z : _≡_ {A = ℕ} 0 1 = cc in absurd (omega arith)
 
 -- text written at the front is a report

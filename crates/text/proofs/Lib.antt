@@ -2,5 +2,4 @@ pub mod Laws
 pub mod Going
 pub mod Lines
 pub mod Printed
-pub mod Example
 pub mod Unique

@@ -1,12 +1,12 @@
--- The text of lines that are handed over as numbers and replies is the text of the lines. Assumes nothing.
+-- The text of lines that are handed over as numbers and replies is the text of the lines.
 use mathlib.Core.Path.{_≡_, refl}
 use mathlib.Core.List.{List, [], _∷_, _++_, append-assoc}
 use Prim.Native.Nat.{ℕ, _+_, _-_, _<_}
 use native.Mathlib.Omega.{arith}
 use lib.ListN.{length}
 use lib.Seq.{take-at, drop-at}
-use Rattle.records.specs.Run.{Line, codeOf, codesOf, repliesOf}
-use Rattle.records.proofs.Sessions.{AllCoded}
+use Rattle.runs.specs.Run.{Line, codeOf, codesOf, repliesOf}
+use Rattle.runs.proofs.Lines.{AllCoded}
 use Rattle.text.specs.Text.{codeKind, codeAnswer, codeReplied, linesText, codesText}
 
 code-kind : (kind answer replied : ℕ) → kind < 65536 → codeKind (codeOf kind answer replied) ≡ kind

@@ -1,4 +1,4 @@
--- What `report` writes of what `run` hands back is the text of the session. Assumes nothing.
+-- What `report` writes of what a run hands back is the text of its lines.
 use mathlib.Core.Path.{_≡_, refl, sym, ap, _∙_}
 use mathlib.Core.Bool.{Bool, true, false}
 use mathlib.Core.List.{List, [], _∷_, _++_, append-nil}
@@ -10,85 +10,79 @@ use lib.ListN.{length, take, length-take}
 use Rattle.numbers.specs.Choice.{pick}
 use Rattle.parts.specs.Parts.{put}
 use Rattle.parts.proofs.Laws.{put-length, put-read}
-use Rattle.records.specs.declared.Outcome.{Outcome}
-use Rattle.records.specs.declared.Outcome.the-variants.{Done, Over, Short}
-use Rattle.records.specs.declared.Ran.{Ran}
-use Rattle.records.specs.Run.{Line, codesOf, repliesOf, sessionOf, outcomeOf, Running, Runs}
+use Rattle.runs.specs.declared.Outcome.{Outcome}
+use Rattle.runs.specs.declared.Outcome.the-variants.{Done, Over, Short}
+use Rattle.runs.specs.Record.{Rec, recsOf}
+use Rattle.runs.specs.Run.{Did, Line, linesAfter, codesOf, repliesOf, Result, outcomeOf, Running, RunsTo, Runs}
+use Rattle.runs.proofs.Records.{Bytes}
+use Rattle.runs.proofs.Lines.{Fits, lines-coded, lines-few, lines-fit}
+use Rattle.runs.proofs.Ends.{done-within}
 use Rattle.text.specs.Text.{headerText, codedText, textOf, mostOf, fitsOf, reportOf}
 use Rattle.text.proofs.Lines.{codes-lines}
-use Rattle.steps.proofs.Bounds.{Bytes}
-use Rattle.records.proofs.Sessions.{session-coded, session-few, session-fits}
 
 -- as many numbers as lines
 codes-length : (ls : List Line) → length (codesOf ls) ≡ length ls
 codes-length [] = refl
 codes-length (l ∷ ls) = ap suc (codes-length ls)
 
--- a session that is run has answers enough
-enough : (s : List ℕ) (answers : ℕ) → outcomeOf s answers ≡ Done → (length s + 3) / 4 ≤ answers
-unfolding outcomeOf
-enough s answers = by (ltb 32768 (length s)) (ltb answers ((length s + 3) / 4)) refl
-  where
-    by : (a b : Bool) → ltb answers ((length s + 3) / 4) ≡ b → pick a Over (pick b Short Done) ≡ Done → (length s + 3) / 4 ≤ answers
-    by true b h e = let z : _≡_ {A = ℕ} 0 1 = cc in omega arith
-    by false true h e = let z : _≡_ {A = ℕ} 0 1 = cc in omega arith
-    by false false h e = omega (arith, ltb-false answers ((length s + 3) / 4) h)
-
 -- what was put at the front is taken out again
 front : (l vs : List ℕ) (n : ℕ) → n ≡ length vs → length vs ≤ length l → take n (put l 0 vs) ≡ vs
 front l vs n e h = rw e (put-read l 0 vs (omega arith))
 
-module _ (s room answers : List ℕ) (r : Ran) (after told : List ℕ) where
+module _ {S : Type 0} (did : S → ℕ → Rec → Did S) (start : S) (f : Fits did) (s room answers : List ℕ) (r : Result S) (after told : List ℕ) where
+  abbrev lines : ℕ → List Line
+  lines m = linesAfter did start m (recsOf s)
+
   -- the lent answers and the lent room keep their lengths
-  sized : (o : Outcome) → Runs o s room answers r after told → (length told ≡ length answers) × (length after ≡ length room)
+  sized : (o : Outcome) → RunsTo did start o s room answers r after told → (length told ≡ length answers) × (length after ≡ length room)
   sized Done run =
-      let ls = sessionOf s (length room) in
+      let ls = lines (length room) in
       (ap length (run .answered) ∙ put-length answers 0 (codesOf ls), ap length (run .replies) ∙ put-length room 0 (repliesOf ls))
   sized Over idle = (ap length (idle .answered), ap length (idle .replies))
   sized Short idle = (ap length (idle .answered), ap length (idle .replies))
 
   -- and the counts lie within them
-  pub counts-within : (o : Outcome) → outcomeOf s (length answers) ≡ o → Runs o s room answers r after told → (r .lines ≤ length told) × (r .replied ≤ length after)
+  pub counts-within : (o : Outcome) → outcomeOf (length s) (length answers) ≡ o → RunsTo did start o s room answers r after told → (r .lines ≤ length told) × (r .replied ≤ length after)
   counts-within Done e run =
       let lent = sized Done run in
-      (omega (arith, run .lines, session-few s (length room), enough s (length answers) e, lent .0), omega (arith, run .replied, session-fits s (length room), lent .1))
-  counts-within Over e idle = rw (idle .ran) (omega arith)
-  counts-within Short e idle = rw (idle .ran) (omega arith)
+      (omega (arith, run .lines, lines-few did start (length room) s, done-within (length s) (length answers) e .1, lent .0), omega (arith, run .replied, lines-fit did f start (length room) (recsOf s), lent .1))
+  counts-within Over e idle = rw (idle .result) (omega arith)
+  counts-within Short e idle = rw (idle .result) (omega arith)
 
   module _ (bytes : Bytes s) where
-    told-done : (length s + 3) / 4 ≤ length answers → Running s room answers r after told
-        → codedText (r .outcome) (take (r .lines) told) (take (r .replied) after) ≡ textOf Done (sessionOf s (length room))
+    told-done : (length s + 3) / 4 ≤ length answers → Running did start s room answers r after told
+        → codedText (r .outcome) (take (r .lines) told) (take (r .replied) after) ≡ textOf Done (lines (length room))
     told-done h run =
-        let ls = sessionOf s (length room) in
-        let few : length (codesOf ls) ≤ length answers = omega (arith, codes-length ls, session-few s (length room)) in
+        let ls = lines (length room) in
+        let few : length (codesOf ls) ≤ length answers = omega (arith, codes-length ls, lines-few did start (length room) s) in
         let codes : take (r .lines) told ≡ codesOf ls = rw (run .answered) (front answers (codesOf ls) (r .lines) (run .lines ∙ sym (codes-length ls)) few) in
-        let replies : take (r .replied) after ≡ repliesOf ls = rw (run .replies) (front room (repliesOf ls) (r .replied) (run .replied) (session-fits s (length room))) in
-        rw (run .outcome, codes, replies, ← append-nil (repliesOf ls)) (ap (λ (t : List ℕ). headerText ++ t) (codes-lines 1 ls [] (session-coded s (length room) bytes)))
+        let replies : take (r .replied) after ≡ repliesOf ls = rw (run .replies) (front room (repliesOf ls) (r .replied) (run .replied) (lines-fit did f start (length room) (recsOf s))) in
+        rw (run .outcome, codes, replies, ← append-nil (repliesOf ls)) (ap (λ (t : List ℕ). headerText ++ t) (codes-lines 1 ls [] (lines-coded did f start (length room) s bytes)))
 
-    told-text : (o : Outcome) → outcomeOf s (length answers) ≡ o → Runs o s room answers r after told
-        → codedText (r .outcome) (take (r .lines) told) (take (r .replied) after) ≡ textOf o (sessionOf s (length room))
-    told-text Done e run = told-done (enough s (length answers) e) run
-    told-text Over e idle = rw (idle .ran)
-    told-text Short e idle = rw (idle .ran)
+    told-text : (o : Outcome) → outcomeOf (length s) (length answers) ≡ o → RunsTo did start o s room answers r after told
+        → codedText (r .outcome) (take (r .lines) told) (take (r .replied) after) ≡ textOf o (lines (length room))
+    told-text Done e run = told-done (done-within (length s) (length answers) e .1) run
+    told-text Over e idle = rw (idle .result)
+    told-text Short e idle = rw (idle .result)
 
-    reported-text : (n : ℕ) → Runs (outcomeOf s (length answers)) s room answers r after told → length answers ≤ 99999 → mostOf (length answers) (length room) ≤ n
-        → reportOf (r .outcome) (take (r .lines) told) (take (r .replied) after) n ≡ textOf (outcomeOf s (length answers)) (sessionOf s (length room))
+    reported-text : (n : ℕ) → Runs did start s room answers r after told → length answers ≤ 99999 → mostOf (length answers) (length room) ≤ n
+        → reportOf (r .outcome) (take (r .lines) told) (take (r .replied) after) n ≡ textOf (outcomeOf (length s) (length answers)) (lines (length room))
     unfolding reportOf fitsOf
     reported-text n runs few fits =
-        let lent = sized (outcomeOf s (length answers)) runs in
+        let lent = sized (outcomeOf (length s) (length answers)) runs in
         let codes : length (take (r .lines) told) ≤ length answers = omega (arith, length-take (r .lines) told, lent .0) in
         let replies : length (take (r .replied) after) ≤ length room = omega (arith, length-take (r .replied) after, lent .1) in
         let numbered : length (take (r .lines) told) ≤ 99999 = omega arith in
         let all : mostOf (length (take (r .lines) told)) (length (take (r .replied) after)) ≤ n = omega arith in
-        rw (le-leb _ _ numbered, le-leb _ _ all) (told-text (outcomeOf s (length answers)) refl runs)
+        rw (le-leb _ _ numbered, le-leb _ _ all) (told-text (outcomeOf (length s) (length answers)) refl runs)
 
-    -- what `report` writes of what `run` told, where a answers and m bytes of reply room were lent, is the text of the session
-    pub session-text : (a m n : ℕ) → a ≡ length answers → m ≡ length room → Runs (outcomeOf s (length answers)) s room answers r after told
-        → a ≤ 99999 → mostOf a m ≤ n → reportOf (r .outcome) (take (r .lines) told) (take (r .replied) after) n ≡ textOf (outcomeOf s a) (sessionOf s m)
+    -- what `report` writes of what the run told, where a answers and m bytes of reply room were lent, is the text of the session
+    pub session-text : (a m n : ℕ) → a ≡ length answers → m ≡ length room → Runs did start s room answers r after told
+        → a ≤ 99999 → mostOf a m ≤ n → reportOf (r .outcome) (take (r .lines) told) (take (r .replied) after) n ≡ textOf (outcomeOf (length s) a) (lines m)
     session-text a m n e f runs few fits = rw (e, f) (reported-text n runs (rw e at few) (rw (e, f) at fits))
 
 -- with 8,192 answers there are never too few
-pub outcome-told : (s : List ℕ) → outcomeOf s 8192 ≡ pick (ltb 32768 (length s)) Over Done
+pub outcome-told : (s : List ℕ) → outcomeOf (length s) 8192 ≡ pick (ltb 32768 (length s)) Over Done
 unfolding outcomeOf
 outcome-told s = by (ltb 32768 (length s)) refl
   where

@@ -1,4 +1,4 @@
--- The contract of this crate's public function leaves no choice. Assumes nothing.
+-- The contract of this crate's public function leaves no choice.
 use mathlib.Core.Path.{sym, _∙_}
 use Rattle.once.specs.Once.{Once}
 use Rattle.text.proofs.report

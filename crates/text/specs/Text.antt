@@ -7,10 +7,11 @@ use lib.Dec.{leb}
 use lib.ListN.{length, take, drop}
 use Rattle.numbers.specs.Choice.{pick, both}
 use Rattle.parts.specs.Parts.{put}
-use Rattle.line.specs.Line.{space, newline, dash, digitOf, lineText}
-use Rattle.records.specs.declared.Outcome.{Outcome}
-use Rattle.records.specs.declared.Outcome.the-variants.{Done, Over, Short}
-use Rattle.records.specs.Run.{Line, outcomeNumber}
+use Rattle.digits.specs.Digits.{decimalText}
+use Rattle.line.specs.Line.{space, newline, dash, lineText, endText}
+use Rattle.runs.specs.declared.Outcome.{Outcome}
+use Rattle.runs.specs.declared.Outcome.the-variants.{Done, Over, Short}
+use Rattle.runs.specs.Run.{Line, outcomeNumber}
 
 -- ---- the lines
 
@@ -29,7 +30,7 @@ headerText =
 
 -- 0 ---- 1 -
 unfoldable pub overText : List ℕ
-overText = digitOf 0 ∷ space ∷ dash ∷ dash ∷ dash ∷ dash ∷ space ∷ digitOf (outcomeNumber Over) ∷ space ∷ dash ∷ newline ∷ []
+overText = decimalText 0 ++ (space ∷ dash ∷ dash ∷ dash ∷ dash ∷ space ∷ (decimalText (outcomeNumber Over) ++ (space ∷ endText [])))
 
 -- the text of a session: records are numbered from 1; answer 1 is one line numbered 0
 abbrev pub textOf : Outcome → List Line → List ℕ
@@ -62,14 +63,15 @@ codedText Short codes replies = []
 
 -- ---- what the code promises
 
--- the most that the text can take: the header and one line, 15 bytes for each line, and 2 for each byte of the replies
+-- the most that the text can take: the header and the line of answer 1, 17 bytes for each line (5 digits of its number, 4 of its kind, 3 of its answer,
+-- 3 spaces, a dash and the end), and 2 for each byte of the replies
 abbrev pub mostOf : ℕ → ℕ → ℕ
-mostOf lines replied = 36 + 15 * lines + 2 * replied
+mostOf lines replied = 36 + 17 * lines + 2 * replied
 
 -- so many lines, with so much reply, are numbered by five digits and fit the room
-pub record Fitting (lines replied room : ℕ) : Type 0 where
+pub record Held (lines replied room : ℕ) : Type 0 where
   pub numbered : lines ≤ 99999
-  pub held : mostOf lines replied ≤ room
+  pub fits : mostOf lines replied ≤ room
 
 -- whether they do
 unfoldable pub fitsOf : ℕ → ℕ → ℕ → Bool

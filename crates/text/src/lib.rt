@@ -1,34 +1,38 @@
 // The text of a session, as bytes in a lent buffer: a header and a line for each record.
-use records::Outcome;
+use runs::Outcome;
 ghost use mathlib.Core.Path.{_≡_};
 ghost use Prim.Native.Nat.{_+_, _*_, _≤_};
 ghost use lib.ListN.{length};
-ghost use Rattle.line.specs.Line.{Writing};
-ghost use Rattle.text.specs.Text.{codesText, headerText, overText, codedText, mostOf, fitsOf, Fitting, reportOf, Reporting};
+ghost use Rattle.digits.specs.Digits.{Writing};
+ghost use Rattle.text.specs.Text.{codesText, headerText, overText, codedText, mostOf, fitsOf, Held, reportOf, Reporting};
 
-// A line's number has its kind, its answer and the length of its reply, which is the next part of the replies.
-fn put_lines(codes: &[u64], replies: &[u8], out: &mut [u8], at: usize) -> usize
+// A line's code has its kind, its answer and the length of its reply, which is the next part of the replies.
+fn put_codes(codes: &[u64], replies: &[u8], out: &mut [u8], at: usize) -> usize
     requires { ⌜ length (now codes) ≤ 99999 ⌝ }
-    requires { ⌜ at + (15 * length (now codes) + 2 * length (now replies)) ≤ length (now out) ⌝ }
-    ensures { λ r. ⌜ Writing (15 * length (now (codes .entry)) + 2 * length (now (replies .entry))) (codesText 1 (now (codes .entry)) (now (replies .entry))) (now (out .entry)) at r (now (out .exit)) ⌝ }
+    requires { ⌜ at + (17 * length (now codes) + 2 * length (now replies)) ≤ length (now out) ⌝ }
+    ensures { λ r. ⌜ Writing (17 * length (now (codes .entry)) + 2 * length (now (replies .entry))) (codesText 1 (now (codes .entry)) (now (replies .entry))) (now (out .entry)) at r (now (out .exit)) ⌝ }
 {
+    let table = digits::lower_pairs();
+    let mut five = digits::places(1);
     let mut next = at;
     let mut used = 0;
     let mut i = 0;
     while i < codes.len() {
         let code = codes[i];
-        let left = replies.len() - used;
-        let end = used + numbers::at_most(left as u64, code / 16777216) as usize;
-        next = line::put_line(
-            (i + 1) as u64,
-            code % 65536,
-            code / 65536 % 256,
-            &replies[used..end],
-            out,
-            next,
-        );
-        used = end;
+        let kind = (code % 65536) as usize;
+        let answer = (code / 65536 % 256) as usize;
+        let asked = code / 16777216;
         i += 1;
+        let start = line::put_start(&table, &five, i, kind, answer, out, next);
+        digits::count_up(i, &mut five);
+        if code < 16777216 {
+            next = line::put_bare_end(out, start);
+        } else {
+            let left = (replies.len() - used) as u64;
+            let end = used + numbers::at_most(left, asked) as usize;
+            next = line::put_end(&replies[used..end], out, start);
+            used = end;
+        }
     }
     next
 }
@@ -39,26 +43,24 @@ fn put_header(out: &mut [u8]) -> usize
     requires { ⌜ 25 ≤ length (now out) ⌝ }
     ensures { λ r. ⌜ Writing 25 headerText (now (out .entry)) 0 r (now (out .exit)) ⌝ }
 {
-    parts::store(b"record kind answer reply\n", out, 0);
-    25
+    digits::put_bytes(b"record kind answer reply\n", out, 0)
 }
 
 fn put_over(out: &mut [u8], at: usize) -> usize
     requires { ⌜ at + 11 ≤ length (now out) ⌝ }
     ensures { λ r. ⌜ Writing 11 overText (now (out .entry)) at r (now (out .exit)) ⌝ }
 {
-    parts::store(b"0 ---- 1 -\n", out, at);
-    at + 11
+    digits::put_bytes(b"0 ---- 1 -\n", out, at)
 }
 
-fn put_text(outcome: Outcome, codes: &[u64], replies: &[u8], out: &mut [u8]) -> usize
-    requires { ⌜ Fitting (length (now codes)) (length (now replies)) (length (now out)) ⌝ }
+fn put_coded(outcome: Outcome, codes: &[u64], replies: &[u8], out: &mut [u8]) -> usize
+    requires { ⌜ Held (length (now codes)) (length (now replies)) (length (now out)) ⌝ }
     ensures { λ r. ⌜ Writing (mostOf (length (now (codes .entry))) (length (now (replies .entry)))) (codedText outcome (now (codes .entry)) (now (replies .entry))) (now (out .entry)) 0 r (now (out .exit)) ⌝ }
 {
     match outcome {
         Outcome::Done => {
             let at = put_header(out);
-            put_lines(codes, replies, out, at)
+            put_codes(codes, replies, out, at)
         }
         Outcome::Over => {
             let at = put_header(out);
@@ -74,7 +76,7 @@ fn fits(lines: usize, replied: usize, room: usize) -> bool
     if 99999 < lines {
         return false;
     }
-    let least = 36 + 15 * lines;
+    let least = 36 + 17 * lines;
     if room < least {
         return false;
     }
@@ -82,12 +84,12 @@ fn fits(lines: usize, replied: usize, room: usize) -> bool
 }
 
 // The text of a session that was run, at the front of the room, and how many bytes it is. 0, and nothing is written, where the lines are more
-// than five digits can number, or where the room is less than such a text can take: 36 bytes, 15 for each line, 2 for each byte of the replies.
+// than five digits can number, or where the room is less than such a text can take: 36 bytes, 17 for each line, 2 for each byte of the replies.
 pub fn report(outcome: Outcome, codes: &[u64], replies: &[u8], out: &mut [u8]) -> usize
     ensures { λ r. ⌜ Reporting (reportOf outcome (now (codes .entry)) (now (replies .entry)) (length (now (out .entry)))) (now (out .entry)) r (now (out .exit)) ⌝ }
 {
     if fits(codes.len(), replies.len(), out.len()) {
-        return put_text(outcome, codes, replies, out);
+        return put_coded(outcome, codes, replies, out);
     }
     0
 }

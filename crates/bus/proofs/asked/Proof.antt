@@ -9,9 +9,9 @@ use Rattle.bus.proofs.asked.Statement.{statement}
 use Rattle.bus.proofs.asked.Tie as tie
 
 -- what an arm of the match gives, where the first byte says that arm
-arm : (count : ℕ) (master : List ℕ) (said rom : Rom) (r : Transaction) → said ≡ romOf master → said ≡ rom → r ≡ askedBy count master rom → r ≡ askedOf count master
+arm : (start count : ℕ) (master : List ℕ) (said rom : Rom) (r : Transaction) → said ≡ romOf master → said ≡ rom → r ≡ askedBy start count master rom → r ≡ askedOf start count master
 unfolding askedOf
-arm count master said rom r e told given = given ∙ ap (askedBy count master) (sym told ∙ e)
+arm start count master said rom r e told given = given ∙ ap (askedBy start count master) (sym told ∙ e)
 
 rom-of-requires : tie.Need-rom-of-requires
 rom-of-requires c κs = search needs
@@ -47,19 +47,19 @@ plain-requires-3 : tie.Need-plain-requires-3
 plain-requires-3 c κs = search needs
 
 returns : tie.Need-returns
-returns c = arm _ _ _ _ _ (c .before .before .before .rom-of .ensures) (c .before .enum-told .given .1) (c .asked-at .ensures)
+returns c = arm _ _ _ _ _ _ (c .before .before .before .rom-of .ensures) (c .before .enum-told .given .1) (c .asked-at .ensures)
 
 returns-2 : tie.Need-returns-2
-returns-2 c = arm _ _ _ _ _ (c .before .before .before .rom-of .ensures) (c .before .enum-told2 .given .1) (c .asked-at2 .ensures)
+returns-2 c = arm _ _ _ _ _ _ (c .before .before .before .rom-of .ensures) (c .before .enum-told2 .given .1) (c .asked-at2 .ensures)
 
 returns-3 : tie.Need-returns-3
-returns-3 c = arm _ _ _ _ _ (c .before .before .before .rom-of .ensures) (c .before .enum-told3 .given .1) (c .plain .ensures)
+returns-3 c = arm _ _ _ _ _ _ (c .before .before .before .rom-of .ensures) (c .before .enum-told3 .given .1) (c .plain .ensures)
 
 returns-4 : tie.Need-returns-4
-returns-4 c = arm _ _ _ _ _ (c .before .before .before .rom-of .ensures) (c .before .enum-told4 .given .1) (c .plain2 .ensures)
+returns-4 c = arm _ _ _ _ _ _ (c .before .before .before .rom-of .ensures) (c .before .enum-told4 .given .1) (c .plain2 .ensures)
 
 returns-5 : tie.Need-returns-5
-returns-5 c = arm _ _ _ _ _ (c .before .before .before .rom-of .ensures) (c .before .enum-told5 .given .1) (c .plain3 .ensures)
+returns-5 c = arm _ _ _ _ _ _ (c .before .before .before .rom-of .ensures) (c .before .enum-told5 .given .1) (c .plain3 .ensures)
 
 pub asked-spec : {M : Type 1} → statement M
 asked-spec =

@@ -1,4 +1,4 @@
--- `crc::crc` meets its contract. The invariant: the CRC from here, over the bytes that are left, is the CRC of all. Assumes nothing.
+-- `crc::crc` meets its contract. The invariant: the CRC from here, over the bytes that are left, is the CRC of all.
 use mathlib.Core.Path.{_≡_, _∙_, sym}
 use Prim.Native.Nat.{_≤_, _-_}
 use native.Mathlib.Omega.{arith}
@@ -22,11 +22,11 @@ whole-table-requires c κs = search needs
 loop-holds : tie.Need-loop-holds Inv-loop μ-loop
 loop-holds c = search needs
 
-shared-slice-read-look-up : tie.Need-shared-slice-read-look-up Inv-loop μ-loop
-shared-slice-read-look-up c = search needs
+shared-slice-read-next : tie.Need-shared-slice-read-next Inv-loop μ-loop
+shared-slice-read-next c = search needs
 
-look-up-requires : tie.Need-look-up-requires Inv-loop μ-loop
-look-up-requires c κs = c .before .before .before .before .whole-table .ensures
+next-requires : tie.Need-next-requires Inv-loop μ-loop
+next-requires c κs = c .before .before .before .before .whole-table .ensures
 
 add-i : tie.Need-add-i Inv-loop μ-loop
 add-i c = search needs
@@ -39,7 +39,7 @@ loop-again c =
     let at-loop = c .before .before .before .before in
     let s = now (at-loop .before .before .before .args .s) in (
       omega arith,
-      rw (c .look-up .ensures) (sym (crc-more s (at-loop .loop .c) (at-loop .loop .i) (omega arith)) ∙ at-loop .loop .inv .1),
+      rw (c .next .ensures) (sym (crc-more s (at-loop .loop .c) (at-loop .loop .i) (omega arith)) ∙ at-loop .loop .inv .1),
     )
 
 returns : tie.Need-returns Inv-loop μ-loop
@@ -55,8 +55,8 @@ crc-spec =
     μ-loop
     whole-table-requires
     loop-holds
-    shared-slice-read-look-up
-    look-up-requires
+    shared-slice-read-next
+    next-requires
     add-i
     loop-less
     loop-again

@@ -1,4 +1,4 @@
--- `crc::whole_table` meets its contract: one test that antt computes over all entries of the constant. Assumes nothing.
+-- `crc::whole_table` meets its contract: one test that antt computes over all entries of the constant.
 use mathlib.Core.Path.{_≡_}
 use mathlib.Core.Bool.{Bool}
 use mathlib.Core.List.{List}

@@ -1,4 +1,4 @@
-use Rattle.events.specs.Verdict.{addressedOf}
+use Rattle.events.specs.Record.{addressedOf}
 use borrow.Author.Needs.{needs}
 use Rattle.events.proofs.addressed.Statement.{statement}
 use Rattle.events.proofs.addressed.Tie as tie

@@ -1,33 +1,16 @@
-use mathlib.Core.Path.{refl}
+use borrow.Author.Tests.{eq-eqb, ne-eqb}
 use borrow.Author.Needs.{needs}
 use Rattle.events.proofs.image_taken.Statement.{statement}
 use Rattle.events.proofs.image_taken.Tie as tie
 
-enum-told : tie.Need-enum-told
-enum-told c = search needs
-
-enum-told-2 : tie.Need-enum-told-2
-enum-told-2 c = search needs
-
-enum-told-3 : tie.Need-enum-told-3
-enum-told-3 c = search needs
-
-enum-told-4 : tie.Need-enum-told-4
-enum-told-4 c = search needs
-
 returns : tie.Need-returns
-returns c = rw (c .enum-told .given .1) refl
+returns c = simp (ne-eqb _ _ (c .if1 .taken))
 
 returns-2 : tie.Need-returns-2
-returns-2 c = rw (c .enum-told2 .given .1) refl
+returns-2 c = simp (eq-eqb _ _ (c .before .before .if1 .left), c .before .if2 .taken, c .judged .ensures)
 
 returns-3 : tie.Need-returns-3
-returns-3 c = rw (c .enum-told3 .given .1) refl
-
-returns-4 : tie.Need-returns-4
-returns-4 c = rw (c .enum-told4 .given .1) refl
+returns-3 c = simp (eq-eqb _ _ (c .before .if1 .left), c .if2 .left)
 
 pub image-taken-spec : {M : Type 1} → statement M
-image-taken-spec =
-    tie.close
-    (tie.spec enum-told enum-told-2 enum-told-3 enum-told-4 returns returns-2 returns-3 returns-4)
+image-taken-spec = tie.close (tie.spec returns (λ c κs. search needs) returns-2 returns-3)

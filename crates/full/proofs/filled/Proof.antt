@@ -6,36 +6,15 @@ use borrow.Author.Needs.{needs}
 use Rattle.full.proofs.filled.Statement.{statement}
 use Rattle.full.proofs.filled.Tie as tie
 
--- what `share` gives is an ACR
-held : (c : tie.After-share) → c .share .result ≤ 65535
-held c =
-    let aging = c .before .before in
-    let s = aging .before .before .before .before in
-    rw (c .share .ensures .0, c .before .aged-full .ensures, aging .choose8 .ensures, aging .before .learnt .ensures, aging .before .before .and .ensures) (filled-high (s .args .g) (s .args .full) (s .args .full40) (s .pre .0) (s .pre .1) (search needs))
-
 cast-acr : tie.Need-cast-acr
-cast-acr c = search needs
-
-and-requires : tie.Need-and-requires
-and-requires c κs = search needs
-
-learnt-requires : tie.Need-learnt-requires
-learnt-requires c κs = search needs
-
-choose8-requires : tie.Need-choose8-requires
-choose8-requires c κs = search needs
-
-aged-full-requires : tie.Need-aged-full-requires
-aged-full-requires c κs = search needs
-
-share-requires : tie.Need-share-requires
-share-requires c κs = search needs
-
-cast-charge : tie.Need-cast-charge
-cast-charge c = omega (arith, held c)
-
-mul-t8 : tie.Need-mul-t8
-mul-t8 c = omega (arith, held c)
+cast-acr c =
+    let c1 = c .before in
+    let c2 = c1 .before in
+    let c3 = c2 .before in
+    let c5 = c3 .before .before in
+    let c6 = c5 .before in
+    let high : c .share .result ≤ 65535 = rw (c .share .ensures .0, c1 .aged-full .ensures, c2 .choose8 .ensures, c3 .learnt .ensures, c5 .and .ensures) (filled-high (c6 .args .g) (c6 .args .full) (c6 .args .full40) (c6 .pre .0) (c6 .pre .1) (search needs)) in
+    omega arith
 
 returns : tie.Need-returns
 unfolding filledOf
@@ -44,18 +23,8 @@ returns c =
     let c2 = c1 .before in
     let c3 = c2 .before in
     let c4 = c3 .before in
-    simp (c .share .ensures .0, c1 .aged-full .ensures, c2 .choose8 .ensures, c3 .learnt .ensures, c4 .and .ensures)
+    let c6 = c4 .before .before in
+    simp (c .set .ensures, c1 .share .ensures .0, c2 .aged-full .ensures, c3 .choose8 .ensures, c4 .learnt .ensures, c6 .and .ensures)
 
 pub filled-spec : {M : Type 1} → statement M
-filled-spec =
-    tie.close
-    (tie.spec
-    cast-acr
-    and-requires
-    learnt-requires
-    choose8-requires
-    aged-full-requires
-    share-requires
-    cast-charge
-    mul-t8
-    returns)
+filled-spec = tie.close (tie.spec (λ c κs. search needs) (λ c. search needs) (λ c κs. search needs) (λ c κs. search needs) (λ c κs. search needs) (λ c κs. search needs) cast-acr (λ c κs. search needs) returns)

@@ -5,21 +5,12 @@ use borrow.Author.Needs.{needs}
 use Rattle.full.proofs.learnt.Statement.{statement}
 use Rattle.full.proofs.learnt.Tie as tie
 
-mul-n : tie.Need-mul-n
-mul-n c = search needs
-
 mul-d : tie.Need-mul-d
 mul-d c = omega (arith, times (c .args .full) (c .args .full40) 65535 65535 (search needs) (search needs))
-
-quotient-requires : tie.Need-quotient-requires
-quotient-requires c κs = search needs
-
-moved-into-requires : tie.Need-moved-into-requires
-moved-into-requires c κs = search needs
 
 returns : tie.Need-returns
 unfolding learntOf
 returns c = simp (c .moved-into .ensures, c .before .quotient .ensures)
 
 pub learnt-spec : {M : Type 1} → statement M
-learnt-spec = tie.close (tie.spec mul-n mul-d quotient-requires moved-into-requires returns)
+learnt-spec = tie.close (tie.spec (λ c. search needs) mul-d (λ c κs. search needs) (λ c κs. search needs) returns)

@@ -3,9 +3,6 @@ use borrow.Author.Needs.{needs}
 use Rattle.full.proofs.settled.Statement.{statement}
 use Rattle.full.proofs.settled.Tie as tie
 
-filled-requires : tie.Need-filled-requires
-filled-requires c κs = search needs
-
 returns : tie.Need-returns
 unfolding settledOf
 returns c = simp (c .before .if1 .taken) (c .filled .ensures)
@@ -15,4 +12,4 @@ unfolding settledOf
 returns-2 c = simp (c .if1 .left)
 
 pub settled-spec : {M : Type 1} → statement M
-settled-spec = tie.close (tie.spec filled-requires returns returns-2)
+settled-spec = tie.close (tie.spec (λ c κs. search needs) returns returns-2)

@@ -1,25 +1,36 @@
--- `line::put_kind` meets its contract. Assumes nothing.
-use denote.Ref.{now}
-use Rattle.line.proofs.Laws.{piece}
+-- `line::put_kind` meets its contract: the table has the two digits of each byte.
+use Prim.Native.Nat.{_/_, _%_}
+use native.Mathlib.Omega.{arith}
+use borrow.Author.Tests.{eq-eqb, ne-eqb}
+use Rattle.digits.proofs.Laws.{then}
+use Rattle.digits.proofs.Pairs.{paired}
+use Rattle.line.specs.Line.{kindText}
 use borrow.Author.Needs.{needs}
 use Rattle.line.proofs.put_kind.Statement.{statement}
 use Rattle.line.proofs.put_kind.Tie as tie
 
-kind-digits-requires : tie.Need-kind-digits-requires
-kind-digits-requires c κs = search needs
-
-store4-requires : tie.Need-store4-requires
-store4-requires c κs = search needs
-
-add-result : tie.Need-add-result
-add-result c = search needs
-
-same-length : tie.Need-same-length
-same-length c = search needs
-
 returns : tie.Need-returns
-returns c = rw (← c .before .before .before .before .kind-digits .ensures) (piece 4 (c .before .before .before .before .kind-digits .result) (now (c .before .before .before .before .before .before .args .out)) (c .before .before .before .before .before .before .args .at) (c .before .before .store4 .last .1 .0) (c .before .before .store4 .ensures .sized) (c .before .before .store4 .ensures .written))
+unfolding kindText
+returns c = rw (eq-eqb _ _ (c .before .before .before .before .before .if1 .taken)) (c .before .before .put-bytes .ensures)
+
+returns-2 : tie.Need-returns-2
+unfolding kindText
+returns-2 c =
+    let kind = c .before .before .before .before .before .before .before .before .before .before .args .kind in
+    let table = c .before .before .before .before .before .before .before .before .before .before .pre .0 in
+    rw (ne-eqb _ _ (c .before .before .before .before .before .before .before .before .if1 .left)) (then (rw (table, paired (kind / 256) (omega arith)) at (c .before .before .before .before .before .before .put-entry .ensures)) (rw (table, paired (kind % 256) (omega arith)) at (c .before .before .put-entry2 .ensures)))
 
 pub put-kind-spec : {M : Type 1} → statement M
 put-kind-spec =
-    tie.close (tie.spec kind-digits-requires store4-requires add-result same-length returns)
+    tie.close
+    (tie.spec
+    (λ c. search needs)
+    (λ c κs. search needs)
+    (λ c. search needs)
+    returns
+    (λ c. search needs)
+    (λ c κs. search needs)
+    (λ c. search needs)
+    (λ c κs. search needs)
+    (λ c. search needs)
+    returns-2)

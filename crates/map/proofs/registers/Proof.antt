@@ -2,7 +2,7 @@ use mathlib.Core.Path.{_≡_, refl, ap, _∙_}
 use mathlib.Core.List.{List}
 use Prim.Native.Nat.{ℕ}
 use lib.ListN.{set, replicate}
-use Rattle.map.specs.Registers.{registersOf, putAt}
+use Rattle.map.specs.Registers.{registersOf, putOf}
 use borrow.Author.Needs.{needs}
 use Rattle.map.proofs.registers.Statement.{statement}
 use Rattle.map.proofs.registers.Tie as tie
@@ -12,8 +12,8 @@ abbrev blank : List ℕ
 blank = replicate 32 0xff
 
 -- one more register
-then : {x y : ℕ} {r s t : List ℕ} (at : ℕ) → r ≡ putAt at x s → x ≡ y → s ≡ t → r ≡ putAt at y t
-then at e f g = e ∙ (λ i. putAt at (f i) (g i))
+then : {x y : ℕ} {r s t : List ℕ} (at : ℕ) → r ≡ putOf s at x → x ≡ y → s ≡ t → r ≡ putOf t at y
+then at e f g = e ∙ (λ i. putOf (g i) at (f i))
 
 returns : tie.Need-returns
 unfolding registersOf
@@ -32,7 +32,7 @@ returns c =
     let m = c₁ .before .before .before .before .before .before .args .m in
     let e₁ = then 0x02 (c₁ .put .ensures) refl (ap (set blank 0x01) (c₁ .before .before .status .ensures)) in
     let e₂ = then 0x04 (c₂ .put2 .ensures) refl e₁ in
-    let e₃ = then 0x08 (c₃ .put3 .ensures) (c₃ .before .word .ensures) (λ i. set (set (e₂ i) 0x06 (m .results .rarc)) 0x07 (m .results .rsrc)) in
+    let e₃ = then 0x08 (c₃ .put3 .ensures) (c₃ .before .word .ensures) (λ i. set (set (e₂ i) 0x06 (m .shown .results .rarc)) 0x07 (m .shown .results .rsrc)) in
     let e₄ = then 0x0a (c₄ .put4 .ensures) (c₄ .before .temp-word .ensures) e₃ in
     let e₅ = then 0x0c (c₅ .put5 .ensures) refl e₄ in
     let e₆ = then 0x0e (c₆ .put6 .ensures) (c₆ .before .word2 .ensures) e₅ in
@@ -41,7 +41,7 @@ returns c =
     let e₉ = then 0x16 (c₉ .put9 .ensures) refl (λ i. set (set (e₈ i) 0x14 (m .charge .aging)) 0x15 0x00) in
     let e₁₀ = then 0x18 (c₁₀ .put10 .ensures) refl e₉ in
     let e₁₁ = then 0x1a (c₁₁ .put11 .ensures) refl e₁₀ in
-    λ i. set (e₁₁ i) 0x1f (c .eeprom-register .ensures i)
+    λ i. set (e₁₁ i) 0x1f (c .eeprom .ensures i)
 
 pub registers-spec : {M : Type 1} → statement M
 registers-spec =

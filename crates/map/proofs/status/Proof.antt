@@ -6,7 +6,7 @@ use Rattle.map.proofs.status.Tie as tie
 returns : tie.Need-returns
 unfolding statusOf
 returns c =
-    simp (c .bit5 .ensures .0, c .before .bit4 .ensures .0, c .before .before .bit3 .ensures .0, c .before .before .before .bit2 .ensures .0, c .before .before .before .before .bit .ensures .0)
+    simp (c .flag5 .ensures .0, c .before .flag4 .ensures .0, c .before .before .flag3 .ensures .0, c .before .before .before .flag2 .ensures .0, c .before .before .before .before .flag .ensures .0)
 
 pub status-spec : {M : Type 1} → statement M
 status-spec =

@@ -6,11 +6,5 @@ use Rattle.numbers.proofs.quotient.Tie as tie
 returns : tie.Need-returns
 returns c = simp (c .if1 .taken, div-zero)
 
-div-result : tie.Need-div-result
-div-result c = search needs
-
-returns-2 : tie.Need-returns-2
-returns-2 c = search needs
-
 pub quotient-spec : {M : Type 1} → statement M
-quotient-spec = tie.close (tie.spec div-result returns returns-2)
+quotient-spec = tie.close (tie.spec (λ c. search needs) returns (λ c. search needs))

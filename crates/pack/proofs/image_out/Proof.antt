@@ -27,7 +27,7 @@ returns-2 c =
     let e = le-leb 60 _ (test .if1 .left) in
     let cells = c .before .before .store4 .ensures .written ∙ ap (λ (l : List ℕ). put (block .store32 .last .1 .0) 56 l) (tail .tail .ensures) in
     let bytes =
-    joint-put (g .common .address) (g .label .eeprom) (g .meter .block .eeprom) _
+    joint-put (g .common .address) (g .label .eeprom) (g .meter .cells .block .eeprom) _
     (address .store8 .ensures .sized) (label .store16 .ensures .sized) (block .store32 .ensures .sized) refl room (test .if1 .left) in
     record {
       fits = sym e;

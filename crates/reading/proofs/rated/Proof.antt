@@ -5,23 +5,14 @@ use borrow.Author.Needs.{needs}
 use Rattle.reading.proofs.rated.Statement.{statement}
 use Rattle.reading.proofs.rated.Tie as tie
 
-cast-acr : tie.Need-cast-acr
-cast-acr c = search needs
-
-aged-full-requires : tie.Need-aged-full-requires
-aged-full-requires c κs = search needs
-
 cast-af : tie.Need-cast-af
 cast-af c =
-    let s = c .before .before in
-    omega (arith, aged-full-high (s .args .lines .full) (s .args .g .aging) (s .pre .1) (s .pre .0 .high))
-
-results-of-requires : tie.Need-results-of-requires
-results-of-requires c κs = search needs
+    let c2 = c .before .before in
+    omega (arith, aged-full-high (c2 .args .lines .full) (c2 .args .g .aging) (c2 .pre .1) (c2 .pre .0 .high))
 
 returns : tie.Need-returns
 unfolding ratedOf
-returns c = simp (c .results-of .ensures, c .before .aged-full .ensures)
+returns c = simp (c .of .ensures, c .before .aged-full .ensures)
 
 pub rated-spec : {M : Type 1} → statement M
-rated-spec = tie.close (tie.spec cast-acr aged-full-requires cast-af results-of-requires returns)
+rated-spec = tie.close (tie.spec (λ c. search needs) (λ c κs. search needs) cast-af (λ c κs. search needs) returns)

@@ -1,50 +1,34 @@
-use mathlib.Core.Path.{refl}
-use borrow.Author.Tests.{lt-ltb, le-ltb}
-use Rattle.records.specs.Run.{outcomeOf}
+use mathlib.Core.Path.{refl, sym, _∙_}
+use Rattle.runs.proofs.Ends.{done-within}
 use borrow.Author.Needs.{needs}
 use Rattle.records.proofs.run.Statement.{statement}
 use Rattle.records.proofs.run.Tie as tie
 
-idle-requires : tie.Need-idle-requires
-idle-requires c κs = search needs
+run-all-requires : tie.Need-run-all-requires
+run-all-requires c κs = done-within _ _ (sym (c .before .before .before .before .outcome-of .ensures) ∙ c .before .before .enum-told .given .1)
 
 returns : tie.Need-returns
-unfolding outcomeOf
-returns c = rw (lt-ltb _ _ (c .before .if1 .taken)) (record { ran = c .idle .ensures; replies = refl; answered = refl })
-
-add-if2 : tie.Need-add-if2
-add-if2 c = search needs
-
-idle-requires-2 : tie.Need-idle-requires-2
-idle-requires-2 c κs = search needs
+returns c = rw (sym (c .before .before .before .before .before .before .before .before .before .outcome-of .ensures) ∙ c .before .before .before .before .before .before .before .enum-told .given .1) (c .before .before .before .before .run-all .ensures)
 
 returns-2 : tie.Need-returns-2
-unfolding outcomeOf
-returns-2 c = rw (le-ltb _ _ (c .before .before .if1 .left), lt-ltb _ _ (c .before .if2 .taken)) (record { ran = c .idle2 .ensures; replies = refl; answered = refl })
-
-run-all-requires : tie.Need-run-all-requires
-run-all-requires c κs = search needs
-
-same-length : tie.Need-same-length
-same-length c = search needs
-
-same-length-2 : tie.Need-same-length-2
-same-length-2 c = search needs
+returns-2 c = rw (sym (c .before .before .before .outcome-of .ensures) ∙ c .before .enum-told2 .given .1, c .idle .ensures) (record { number = refl; result = refl; replies = refl; answered = refl })
 
 returns-3 : tie.Need-returns-3
-unfolding outcomeOf
-returns-3 c = rw (le-ltb _ _ (c .before .before .before .before .before .before .before .before .if1 .left), le-ltb _ _ (c .before .before .before .before .before .before .before .if2 .left)) (c .before .before .before .before .run-all .ensures)
+returns-3 c = rw (sym (c .before .before .before .outcome-of .ensures) ∙ c .before .enum-told3 .given .1, c .idle2 .ensures) (record { number = refl; result = refl; replies = refl; answered = refl })
 
 pub run-spec : {M : Type 1} → statement M
 run-spec =
     tie.close
     (tie.spec
-    idle-requires
-    returns
-    add-if2
-    idle-requires-2
-    returns-2
+    (λ c κs. search needs)
+    (λ c. search needs)
     run-all-requires
-    same-length
-    same-length-2
+    (λ c. search needs)
+    (λ c κs. search needs)
+    (λ c. search needs)
+    (λ c κs. search needs)
+    (λ c. search needs)
+    (λ c. search needs)
+    returns
+    returns-2
     returns-3)

@@ -1,94 +1,140 @@
--- `records::run_all` meets its contract: each turn of the loop takes one record, and what is still to come is the rest of the whole. Assumes nothing.
-use mathlib.Core.Path.{refl}
+-- Each turn of the loop takes one record, and what is still to come is the rest of the whole.
+use mathlib.Core.Path.{refl, ap, _∙_}
+use mathlib.Core.Logic.{⊎-elim}
 use Prim.Native.Nat.{_-_}
 use native.Mathlib.Omega.{arith}
 use lib.ListN.{length}
 use denote.Ref.{now}
+use Rattle.parts.specs.Parts.{part}
 use Rattle.parts.proofs.Laws.{part-rest}
-use Rattle.records.proofs.Runs.{Going, going-start, going-end, step-slot, step-used, step-replied, step-going}
+use Rattle.events.specs.declared.Event.the-variants.{Change}
+use Rattle.runs.proofs.Going.{going-start, going-end, going-slot, going-more}
+use Rattle.steps.specs.declared.Asked.the-variants.{Run}
+use Rattle.steps.specs.Step.{didOf}
+use Rattle.steps.proofs.Steps.{did-fits}
+use Rattle.steps.proofs.Fronts.{Front, front, ran, idle}
+use Rattle.records.specs.Run.{emptyOf}
+use Rattle.records.proofs.Turns.{Turn, master-starts, turn-held, turn-idle, turn-silent, turn-reply, Stands, front-fits, front-within}
+-- what was read of the record at the front
+-- what the arms of the match have in common
 use borrow.Author.Needs.{needs}
 use Rattle.records.proofs.run_all.Statement.{statement}
 use Rattle.records.proofs.run_all.Tie as tie
 
 abbrev Inv-loop : tie.InvT-loop
-Inv-loop s room₀ answers₀ state₀ at₀ used₀ lines₀ room answers state at used lines =
-    Going s room₀ answers₀ state at used lines room answers
+Inv-loop s room₀ answers₀ loaded₀ gauge₀ at₀ used₀ lines₀ room answers loaded gauge at used lines =
+    Stands s room₀ answers₀ loaded gauge at used lines room answers
 
 abbrev μ-loop : tie.MeasureT-loop
-μ-loop s room₀ answers₀ state₀ at₀ used₀ lines₀ room answers state at used lines = length s - at
+μ-loop s room₀ answers₀ loaded₀ gauge₀ at₀ used₀ lines₀ room answers loaded gauge at used lines = length s - at
 
-empty-requires : tie.Need-empty-requires Inv-loop μ-loop
-empty-requires c κs = search needs
+-- what was read of the record at the front
+at-front : (c : tie.After-front Inv-loop μ-loop) → let l = c .before .before .before .loop in let s = now (c .before .before .before .before .before .before .before .before .before .args .s) in
+    Front (record { loaded = l .loaded; gauge = l .gauge }) (length (l .room) - l .used) (part (length s - l .at) s (l .at)) (c .front .result)
+at-front c = front _ _ _ (c .front .ensures)
+
+-- what the arms of the match have in common
+turned : (c : tie.At-match-came Inv-loop μ-loop) → let l = c .before .before .before .before .before .loop in let s = now (c .before .before .before .before .before .before .before .before .before .before .before .args .s) in
+    Turn (record { loaded = l .loaded; gauge = l .gauge }) (l .room) (l .used) (part (length s - l .at) s (l .at)) (c .match .loaded) (c .match .gauge) (c .match .room) (c .match .used) (c .match .line)
+turned c =
+    let g = c .before .before .before .before .before .loop .inv in
+    let f = at-front (c .before .before) in
+    let n = c .before .code .ensures in
+    ⊎-elim (λ w. turn-idle f (idle f (w .1 .given .1)) (g .wf) (w .3) (w .4) (w .2) (w .5) (w .6 ∙ n))
+    (⊎-elim (λ w. turn-silent f (w .6 .ensures .1) (w .8) (w .9) (ran f (w .1 .given .1 ∙ ap Run (w .4 .given .1))) (w .6 .ensures .0) refl (w .7) (w .10) (w .11 ∙ n))
+    (⊎-elim (λ w. turn-silent f (w .9 .ensures .1) (w .11) (w .12) (ran f (w .1 .given .1 ∙ ap Run (w .4 .given .1 ∙ ap Change (w .7 .given .1)))) (w .9 .ensures .0) refl (w .10) (w .13) (w .14 ∙ n))
+    (⊎-elim (λ w. turn-silent f (w .9 .ensures .1) (w .11) (w .12) (ran f (w .1 .given .1 ∙ ap Run (w .4 .given .1 ∙ ap Change (w .7 .given .1)))) (w .9 .ensures .0) refl (w .10) (w .13) (w .14 ∙ n))
+    (⊎-elim (λ w. turn-silent f (w .8 .ensures .1) (w .10) (w .11) (ran f (w .1 .given .1 ∙ ap Run (w .4 .given .1 ∙ ap Change (w .7 .given .1)))) (w .8 .ensures .0) refl (w .9) (w .12) (w .13 ∙ n))
+    (λ w. turn-reply f (w .9 .ensures .1 .1) (w .15) (w .16) (ran f (w .1 .given .1 ∙ ap Run (w .4 .given .1))) (omega (arith, g .going .used-fits, g .going .same-room)) (w .9 .ensures .0) (w .9 .ensures .1 .0) (w .14) (w .17) (w .18 ∙ w .13 .ensures)))))) (c .match .came)
 
 loop-holds : tie.Need-loop-holds Inv-loop μ-loop
-loop-holds c = rw (c .empty .ensures .0) (going-start _ _ _ (rw (c .empty .ensures .0) at (c .empty .ensures .1)))
+loop-holds c = rw (c .before .empty .ensures .0) (record { going = going-start didOf emptyOf _ _ _; wf = (rw (c .before .empty .ensures .0) at (c .before .empty .ensures .1)) .gauge })
 
-sub-step : tie.Need-sub-step Inv-loop μ-loop
-sub-step c = omega (arith, c .before .loop .inv .at-fits)
+sub-l : tie.Need-sub-l Inv-loop μ-loop
+sub-l c = omega (arith, c .before .loop .inv .going .at-fits)
 
-part-step-start : tie.Need-part-step-start Inv-loop μ-loop
-part-step-start c = omega (arith, c .before .loop .inv .at-fits)
+part-l-start : tie.Need-part-l-start Inv-loop μ-loop
+part-l-start c = omega (arith, c .before .loop .inv .going .at-fits)
 
-part-step-end : tie.Need-part-step-end Inv-loop μ-loop
-part-step-end c = omega (arith, c .before .loop .inv .at-fits)
+part-l-end : tie.Need-part-l-end Inv-loop μ-loop
+part-l-end c = omega (arith, c .before .loop .inv .going .at-fits)
 
-sub-step-2 : tie.Need-sub-step-2 Inv-loop μ-loop
-sub-step-2 c = omega (arith, c .before .before .loop .inv .used-fits, c .before .before .loop .inv .same-room)
+sub-front : tie.Need-sub-front Inv-loop μ-loop
+sub-front c = omega (arith, c .before .before .loop .inv .going .used-fits, c .before .before .loop .inv .going .same-room)
 
-part-step-start-2 : tie.Need-part-step-start-2 Inv-loop μ-loop
-part-step-start-2 c = omega (arith, c .before .before .loop .inv .used-fits, c .before .before .loop .inv .same-room)
+sub-image-in : tie.Need-sub-image-in Inv-loop μ-loop
+sub-image-in c = omega (arith, ran (at-front (c .before .before .before .before .before .before)) (c .before .before .before .asked .given .1) .head)
 
-part-step-end-2 : tie.Need-part-step-end-2 Inv-loop μ-loop
-part-step-end-2 c = omega (arith, c .before .before .loop .inv .used-fits, c .before .before .loop .inv .same-room)
+part-image-in-start : tie.Need-part-image-in-start Inv-loop μ-loop
+part-image-in-start c = omega (arith, ran (at-front (c .before .before .before .before .before .before)) (c .before .before .before .asked .given .1) .head)
 
-step-requires : tie.Need-step-requires Inv-loop μ-loop
-step-requires c κs = c .before .before .before .loop .inv .wf
+part-image-in-end : tie.Need-part-image-in-end Inv-loop μ-loop
+part-image-in-end c = omega (arith, front-fits (c .before .before .before .before .before .before .before .before .before .loop .inv) (c .before .before .before .before .before .before .before .before .loop-test .taken) (at-front (c .before .before .before .before .before .before)))
 
-code-requires : tie.Need-code-requires Inv-loop μ-loop
-code-requires c κs = search needs
+image-in-requires : tie.Need-image-in-requires Inv-loop μ-loop
+image-in-requires c κs = ran (at-front (c .before .before .before .before .before .before .before)) (c .before .before .before .before .asked .given .1 ∙ ap Run (c .before .enum-told2 .given .1)) .sized
 
-mul-answers : tie.Need-mul-answers Inv-loop μ-loop
-mul-answers c = omega (arith, c .before .before .before .before .before .before .before .loop .inv .slots (c .before .before .before .before .before .before .loop-test .taken), c .before .before .before .before .before .before .before .loop .inv .at-fits, c .before .before .before .before .before .before .before .before .before .before .before .before .pre .0)
+read-requires : tie.Need-read-requires Inv-loop μ-loop
+read-requires c κs = c .before .before .before .before .before .before .before .before .before .before .before .before .before .loop .inv .wf
 
-slice-write-answers : tie.Need-slice-write-answers Inv-loop μ-loop
-slice-write-answers c =
-    let l = c .before .before .before .before .before .before .before .loop in
-    step-slot (l .inv) (c .before .before .before .before .before .before .loop-test .taken) (part-rest (now (c .before .before .before .before .before .before .before .before .before .before .before .before .args .s)) (l .at)) (part-rest (l .room) (l .used)) (c .before .before .before .step .ensures) (c .before .before .before .before .before .before .before .before .before .before .before .before .pre .1)
+convert-requires : tie.Need-convert-requires Inv-loop μ-loop
+convert-requires c κs = c .before .before .before .before .before .before .before .before .before .before .before .before .before .loop .inv .wf
 
-add-at : tie.Need-add-at Inv-loop μ-loop
-add-at c =
-    let l = c .before .before .before .before .before .before .before .before .before .loop in
-    omega (arith, step-used (l .inv) (c .before .before .before .before .before .before .before .before .loop-test .taken) (part-rest (now (c .before .before .before .before .before .before .before .before .before .before .before .before .before .before .args .s)) (l .at)) (part-rest (l .room) (l .used)) (c .before .before .before .before .before .step .ensures) .0, l .inv .at-fits, c .before .before .before .before .before .before .before .before .before .before .before .before .before .before .pre .0)
+add-from : tie.Need-add-from Inv-loop μ-loop
+add-from c = omega (arith, ran (at-front (c .before .before .before .before .before .before .before .before)) (c .before .before .before .before .before .asked .given .1 ∙ ap Run (c .before .before .e2 .given .1)) .sized .near)
 
-cast-used : tie.Need-cast-used Inv-loop μ-loop
-cast-used c = search needs
+sub-transact : tie.Need-sub-transact Inv-loop μ-loop
+sub-transact c = omega (arith, master-starts (ran (at-front (c .before .before .before .before .before .before .before .before)) (c .before .before .before .before .before .asked .given .1 ∙ ap Run (c .before .before .e2 .given .1))))
+
+part-transact-start : tie.Need-part-transact-start Inv-loop μ-loop
+part-transact-start c = omega (arith, master-starts (ran (at-front (c .before .before .before .before .before .before .before .before)) (c .before .before .before .before .before .asked .given .1 ∙ ap Run (c .before .before .e2 .given .1))))
+
+part-transact-end : tie.Need-part-transact-end Inv-loop μ-loop
+part-transact-end c = omega (arith, front-fits (c .before .before .before .before .before .before .before .before .before .before .before .loop .inv) (c .before .before .before .before .before .before .before .before .before .before .loop-test .taken) (at-front (c .before .before .before .before .before .before .before .before)))
+
+sub-transact-2 : tie.Need-sub-transact-2 Inv-loop μ-loop
+sub-transact-2 c = omega (arith, c .before .before .before .before .before .before .before .before .before .before .before .before .loop .inv .going .used-fits, c .before .before .before .before .before .before .before .before .before .before .before .before .loop .inv .going .same-room)
+
+part-transact-start-2 : tie.Need-part-transact-start-2 Inv-loop μ-loop
+part-transact-start-2 c = omega (arith, c .before .before .before .before .before .before .before .before .before .before .before .before .loop .inv .going .used-fits, c .before .before .before .before .before .before .before .before .before .before .before .before .loop .inv .going .same-room)
+
+part-transact-end-2 : tie.Need-part-transact-end-2 Inv-loop μ-loop
+part-transact-end-2 c = omega (arith, c .before .before .before .before .before .before .before .before .before .before .before .before .loop .inv .going .used-fits, c .before .before .before .before .before .before .before .before .before .before .before .before .loop .inv .going .same-room)
+
+transact-requires : tie.Need-transact-requires Inv-loop μ-loop
+transact-requires c κs = (c .before .before .before .before .before .before .before .before .before .before .before .before .before .loop .inv .wf, turn-held (c .before .before .before .before .before .before .before .before .before .before .before .before .before .loop .room) (c .before .before .before .before .before .before .before .before .before .before .before .before .before .loop .used) (ran (at-front (c .before .before .before .before .before .before .before .before .before .before)) (c .before .before .before .before .before .before .before .asked .given .1 ∙ ap Run (c .before .before .before .before .e2 .given .1))))
 
 add-used : tie.Need-add-used Inv-loop μ-loop
-add-used c =
-    let l = c .before .before .before .before .before .before .before .before .before .before .loop in
-    omega (arith, step-replied (l .inv) (c .before .before .before .before .before .before .before .before .before .loop-test .taken) (part-rest (now (c .before .before .before .before .before .before .before .before .before .before .before .before .before .before .before .args .s)) (l .at)) (part-rest (l .room) (l .used)) (c .before .before .before .before .before .before .step .ensures), l .inv .used-fits, c .before .before .before .before .before .before .before .before .before .before .before .before .before .before .before .good .1 .0)
+add-used c = omega (arith, ran (at-front (c .before .before .before .before .before .before .before .before .before .before .before .before .before .before)) (c .before .before .before .before .before .before .before .before .before .before .before .asked .given .1 ∙ ap Run (c .before .before .before .before .before .before .before .before .e2 .given .1)) .held, c .before .before .before .before .before .before .before .before .before .before .before .before .before .before .before .before .before .loop .inv .going .used-fits, c .before .before .before .before .before .before .before .before .before .before .before .before .before .before .before .before .before .loop .inv .going .same-room, c .before .before .before .before .before .before .before .before .before .before .before .before .before .before .before .before .before .before .before .before .before .before .before .good .1 .0)
+
+mul-answers : tie.Need-mul-answers Inv-loop μ-loop
+mul-answers c = omega (arith, c .before .before .before .before .before .loop .inv .going .slots (c .before .before .before .before .loop-test .taken), c .before .before .before .before .before .loop .inv .going .at-fits, c .before .before .before .before .before .before .before .before .before .before .before .pre .0)
+
+slice-write-answers : tie.Need-slice-write-answers Inv-loop μ-loop
+slice-write-answers c = going-slot didOf emptyOf (c .before .before .before .before .before .loop .inv .going) (c .before .before .before .before .loop-test .taken) (c .before .before .before .before .before .before .before .before .before .before .before .pre .1)
+
+add-at : tie.Need-add-at Inv-loop μ-loop
+add-at c = omega (arith, front-within (c .before .before .before .before .before .loop .inv) (c .before .before .before .before .loop-test .taken) (at-front (c .before .before)) .0, c .before .before .before .before .before .loop .inv .going .at-fits, c .before .before .before .before .before .before .before .before .before .before .before .pre .0)
 
 add-lines : tie.Need-add-lines Inv-loop μ-loop
-add-lines c = omega (arith, c .before .before .before .before .before .before .before .before .before .before .loop .inv .slots (c .before .before .before .before .before .before .before .before .before .loop-test .taken), c .before .before .before .before .before .before .before .before .before .before .loop .inv .at-fits, c .before .before .before .before .before .before .before .before .before .before .before .before .before .before .before .pre .0)
+add-lines c = omega (arith, c .before .before .before .before .before .loop .inv .going .slots (c .before .before .before .before .loop-test .taken), c .before .before .before .before .before .loop .inv .going .at-fits, c .before .before .before .before .before .before .before .before .before .before .before .pre .0)
 
 loop-less : tie.Need-loop-less Inv-loop μ-loop
-loop-less c =
-    let l = c .before .before .before .before .before .before .before .before .before .before .loop in
-    omega (arith, step-used (l .inv) (c .before .before .before .before .before .before .before .before .before .loop-test .taken) (part-rest (now (c .before .before .before .before .before .before .before .before .before .before .before .before .before .before .before .args .s)) (l .at)) (part-rest (l .room) (l .used)) (c .before .before .before .before .before .before .step .ensures), l .inv .at-fits)
+loop-less c = omega (arith, front-within (c .before .before .before .before .before .loop .inv) (c .before .before .before .before .loop-test .taken) (at-front (c .before .before)), c .before .before .before .before .before .loop .inv .going .at-fits)
 
 loop-again : tie.Need-loop-again Inv-loop μ-loop
 loop-again c =
-    let l = c .before .before .before .before .before .before .before .before .before .before .loop in
-    step-going (l .inv) (c .before .before .before .before .before .before .before .before .before .loop-test .taken) (part-rest (now (c .before .before .before .before .before .before .before .before .before .before .before .before .before .before .before .args .s)) (l .at)) (part-rest (l .room) (l .used)) (c .before .before .before .before .before .before .step .ensures) _ _ refl (c .before .before .before .code .ensures)
+    let t = turned c in
+    record { going = going-more didOf emptyOf (c .before .before .before .before .before .loop .inv .going) (c .before .before .before .before .loop-test .taken) did-fits (part-rest (now (c .before .before .before .before .before .before .before .before .before .before .before .args .s)) (c .before .before .before .before .before .loop .at)) (at-front (c .before .before) .used) (t .left); wf = t .kept }
 
 same-length : tie.Need-same-length Inv-loop μ-loop
-same-length c = c .before .loop .inv .same-room
+same-length c = c .before .loop .inv .going .same-room
 
 same-length-2 : tie.Need-same-length-2 Inv-loop μ-loop
-same-length-2 c = c .before .loop .inv .same-answers
+same-length-2 c = c .before .loop .inv .going .same-answers
 
 returns : tie.Need-returns Inv-loop μ-loop
-returns c = going-end (c .before .loop .inv) (c .loop-test .left)
+returns c = going-end didOf emptyOf (c .before .loop .inv .going) (c .loop-test .left)
 
 pub run-all-spec : {M : Type 1} → statement M
 run-all-spec =
@@ -96,21 +142,44 @@ run-all-spec =
     (tie.spec
     Inv-loop
     μ-loop
-    empty-requires
+    (λ c κs. search needs)
     loop-holds
-    sub-step
-    part-step-start
-    part-step-end
-    sub-step-2
-    part-step-start-2
-    part-step-end-2
-    step-requires
-    code-requires
+    sub-l
+    part-l-start
+    part-l-end
+    sub-front
+    (λ c κs. search needs)
+    (λ c κs. search needs)
+    (λ c. search needs)
+    (λ c. search needs)
+    (λ c. search needs)
+    sub-image-in
+    part-image-in-start
+    part-image-in-end
+    image-in-requires
+    (λ c. search needs)
+    (λ c. search needs)
+    read-requires
+    (λ c. search needs)
+    convert-requires
+    (λ c. search needs)
+    (λ c κs. search needs)
+    (λ c. search needs)
+    (λ c. search needs)
+    add-from
+    sub-transact
+    part-transact-start
+    part-transact-end
+    sub-transact-2
+    part-transact-start-2
+    part-transact-end-2
+    transact-requires
+    (λ c. search needs)
+    add-used
+    (λ c κs. search needs)
     mul-answers
     slice-write-answers
     add-at
-    cast-used
-    add-used
     add-lines
     loop-less
     loop-again

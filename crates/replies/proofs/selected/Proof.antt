@@ -10,7 +10,7 @@ returns c = rw (c .enum-told .given .1) refl
 
 returns-2 : tie.Need-returns-2
 unfolding selectedOf
-returns-2 c = rw (c .before .before .enum-told2 .given .1) (c .own .ensures)
+returns-2 c = rw (c .before .enum-told2 .given .1) (c .own .ensures)
 
 returns-3 : tie.Need-returns-3
 unfolding selectedOf

@@ -1,24 +1,38 @@
-use Rattle.stores.specs.Stores.{acrWritten}
+use mathlib.Core.Path.{sym, _∙_}
+use Rattle.stores.specs.Stores.{acrWrittenOf}
+use Rattle.numbers.proofs.Bounds.{both-true}
+use Rattle.charge.proofs.Laws.{set-wf}
 use borrow.Author.Needs.{needs}
 use Rattle.stores.proofs.acr_written.Statement.{statement}
 use Rattle.stores.proofs.acr_written.Tie as tie
 
-joined-requires : tie.Need-joined-requires
-joined-requires c κs = search needs
+byte-for-requires : tie.Need-byte-for-requires
+byte-for-requires c κs =
+    let test = c .before in
+    sym (test .before .before .reaches .ensures) ∙ both-true _ _ (sym (test .and .ensures) ∙ c .if1 .taken) .0
 
-cast-count : tie.Need-cast-count
-cast-count c = search needs
-
-mul-count : tie.Need-mul-count
-mul-count c = search needs
+byte-for-requires-2 : tie.Need-byte-for-requires-2
+byte-for-requires-2 c κs =
+    let test = c .before .before in
+    sym (test .before .reaches2 .ensures) ∙ both-true (test .before .before .reaches .result) _ (sym (test .and .ensures) ∙ c .before .if1 .taken) .1
 
 returns : tie.Need-returns
-unfolding acrWritten
-returns c = simp (c .before .before .before .if1 .taken, c .before .before .joined .ensures)
+unfolding acrWrittenOf
+returns c =
+    let byte = c .before .before .before in
+    let test = byte .before .before in (
+      simp (sym (test .before .before .reaches .ensures), sym (test .before .reaches2 .ensures), sym (test .and .ensures) ∙ byte .before .if1 .taken)
+          (c .set .ensures ∙ simp (c .before .joined .ensures, c .before .before .byte-for2 .ensures, byte .byte-for .ensures)),
+      rw (c .set .ensures) (set-wf _ _ _ (search needs) (test .before .before .before .before .pre .1)),
+    )
 
 returns-2 : tie.Need-returns-2
-unfolding acrWritten
-returns-2 c = simp (c .if1 .left)
+unfolding acrWrittenOf
+returns-2 c =
+    let test = c .before in (
+      simp (sym (test .before .before .reaches .ensures), sym (test .before .reaches2 .ensures), sym (test .and .ensures) ∙ c .if1 .left),
+      test .before .before .before .before .pre .1,
+    )
 
 pub acr-written-spec : {M : Type 1} → statement M
-acr-written-spec = tie.close (tie.spec joined-requires cast-count mul-count returns returns-2)
+acr-written-spec = tie.close (tie.spec (λ c κs. search needs) (λ c κs. search needs) (λ c κs. search needs) byte-for-requires byte-for-requires-2 (λ c κs. search needs) (λ c κs. search needs) returns returns-2)

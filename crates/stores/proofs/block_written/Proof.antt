@@ -1,22 +1,19 @@
-use native.Mathlib.Omega.{arith}
-use Rattle.stores.specs.Stores.{blockWritten}
-use Rattle.blocks.proofs.Addresses.{in-block-low, in-block-high}
+use denote.Ref.{now}
+use Rattle.parts.proofs.Laws.{laid-sized}
+use Rattle.stores.specs.Stores.{blockWrittenOf}
 use borrow.Author.Needs.{needs}
 use Rattle.stores.proofs.block_written.Statement.{statement}
 use Rattle.stores.proofs.block_written.Tie as tie
 
-sub-i : tie.Need-sub-i
-sub-i c = omega (arith, in-block-low _ (c .pre))
-
-element-write-written : tie.Need-element-write-written
-element-write-written c = omega (arith, in-block-low _ (c .before .pre), in-block-high _ (c .before .pre))
-
-replaced-requires : tie.Need-replaced-requires
-replaced-requires c κs = search needs
-
 returns : tie.Need-returns
-unfolding blockWritten
-returns c = c .replaced .ensures
+unfolding blockWrittenOf
+returns c = simp (c .if1 .taken)
+
+returns-2 : tie.Need-returns-2
+unfolding blockWrittenOf
+returns-2 c =
+    let start = c .before .before .before .before .before .before .args in
+    simp (c .before .before .before .before .if1 .left, laid-sized 0x60 (start .b .shadow) (start .a) (now (start .bytes)) 32 (search needs) (c .before .laid .ensures))
 
 pub block-written-spec : {M : Type 1} → statement M
-block-written-spec = tie.close (tie.spec sub-i element-write-written replaced-requires returns)
+block-written-spec = tie.close (tie.spec returns (λ c. search needs) (λ c κs. search needs) returns-2)

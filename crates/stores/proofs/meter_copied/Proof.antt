@@ -1,17 +1,12 @@
-use Rattle.numbers.proofs.Bounds.{also}
-use Rattle.meter.specs.State.{MeterWF}
-use Rattle.stores.specs.Stores.{meterCopied}
-use Rattle.stores.proofs.Laws.{copied-wf}
+use mathlib.Core.Path.{_∙_}
+use Rattle.stores.specs.Stores.{meterCopiedOf}
 use borrow.Author.Needs.{needs}
 use Rattle.stores.proofs.meter_copied.Statement.{statement}
 use Rattle.stores.proofs.meter_copied.Tie as tie
 
-replaced-requires : tie.Need-replaced-requires
-replaced-requires c κs = search needs
-
 returns : tie.Need-returns
-unfolding meterCopied
-returns c = also MeterWF (c .replaced .ensures) (copied-wf _ (c .before .before .pre))
+unfolding meterCopiedOf
+returns c = (c .reblocked .ensures .0 ∙ simp (c .before .block-copied .ensures), c .reblocked .ensures .1)
 
 pub meter-copied-spec : {M : Type 1} → statement M
-meter-copied-spec = tie.close (tie.spec replaced-requires returns)
+meter-copied-spec = tie.close (tie.spec (λ c κs. search needs) (λ c κs. search needs) returns)

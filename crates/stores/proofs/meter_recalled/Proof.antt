@@ -1,17 +1,12 @@
-use Rattle.numbers.proofs.Bounds.{also}
-use Rattle.meter.specs.State.{MeterWF}
-use Rattle.stores.specs.Stores.{meterRecalled}
-use Rattle.stores.proofs.Laws.{recalled-wf}
+use mathlib.Core.Path.{_∙_}
+use Rattle.stores.specs.Stores.{meterRecalledOf}
 use borrow.Author.Needs.{needs}
 use Rattle.stores.proofs.meter_recalled.Statement.{statement}
 use Rattle.stores.proofs.meter_recalled.Tie as tie
 
-replaced-requires : tie.Need-replaced-requires
-replaced-requires c κs = search needs
-
 returns : tie.Need-returns
-unfolding meterRecalled
-returns c = also MeterWF (c .replaced .ensures) (recalled-wf _ (c .before .before .pre))
+unfolding meterRecalledOf
+returns c = (c .reblocked .ensures .0 ∙ simp (c .before .block-recalled .ensures), c .reblocked .ensures .1)
 
 pub meter-recalled-spec : {M : Type 1} → statement M
-meter-recalled-spec = tie.close (tie.spec replaced-requires returns)
+meter-recalled-spec = tie.close (tie.spec (λ c κs. search needs) (λ c κs. search needs) returns)

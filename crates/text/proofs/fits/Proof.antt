@@ -1,4 +1,4 @@
--- `text::fits` meets its contract. Assumes nothing.
+-- `text::fits` meets its contract.
 use native.Mathlib.Omega.{arith}
 use borrow.Author.Tests.{le-leb, lt-leb}
 use Prim.Native.Nat.{_+_, _*_, _<_}
@@ -12,12 +12,6 @@ returns : tie.Need-returns
 unfolding fitsOf
 returns c = simp (lt-leb _ _ (c .if1 .taken))
 
-mul-least : tie.Need-mul-least
-mul-least c = search needs
-
-add-least : tie.Need-add-least
-add-least c = search needs
-
 returns-2 : tie.Need-returns-2
 unfolding fitsOf
 returns-2 c =
@@ -26,7 +20,7 @@ returns-2 c =
 
 returns-3 : tie.Need-returns-3
 unfolding fitsOf
-returns-3 c = simp (le-leb _ _ (c .before .if1 .left), half-test (36 + 15 * c .before .before .args .lines) (c .before .before .args .replied) (c .before .before .args .room) (c .if2 .left))
+returns-3 c = simp (le-leb _ _ (c .before .if1 .left), half-test (36 + 17 * c .before .before .args .lines) (c .before .before .args .replied) (c .before .before .args .room) (c .if2 .left))
 
 pub fits-spec : {M : Type 1} → statement M
-fits-spec = tie.close (tie.spec returns mul-least add-least returns-2 returns-3)
+fits-spec = tie.close (tie.spec returns (λ c. search needs) (λ c. search needs) returns-2 returns-3)

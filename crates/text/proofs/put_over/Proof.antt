@@ -1,28 +1,15 @@
--- `text::put_over` meets its contract. Assumes nothing.
-use mathlib.Core.Path.{refl}
-use denote.Ref.{now}
+-- `text::put_over` meets its contract.
+use Rattle.digits.specs.Digits.{shownText, decimalText}
+use Rattle.line.specs.Line.{replyText, endText}
 use Rattle.text.specs.Text.{overText}
-use Rattle.line.proofs.Laws.{piece}
 use borrow.Author.Needs.{needs}
 use Rattle.text.proofs.put_over.Statement.{statement}
 use Rattle.text.proofs.put_over.Tie as tie
 
-slice-aggregate-store : tie.Need-slice-aggregate-store
-slice-aggregate-store c = search needs
-
-store-requires : tie.Need-store-requires
-store-requires c κs = search needs
-
-add-result : tie.Need-add-result
-add-result c = search needs
-
-same-length : tie.Need-same-length
-same-length c = search needs
-
 returns : tie.Need-returns
-unfolding overText
-returns c = piece 11 overText (now (c .before .before .before .before .before .before .args .out)) (c .before .before .before .before .before .before .args .at) (c .before .before .store .last .1 .0) refl (c .before .before .store .ensures)
+unfolding overText decimalText shownText endText replyText
+returns c = c .before .before .put-bytes .ensures
 
 pub put-over-spec : {M : Type 1} → statement M
 put-over-spec =
-    tie.close (tie.spec slice-aggregate-store store-requires add-result same-length returns)
+    tie.close (tie.spec (λ c. search needs) (λ c κs. search needs) (λ c. search needs) returns)

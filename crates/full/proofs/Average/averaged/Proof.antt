@@ -4,15 +4,6 @@ use borrow.Author.Needs.{needs}
 use Rattle.full.proofs.Average.averaged.Statement.{statement}
 use Rattle.full.proofs.Average.averaged.Tie as tie
 
-add-sum : tie.Need-add-sum
-add-sum c = search needs
-
-cast-t8 : tie.Need-cast-t8
-cast-t8 c = search needs
-
-add-t9 : tie.Need-add-t9
-add-t9 c = search needs
-
 returns : tie.Need-returns
 unfolding averagedOf
 returns c = simp (c .if1 .taken)
@@ -22,4 +13,4 @@ unfolding averagedOf
 returns-2 c = simp (ne-eqb _ _ (c .before .if1 .left))
 
 pub averaged-spec : {M : Type 1} → statement M
-averaged-spec = tie.close (tie.spec add-sum cast-t8 add-t9 returns returns-2)
+averaged-spec = tie.close (tie.spec (λ c. search needs) (λ c. search needs) (λ c. search needs) returns returns-2)

@@ -1,64 +1,80 @@
-use mathlib.Core.Path.{_≡_, refl}
+use mathlib.Core.Path.{_≡_, refl, ap, _∙_}
 use mathlib.Core.List.{List}
-use Prim.Native.Nat.{ℕ}
-use lib.ListN.{drop}
+use Prim.Native.Nat.{ℕ, _-_, min}
+use lib.ListN.{length, drop}
+use denote.Ref.{now}
+use Rattle.parts.specs.Parts.{part}
+use Rattle.parts.proofs.Laws.{part-rest, drop-lower}
 use Rattle.bus.specs.declared.Command.{Command}
 use Rattle.bus.specs.declared.Command.the-variants.{Write, Copy, Recall, Lock}
 use Rattle.bus.specs.declared.Transaction.{Transaction}
 use Rattle.gauge.specs.declared.Gauge.{Gauge}
+use Rattle.gauge.specs.Gauge.{writtenOf}
 use Rattle.gauge.specs.Act.{ranBy, ranOf}
 use borrow.Author.Needs.{needs}
 use Rattle.gauge.proofs.Gauge.ran.Statement.{statement}
 use Rattle.gauge.proofs.Gauge.ran.Tie as tie
 
 -- a command that did its work at the address and with the bytes of the transaction
-ran-by : (x : Command) (g r : Gauge) (t : Transaction) (master : List ℕ) (a from : ℕ) →
-    t .command ≡ x → a ≡ t .address → from ≡ t .from → r ≡ ranBy x g a (drop from master) → r ≡ ranOf g t master
+ran-by : (x : Command) (g r : Gauge) (t : Transaction) (master : List ℕ) (a : ℕ) →
+    t .command ≡ x → a ≡ t .address → r ≡ ranBy x g a (drop (t .from) master) → r ≡ ranOf g t master
 unfolding ranOf
-ran-by x g r t master a from e f h k = rw (e, ← f, ← h) k
+ran-by x g r t master a e f k = rw (e, ← f) k
+
+-- the bytes that are to be written
+bytes-after : (master : List ℕ) (i from n : ℕ) → i ≡ from → n ≡ min i (length master) → part (length master - n) master n ≡ drop from master
+bytes-after master i from n e f = part-rest master n ∙ rw (f, e) (drop-lower from master)
 
 returns : tie.Need-returns
 unfolding ranOf
-returns c = (rw (c .enum-told .given .1) refl, c .before .before .before .before .before .pre)
+returns c = (rw (c .enum-told .given .1) refl, c .before .before .before .before .pre)
 
 returns-2 : tie.Need-returns-2
 returns-2 c =
-    let told = c .before in (
-      ran-by Write _ _ _ _ _ _ (told .enum-told2 .given .1) (told .before .before .before .wide .ensures .0) (told .before .before .wide2 .ensures .0) (c .writes .ensures .0),
-      c .writes .ensures .1,
+    let lower = c .before .before in
+    let told = lower .before .before in
+    let wide = told .before .before in
+    let a = wide .before .before .args in (
+      ran-by Write (a .self) _ (a .t) (now (a .master)) _ (told .enum-told2 .given .1) (wide .wide .ensures .0)
+          (c .written .ensures .0 ∙ ap (writtenOf (a .self) _) (bytes-after (now (a .master)) _ (a .t .from) _ (lower .before .wide2 .ensures .0) (lower .lower .ensures))),
+      c .written .ensures .1,
     )
 
 returns-3 : tie.Need-returns-3
 returns-3 c =
     let told = c .before in (
-      ran-by Copy _ _ _ _ _ _ (told .enum-told3 .given .1) (told .before .before .before .wide .ensures .0) (told .before .before .wide2 .ensures .0) (c .copied .ensures .0),
+      ran-by Copy _ _ _ _ _ (told .enum-told3 .given .1) (told .before .before .wide .ensures .0) (c .copied .ensures .0),
       c .copied .ensures .1,
     )
 
 returns-4 : tie.Need-returns-4
 returns-4 c =
     let told = c .before in (
-      ran-by Recall _ _ _ _ _ _ (told .enum-told4 .given .1) (told .before .before .before .wide .ensures .0) (told .before .before .wide2 .ensures .0) (c .recalled .ensures .0),
+      ran-by Recall _ _ _ _ _ (told .enum-told4 .given .1) (told .before .before .wide .ensures .0) (c .recalled .ensures .0),
       c .recalled .ensures .1,
     )
 
 returns-5 : tie.Need-returns-5
 returns-5 c =
     let told = c .before in (
-      ran-by Lock _ _ _ _ _ _ (told .enum-told5 .given .1) (told .before .before .before .wide .ensures .0) (told .before .before .wide2 .ensures .0) (c .locked .ensures .0),
+      ran-by Lock _ _ _ _ _ (told .enum-told5 .given .1) (told .before .before .wide .ensures .0) (c .locked .ensures .0),
       c .locked .ensures .1,
     )
 
 returns-6 : tie.Need-returns-6
 unfolding ranOf
-returns-6 c = (rw (c .enum-told6 .given .1) refl, c .before .before .before .before .before .pre)
+returns-6 c = (rw (c .enum-told6 .given .1) refl, c .before .before .before .before .pre)
 
 pub ran-spec : {M : Type 1} → statement M
 ran-spec =
     tie.close
     (tie.spec
     (λ c κs. search needs)
+    (λ c. search needs)
+    (λ c. search needs)
     (λ c κs. search needs)
+    (λ c κs. search needs)
+    (λ c. search needs)
     (λ c. search needs)
     (λ c. search needs)
     (λ c κs. search needs)

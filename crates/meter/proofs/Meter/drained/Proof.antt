@@ -1,27 +1,19 @@
+use Rattle.numbers.proofs.Bounds.{also}
+use Rattle.charge.specs.Charge.{ChargeWF}
 use Rattle.meter.specs.Read.{drainedOf}
+use Rattle.meter.proofs.Laws.{drained-wf}
 use borrow.Author.Needs.{needs}
 use Rattle.meter.proofs.Meter.drained.Statement.{statement}
 use Rattle.meter.proofs.Meter.drained.Tie as tie
 
-cast-share : tie.Need-cast-share
-cast-share c = search needs
-
-share-requires : tie.Need-share-requires
-share-requires c κs = search needs
-
-cast-e : tie.Need-cast-e
-cast-e c = search needs
-
-point-requires : tie.Need-point-requires
-point-requires c κs = search needs
-
-emptied-requires : tie.Need-emptied-requires
-emptied-requires c κs = search needs
-
 returns : tie.Need-returns
 unfolding drainedOf
-returns c = simp (c .emptied .ensures, c .before .point .ensures, c .before .before .share .ensures .0)
+returns c =
+    let c1 = c .before in
+    let c2 = c1 .before in
+    let c4 = c2 .before .before in
+    also ChargeWF (simp (c .emptied .ensures, c1 .point .ensures, c2 .share .ensures .0))
+    (drained-wf (c4 .args .self) (c4 .args .p) (c4 .args .full40) (c4 .args .s) (search needs) (c4 .pre .1) (c4 .pre .0))
 
 pub drained-spec : {M : Type 1} → statement M
-drained-spec =
-    tie.close (tie.spec cast-share share-requires cast-e point-requires emptied-requires returns)
+drained-spec = tie.close (tie.spec (λ c. search needs) (λ c κs. search needs) (λ c. search needs) (λ c κs. search needs) (λ c κs. search needs) returns)

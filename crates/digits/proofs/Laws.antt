@@ -1,0 +1,115 @@
+-- How pieces of text are joined, and what follows of the digits' definitions.
+use mathlib.Core.Path.{_≡_, refl, sym, ap, _∙_}
+use mathlib.Core.List.{List, [], _∷_, _++_}
+use Prim.Native.Nat.{ℕ, _+_, _-_, _/_, _%_, _≤_, _<_}
+use native.Mathlib.Nat.{add-zero}
+use native.Mathlib.Numerals.{add-one}
+use native.Mathlib.Omega.{arith}
+use borrow.Author.Tests.{lt-ltb}
+use lib.Dec.{ltb}
+use lib.ListN.{length, getD, take, length-append}
+use lib.Seq.{take-suc}
+use Rattle.numbers.proofs.Bounds.{picked}
+use Rattle.parts.specs.Parts.{put}
+use Rattle.parts.proofs.Laws.{put-length, put-next}
+use Rattle.digits.specs.Digits.{pairText, hexText, digitOf, placesOf, shownText, placeText, decimalText, Writing}
+
+-- ---- writing
+
+-- the buffer keeps its length
+pub kept : {m i j : ℕ} {xs l l′ : List ℕ} → Writing m xs l i j l′ → length l′ ≡ length l
+kept {m} {i} {j} {xs} {l} {l′} w = ap length (w .written) ∙ put-length l i xs
+
+-- nothing
+pub none : (l : List ℕ) (i : ℕ) → Writing 0 [] l i i l
+none l i = record { onward = sym (add-zero i); written = refl; within = omega arith }
+
+-- a piece, and one behind it
+pub then : {m n i j k : ℕ} {xs ys l l′ l″ : List ℕ} → Writing m xs l i j l′ → Writing n ys l′ j k l″ → Writing (m + n) (xs ++ ys) l i k l″
+then {m} {n} {i} {j} {k} {xs} {ys} {l} {l′} {l″} w v = record {
+  onward = omega (arith, length-append xs ys, w .onward, v .onward);
+  written = v .written ∙ ap (λ (r : List ℕ). put r j ys) (w .written) ∙ put-next l i j xs ys (w .onward);
+  within = omega (arith, w .within, v .within);
+}
+
+-- a larger bound
+pub wider : {m n i j : ℕ} {xs l l′ : List ℕ} → Writing m xs l i j l′ → m ≤ n → Writing n xs l i j l′
+wider w h = record { onward = w .onward; written = w .written; within = omega (arith, w .within) }
+
+-- ---- bytes in hex
+
+pub hex-append : (letter : ℕ) (xs ys : List ℕ) → hexText letter (xs ++ ys) ≡ hexText letter xs ++ hexText letter ys
+hex-append letter [] ys = refl
+hex-append letter (x ∷ xs) ys = ap (λ (r : List ℕ). pairText letter x ++ r) (hex-append letter xs ys)
+
+-- one byte more
+pub hex-more : (letter : ℕ) (s : List ℕ) (i : ℕ) → i < length s → hexText letter (take i s) ++ pairText letter (getD s i 0) ≡ hexText letter (take (i + 1) s)
+hex-more letter s i h = sym (rw (add-one, take-suc s i 0) (hex-append letter (take i s) (getD s i 0 ∷ [])))
+
+-- ---- the next number
+
+by-tens : (n : ℕ) → n / 100 ≡ n / 10 / 10
+by-tens n = omega arith
+
+thousands : (n : ℕ) → n / 1000 ≡ n / 100 / 10
+thousands n = omega arith
+
+ten-thousands : (n : ℕ) → n / 10000 ≡ n / 100 / 100
+ten-thousands n = omega arith
+
+module _ (n : ℕ) where
+  -- the last digit alone changes
+  pub ones-more : digitOf n < 57 → digitOf (n / 10000) ∷ digitOf (n / 1000) ∷ digitOf (n / 100) ∷ digitOf (n / 10) ∷ (digitOf n + 1) ∷ [] ≡ placesOf (n + 1)
+  ones-more h =
+      let a : n / 10000 % 10 ≡ (n + 1) / 10000 % 10 = omega arith in
+      let b : n / 1000 % 10 ≡ (n + 1) / 1000 % 10 = omega arith in
+      let c : n / 100 % 10 ≡ (n + 1) / 100 % 10 = omega arith in
+      let d : n / 10 % 10 ≡ (n + 1) / 10 % 10 = omega arith in
+      let e : digitOf n + 1 ≡ digitOf (n + 1) = omega arith in
+      λ i. (48 + a i) ∷ (48 + b i) ∷ (48 + c i) ∷ (48 + d i) ∷ e i ∷ []
+
+  -- the last is 9, and the one before it is not
+  pub tens-more : 57 ≤ digitOf n → digitOf (n / 10) < 57 → digitOf (n / 10000) ∷ digitOf (n / 1000) ∷ digitOf (n / 100) ∷ (digitOf (n / 10) + 1) ∷ 48 ∷ [] ≡ placesOf (n + 1)
+  tens-more h k =
+      let tens : (n + 1) / 10 ≡ n / 10 + 1 = omega arith in
+      let same : n / 10 / 10 ≡ (n / 10 + 1) / 10 = omega arith in
+      let hundreds : n / 100 ≡ (n + 1) / 100 = by-tens n ∙ same ∙ ap (λ (m : ℕ). m / 10) (sym tens) ∙ sym (by-tens (n + 1)) in
+      let a : n / 10000 % 10 ≡ (n + 1) / 10000 % 10 = rw (ten-thousands n, ten-thousands (n + 1), hundreds) in
+      let b : n / 1000 % 10 ≡ (n + 1) / 1000 % 10 = rw (thousands n, thousands (n + 1), hundreds) in
+      let c : n / 100 % 10 ≡ (n + 1) / 100 % 10 = ap (λ (m : ℕ). m % 10) hundreds in
+      let d : digitOf (n / 10) + 1 ≡ digitOf ((n + 1) / 10) = omega arith in
+      let e : 48 ≡ digitOf (n + 1) = omega arith in
+      λ i. (48 + a i) ∷ (48 + b i) ∷ (48 + c i) ∷ d i ∷ e i ∷ []
+
+  -- a number of one digit
+  pub single : n < 10 → (48 + n) ∷ [] ≡ decimalText n
+  unfolding shownText decimalText
+  single h =
+      let a : n < 10000 = omega arith in
+      let b : n < 1000 = omega arith in
+      let c : n < 100 = omega arith in
+      let e : n ≡ n % 10 = omega arith in
+      simp (lt-ltb n 10000 a, lt-ltb n 1000 b, lt-ltb n 100 c, lt-ltb n 10 h) (ap (λ (k : ℕ). (48 + k) ∷ []) e)
+
+-- ---- a bound that the bytes themselves give
+
+-- where they are fewer than was said
+pub narrow : {m n i j : ℕ} {xs l l′ : List ℕ} → Writing m xs l i j l′ → length xs ≤ n → Writing n xs l i j l′
+narrow {xs = xs} w h = record { onward = w .onward; written = w .written; within = omega (arith, w .onward) }
+
+shown-few : (place n digit : ℕ) → length (shownText place n digit) ≤ 1
+unfolding shownText
+shown-few place n digit = picked (λ (xs : List ℕ). length xs ≤ 1) (ltb n place) [] (digit ∷ []) (λ e. omega arith) (λ e. omega arith)
+
+left-out : (n place : ℕ) → n < place → placeText place n ≡ []
+unfolding shownText
+left-out n place h = rw (lt-ltb n place h)
+
+-- a number below a thousand has three digits at most
+pub three : (n : ℕ) → n < 1000 → length (decimalText n) ≤ 3
+unfolding decimalText
+three n h =
+    let ones = digitOf n ∷ [] in
+    let tens = placeText 10 n ++ ones in
+    rw (left-out n 10000 (omega arith), left-out n 1000 h)
+    (omega (arith, length-append (placeText 100 n) tens, length-append (placeText 10 n) ones, shown-few 100 n (digitOf (n / 100)), shown-few 10 n (digitOf (n / 10))))

@@ -1,0 +1,43 @@
+-- The contracts of this crate's public functions leave no choice.
+use mathlib.Core.Path.{refl, sym, _∙_}
+use Rattle.once.specs.Once.{Once}
+use Rattle.digits.proofs.put_byte
+use Rattle.digits.proofs.put_bytes
+use Rattle.digits.proofs.lower_pairs
+use Rattle.digits.proofs.put_entry
+use Rattle.digits.proofs.hex
+use Rattle.digits.proofs.put_hex
+use Rattle.digits.proofs.places
+use Rattle.digits.proofs.count_up
+use Rattle.digits.proofs.put_places
+use Rattle.digits.proofs.put_decimal
+
+pub put-byte-once : Once put_byte.ended put_byte.Reads.Pre put_byte.Reads.Learnt
+put-byte-once κs a r r′ w w′ p h h′ = (h .onward ∙ sym (h′ .onward), λ i. (tt, ((h .written ∙ sym (h′ .written)) i, (tt, tt))))
+
+pub put-bytes-once : Once put_bytes.ended put_bytes.Reads.Pre put_bytes.Reads.Learnt
+put-bytes-once κs a r r′ w w′ p h h′ = (h .onward ∙ sym (h′ .onward), λ i. (tt, ((h .written ∙ sym (h′ .written)) i, (tt, tt))))
+
+pub lower-pairs-once : Once lower_pairs.ended lower_pairs.Reads.Pre lower_pairs.Reads.Learnt
+lower-pairs-once κs a r r′ w w′ p h h′ = (h ∙ sym h′, refl)
+
+pub put-entry-once : Once put_entry.ended put_entry.Reads.Pre put_entry.Reads.Learnt
+put-entry-once κs a r r′ w w′ p h h′ = (h .onward ∙ sym (h′ .onward), λ i. (tt, (tt, ((h .written ∙ sym (h′ .written)) i, (tt, tt)))))
+
+pub hex-once : Once hex.ended hex.Reads.Pre hex.Reads.Learnt
+hex-once κs a r r′ w w′ p h h′ = (h ∙ sym h′, refl)
+
+pub put-hex-once : Once put_hex.ended put_hex.Reads.Pre put_hex.Reads.Learnt
+put-hex-once κs a r r′ w w′ p h h′ = (h .onward ∙ sym (h′ .onward), λ i. (tt, ((h .written ∙ sym (h′ .written)) i, (tt, tt))))
+
+pub places-once : Once places.ended places.Reads.Pre places.Reads.Learnt
+places-once κs a r r′ w w′ p h h′ = (h ∙ sym h′, refl)
+
+pub count-up-once : Once count_up.ended count_up.Reads.Pre count_up.Reads.Learnt
+count-up-once κs a r r′ w w′ p h h′ = (refl, λ i. (tt, ((h ∙ sym h′) i, tt)))
+
+pub put-places-once : Once put_places.ended put_places.Reads.Pre put_places.Reads.Learnt
+put-places-once κs a r r′ w w′ p h h′ = (h .onward ∙ sym (h′ .onward), λ i. (tt, (tt, ((h .written ∙ sym (h′ .written)) i, (tt, tt)))))
+
+pub put-decimal-once : Once put_decimal.ended put_decimal.Reads.Pre put_decimal.Reads.Learnt
+put-decimal-once κs a r r′ w w′ p h h′ = (h .onward ∙ sym (h′ .onward), λ i. (tt, ((h .written ∙ sym (h′ .written)) i, (tt, tt))))

@@ -1,0 +1,69 @@
+-- Numbers as bytes of text, in hexadecimal and in decimal, and bytes put at a place of a lent buffer.
+use mathlib.Core.Path.{_≡_}
+use mathlib.Core.List.{List, [], _∷_, _++_}
+use Prim.Native.Nat.{ℕ, zero, suc, _+_, _-_, _*_, _/_, _%_, _≤_}
+use lib.Dec.{ltb}
+use lib.ListN.{length, getD}
+use Rattle.numbers.specs.Choice.{pick}
+use Rattle.parts.specs.Parts.{put}
+
+-- ---- hexadecimal
+
+-- a hex digit; ten is shown as the given letter, and what is above it as those that follow
+unfoldable pub hexOf : ℕ → ℕ → ℕ
+hexOf letter d = pick (ltb d 10) (48 + d) (letter - 10 + d)
+
+-- the letter `a`
+abbrev pub lower : ℕ
+lower = 97
+
+-- a byte as two digits
+abbrev pub pairText : ℕ → ℕ → List ℕ
+pairText letter b = hexOf letter (b / 16) ∷ hexOf letter (b % 16) ∷ []
+
+-- bytes, without spaces
+abbrev pub hexText : ℕ → List ℕ → List ℕ
+hexText letter [] = []
+hexText letter (b ∷ bs) = pairText letter b ++ hexText letter bs
+
+-- n numbers from k on
+abbrev pub countFrom : ℕ → ℕ → List ℕ
+countFrom k zero = []
+countFrom k (suc n) = k ∷ countFrom (suc k) n
+
+-- a table of the two digits of each byte
+unfoldable pub pairsOf : ℕ → List ℕ
+pairsOf letter = hexText letter (countFrom 0 256)
+
+-- what it has for the byte b
+abbrev pub entryText : List ℕ → ℕ → List ℕ
+entryText table b = getD table (2 * b) 0 ∷ getD table (2 * b + 1) 0 ∷ []
+
+-- ---- decimal
+
+-- the last digit of n
+abbrev pub digitOf : ℕ → ℕ
+digitOf n = 48 + n % 10
+
+-- the last five digits of n, the zeros in front too
+abbrev pub placesOf : ℕ → List ℕ
+placesOf n = digitOf (n / 10000) ∷ digitOf (n / 1000) ∷ digitOf (n / 100) ∷ digitOf (n / 10) ∷ digitOf n ∷ []
+
+-- a digit of n that stands at a place, a power of ten; where n does not reach the place it is a leading zero, and left out
+unfoldable pub shownText : ℕ → ℕ → ℕ → List ℕ
+shownText place n digit = pick (ltb n place) [] (digit ∷ [])
+
+abbrev pub placeText : ℕ → ℕ → List ℕ
+placeText place n = shownText place n (digitOf (n / place))
+
+-- a number below 100,000
+unfoldable pub decimalText : ℕ → List ℕ
+decimalText n = placeText 10000 n ++ (placeText 1000 n ++ (placeText 100 n ++ (placeText 10 n ++ (digitOf n ∷ []))))
+
+-- ---- what the code promises
+
+-- bytes were put at a place, and the next ones go behind them. That they are at most so many is said for the sums of callers
+pub record Writing (most : ℕ) (bytes before : List ℕ) (at next : ℕ) (after : List ℕ) : Type 0 where
+  pub onward : next ≡ at + length bytes
+  pub written : after ≡ put before at bytes
+  pub within : next ≤ at + most

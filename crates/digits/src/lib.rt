@@ -1,0 +1,143 @@
+// Numbers as text: hexadecimal and decimal digits, as bytes in a lent buffer. Each writer puts its bytes at a place and says where the next ones go.
+ghost use mathlib.Core.Path.{_≡_};
+ghost use mathlib.Core.List.{[], _∷_};
+ghost use Prim.Native.Nat.{_+_, _*_, _≤_, _<_};
+ghost use lib.ListN.{length};
+ghost use Rattle.digits.specs.Digits.{hexOf, lower, pairText, hexText, pairsOf, entryText, placesOf, shownText, decimalText, Writing};
+
+// ---- bytes
+
+pub fn put_byte(b: u8, out: &mut [u8], at: usize) -> usize
+    requires { ⌜ at < length (now out) ⌝ }
+    ensures { λ r. ⌜ Writing 1 (b ∷ []) (now (out .entry)) at r (now (out .exit)) ⌝ }
+{
+    out[at] = b;
+    at + 1
+}
+
+pub fn put_bytes(bytes: &[u8], out: &mut [u8], at: usize) -> usize
+    requires { ⌜ at + length (now bytes) ≤ length (now out) ⌝ }
+    ensures { λ r. ⌜ Writing (length (now (bytes .entry))) (now (bytes .entry)) (now (out .entry)) at r (now (out .exit)) ⌝ }
+{
+    parts::store(bytes, out, at);
+    at + bytes.len()
+}
+
+// ---- hexadecimal
+
+// The two digits of each byte. A loop takes the table once, since the constant is written to memory anew wherever it is named.
+pub fn lower_pairs() -> [u8; 512]
+    ensures { λ r. ⌜ r ≡ pairsOf lower ⌝ }
+{
+    *b"000102030405060708090a0b0c0d0e0f101112131415161718191a1b1c1d1e1f202122232425262728292a2b2c2d2e2f303132333435363738393a3b3c3d3e3f404142434445464748494a4b4c4d4e4f505152535455565758595a5b5c5d5e5f606162636465666768696a6b6c6d6e6f707172737475767778797a7b7c7d7e7f808182838485868788898a8b8c8d8e8f909192939495969798999a9b9c9d9e9fa0a1a2a3a4a5a6a7a8a9aaabacadaeafb0b1b2b3b4b5b6b7b8b9babbbcbdbebfc0c1c2c3c4c5c6c7c8c9cacbcccdcecfd0d1d2d3d4d5d6d7d8d9dadbdcdddedfe0e1e2e3e4e5e6e7e8e9eaebecedeeeff0f1f2f3f4f5f6f7f8f9fafbfcfdfeff"
+}
+
+// A byte as the two digits that a table has for it.
+pub fn put_entry(table: &[u8; 512], b: u8, out: &mut [u8], at: usize) -> usize
+    requires { ⌜ at + 2 ≤ length (now out) ⌝ }
+    ensures { λ r. ⌜ Writing 2 (entryText (now (table .entry)) b) (now (out .entry)) at r (now (out .exit)) ⌝ }
+{
+    let i = 2 * (b as usize);
+    let next = put_byte(table[i], out, at);
+    put_byte(table[i + 1], out, next)
+}
+
+// A digit in lower case.
+pub fn hex(d: u8) -> u8
+    requires { ⌜ d < 16 ⌝ }
+    ensures { λ r. ⌜ r ≡ hexOf lower d ⌝ }
+{
+    if d < 10 { b'0' + d } else { b'a' - 10 + d }
+}
+
+fn put_pair(b: u8, out: &mut [u8], at: usize) -> usize
+    requires { ⌜ at + 2 ≤ length (now out) ⌝ }
+    ensures { λ r. ⌜ Writing 2 (pairText lower b) (now (out .entry)) at r (now (out .exit)) ⌝ }
+{
+    let next = put_byte(hex(b / 16), out, at);
+    put_byte(hex(b % 16), out, next)
+}
+
+// Bytes in lower case. Many at once go without the table: of this the compiler makes code that takes eight bytes at a time.
+pub fn put_hex(bytes: &[u8], out: &mut [u8], at: usize) -> usize
+    requires { ⌜ at + 2 * length (now bytes) ≤ length (now out) ⌝ }
+    ensures { λ r. ⌜ Writing (2 * length (now (bytes .entry))) (hexText lower (now (bytes .entry))) (now (out .entry)) at r (now (out .exit)) ⌝ }
+{
+    let mut next = at;
+    let mut i = 0;
+    while i < bytes.len() {
+        next = put_pair(bytes[i], out, next);
+        i += 1;
+    }
+    next
+}
+
+// ---- decimal
+
+// The five digits of a number.
+pub fn places(n: usize) -> [u8; 5]
+    ensures { λ r. ⌜ r ≡ placesOf n ⌝ }
+{
+    [
+        (48 + n / 10000 % 10) as u8,
+        (48 + n / 1000 % 10) as u8,
+        (48 + n / 100 % 10) as u8,
+        (48 + n / 10 % 10) as u8,
+        (48 + n % 10) as u8,
+    ]
+}
+
+// The five digits of n made those of n + 1: ninety-nine times of a hundred one or two of them change, and nothing is divided.
+pub fn count_up(n: usize, five: &mut [u8; 5])
+    requires { ⌜ n < 100000 ⌝ }
+    requires { ⌜ now five ≡ placesOf n ⌝ }
+    ensures { λ _. ⌜ now (five .exit) ≡ placesOf (n + 1) ⌝ }
+{
+    if five[4] < b'9' {
+        five[4] = five[4] + 1;
+        return;
+    }
+    if five[3] < b'9' {
+        five[3] = five[3] + 1;
+        five[4] = b'0';
+        return;
+    }
+    let next = places(n + 1);
+    *five = next;
+}
+
+// The digit of n that stands at a place, unless it is a leading zero.
+fn put_shown(place: usize, n: usize, digit: u8, out: &mut [u8], at: usize) -> usize
+    requires { ⌜ at < length (now out) ⌝ }
+    ensures { λ r. ⌜ Writing 1 (shownText place n digit) (now (out .entry)) at r (now (out .exit)) ⌝ }
+{
+    if n < place {
+        return at;
+    }
+    put_byte(digit, out, at)
+}
+
+// A number whose five digits are at hand.
+pub fn put_places(five: &[u8; 5], n: usize, out: &mut [u8], at: usize) -> usize
+    requires { ⌜ now five ≡ placesOf n ⌝ }
+    requires { ⌜ at + 5 ≤ length (now out) ⌝ }
+    ensures { λ r. ⌜ Writing 5 (decimalText n) (now (out .entry)) at r (now (out .exit)) ⌝ }
+{
+    let a = put_shown(10000, n, five[0], out, at);
+    let b = put_shown(1000, n, five[1], out, a);
+    let c = put_shown(100, n, five[2], out, b);
+    let d = put_shown(10, n, five[3], out, c);
+    put_byte(five[4], out, d)
+}
+
+pub fn put_decimal(n: usize, out: &mut [u8], at: usize) -> usize
+    requires { ⌜ n < 100000 ⌝ }
+    requires { ⌜ at + 5 ≤ length (now out) ⌝ }
+    ensures { λ r. ⌜ Writing 5 (decimalText n) (now (out .entry)) at r (now (out .exit)) ⌝ }
+{
+    if n < 10 {
+        return put_byte((48 + n) as u8, out, at);
+    }
+    let five = places(n);
+    put_places(&five, n, out, at)
+}

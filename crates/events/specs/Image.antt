@@ -1,0 +1,55 @@
+-- The pack image of document 01: net address 8, block 0 EEPROM 16, block 1 EEPROM 32, saved ACR 2, saved AS 1, lock byte 1. Its size, where
+-- its parts stand and what they are; all else speaks of an image by these names.
+use mathlib.Core.Bool.{Bool}
+use mathlib.Core.List.{List}
+use Prim.Native.Nat.{ℕ, _/_, _%_}
+use lib.Dec.{eqb}
+use lib.ListN.{getD}
+use Rattle.parts.specs.Parts.{part, pairAt}
+
+abbrev pub imageSize : ℕ
+imageSize = 60
+
+abbrev pub addressAt : ℕ
+addressAt = 0
+
+abbrev pub labelAt : ℕ
+labelAt = 8
+
+abbrev pub blockAt : ℕ
+blockAt = 24
+
+abbrev pub acrAt : ℕ
+acrAt = 56
+
+abbrev pub agingAt : ℕ
+agingAt = 58
+
+abbrev pub locksAt : ℕ
+locksAt = 59
+
+abbrev pub imageAddress : List ℕ → List ℕ
+imageAddress p = part 8 p addressAt
+
+abbrev pub imageLabel : List ℕ → List ℕ
+imageLabel p = part 16 p labelAt
+
+abbrev pub imageBlock : List ℕ → List ℕ
+imageBlock p = part 32 p blockAt
+
+-- the saved ACR is little-endian
+abbrev pub imageAcr : List ℕ → ℕ
+imageAcr p = pairAt p acrAt
+
+abbrev pub imageAging : List ℕ → ℕ
+imageAging p = getD p agingAt 0
+
+-- the lock byte: bit 0 is BL0, bit 1 BL1
+abbrev pub imageLocks : List ℕ → ℕ
+imageLocks p = getD p locksAt 0
+
+abbrev pub imageBl0 : List ℕ → Bool
+imageBl0 p = eqb (imageLocks p % 2) 1
+
+abbrev pub imageBl1 : List ℕ → Bool
+imageBl1 p = eqb (imageLocks p / 2 % 2) 1

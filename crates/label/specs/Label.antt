@@ -1,0 +1,49 @@
+-- Where the two blocks stand, and block 0, the label: what a write, a copy, a recall, a lock and a power-on do to it. What label events touch
+-- is a function of the common part and the label.
+use Prim.Native.Nat.{ℕ, _-_}
+use mathlib.Core.Path.{_≡_}
+use mathlib.Core.Bool.{Bool}
+use mathlib.Core.List.{List}
+use lib.Dec.{ltb, leb}
+use lib.ListN.{length, getD}
+use Rattle.numbers.specs.Choice.{pick, both, either, butNot}
+use Rattle.parts.specs.Parts.{laidOf}
+use Rattle.label.specs.declared.Common.{Common}
+use Rattle.label.specs.declared.Label.{Label}
+
+-- 20h..2Fh: block 0, the label
+unfoldable pub inLabel : ℕ → Bool
+inLabel a = both (leb 0x20 a) (ltb a 0x30)
+
+-- 60h..7Fh: block 1, the parameters
+unfoldable pub inBlock : ℕ → Bool
+inBlock a = both (leb 0x60 a) (ltb a 0x80)
+
+pub record LabelSized (l : Label) : Type 0 where
+  pub shadow : length (l .shadow) ≡ 16
+  pub eeprom : length (l .eeprom) ≡ 16
+
+-- the byte at an address of the label
+unfoldable pub labelByte : Label → ℕ → ℕ
+labelByte l a = getD (l .shadow) (a - 0x20) 0
+
+-- 6Ch: bytes written from the address a upward; those for 20h..2Fh, unless locked
+unfoldable pub labelWrittenOf : Label → Bool → ℕ → List ℕ → Label
+labelWrittenOf l locked a bytes =
+    pick locked l (record { shadow = laidOf 0x20 0x30 (l .shadow) a bytes; eeprom = l .eeprom })
+
+-- 48h at the address a: shadow to EEPROM if it is the label's, unless locked
+unfoldable pub labelCopiedOf : Label → Bool → ℕ → Label
+labelCopiedOf l locked a = pick (butNot (inLabel a) locked) (record { shadow = l .shadow; eeprom = l .shadow }) l
+
+-- a power-on: the shadow takes the EEPROM bytes
+abbrev pub labelPoweredOf : Label → Label
+labelPoweredOf l = record { shadow = l .eeprom; eeprom = l .eeprom }
+
+-- B8h at the address a: EEPROM to shadow if it is the label's, locked or not
+unfoldable pub labelRecalledOf : Label → ℕ → Label
+labelRecalledOf l a = pick (inLabel a) (labelPoweredOf l) l
+
+-- 6Ah at the address a: if LOCK is 1 and it is the label's. Its lock bit is common, LOCK the meter's
+unfoldable pub commonLockedOf : Common → Bool → ℕ → Common
+commonLockedOf k lock a = record { address = k .address; bl0 = either (k .bl0) (both lock (inLabel a)) }

@@ -1,0 +1,28 @@
+use mathlib.Core.Path.{sym, ap, _∙_}
+use mathlib.Core.List.{List}
+use Prim.Native.Nat.{ℕ, _+_}
+use native.Mathlib.Omega.{arith}
+use lib.ListN.{length}
+use denote.Ref.{now}
+use Rattle.parts.proofs.Laws.{laid-none}
+use Rattle.map.specs.Registers.{registersOf}
+use Rattle.map.proofs.Meaning.{registers-length}
+use Rattle.replies.specs.Reply.{overOf}
+use borrow.Author.Needs.{needs}
+use Rattle.replies.proofs.registers_laid.Statement.{statement}
+use Rattle.replies.proofs.registers_laid.Tie as tie
+
+returns : tie.Need-returns
+returns c =
+    let registers = c .before .before .before .before .before in
+    let a = registers .before .before .before .args in
+    c .before .before .laid .ensures ∙ ap (λ (bytes : List ℕ). overOf 0x00 bytes (a .a) (now (a .room))) (registers .registers .ensures)
+
+returns-2 : tie.Need-returns-2
+returns-2 c =
+    let a = c .before .before .args in
+    let n = registers-length (a .k) (a .m) in
+    sym (laid-none (a .a) (a .a + length (now (a .room))) (now (a .room)) 0x00 (registersOf (a .k) (a .m)) (omega arith))
+
+pub registers-laid-spec : {M : Type 1} → statement M
+registers-laid-spec = tie.close (tie.spec (λ c κs. search needs) (λ c. search needs) (λ c κs. search needs) (λ c. search needs) returns returns-2)

@@ -1,0 +1,19 @@
+-- The contracts of this crate's public functions leave no choice.
+use mathlib.Core.Path.{refl, sym, _∙_}
+use Rattle.once.specs.Once.{Once}
+use Rattle.runs.proofs.outcome_number
+use Rattle.runs.proofs.outcome_of
+use Rattle.runs.proofs.whole
+use Rattle.runs.proofs.code
+
+pub outcome-number-once : Once outcome_number.ended outcome_number.Reads.Pre outcome_number.Reads.Learnt
+outcome-number-once κs a r r′ w w′ p h h′ = (h ∙ sym h′, refl)
+
+pub outcome-of-once : Once outcome_of.ended outcome_of.Reads.Pre outcome_of.Reads.Learnt
+outcome-of-once κs a r r′ w w′ p h h′ = (h ∙ sym h′, refl)
+
+pub whole-once : Once whole.ended whole.Reads.Pre whole.Reads.Learnt
+whole-once κs a r r′ w w′ p h h′ = (h ∙ sym h′, refl)
+
+pub code-once : Once code.ended code.Reads.Pre code.Reads.Learnt
+code-once κs a r r′ w w′ p h h′ = (h ∙ sym h′, refl)

@@ -1,0 +1,16 @@
+-- The contracts of this crate's public functions leave no choice, but for `read_input`, which tells what comes from outside.
+use mathlib.Core.Path.{refl, sym, _∙_}
+use Rattle.once.specs.Once.{Once}
+use Rattle.streams.proofs.Laws.{same-said, same-room}
+use Rattle.streams.proofs.within
+use Rattle.streams.proofs.put_unread
+use Rattle.streams.proofs.say
+
+pub within-once : Once within.ended within.Reads.Pre within.Reads.Learnt
+within-once κs a r r′ w w′ p h h′ = (h .least ∙ sym (h′ .least), refl)
+
+pub put-unread-once : Once put_unread.ended put_unread.Reads.Pre put_unread.Reads.Learnt
+put-unread-once κs a r r′ w w′ p h h′ = (same-said h h′, λ i. (tt, (same-room h h′ i, tt)))
+
+pub say-once : Once say.ended say.Reads.Pre say.Reads.Learnt
+say-once κs a r r′ w w′ p h h′ = (refl, refl)

@@ -1,0 +1,45 @@
+-- What a program reads, and what it says: one text, on standard output or on standard error.
+use mathlib.Core.Path.{_≡_}
+use mathlib.Core.List.{List, [], _∷_, _++_}
+use Prim.Native.Nat.{ℕ, _≤_, min}
+use lib.ListN.{length, take}
+use Rattle.parts.specs.Parts.{put}
+use Rattle.streams.specs.declared.Stream.{Stream}
+use Rattle.streams.specs.declared.Stream.the-variants.{Output, Error}
+use Rattle.streams.specs.declared.Said.{Said}
+
+-- the first bytes of the room, so many, are what was read of standard input s: all of s, or as much of it as there is room for
+pub record Front (s room : List ℕ) (count : ℕ) : Type 0 where
+  pub same : take (length room) s ≡ take count room
+
+-- a count, at most the room's length. That the bytes counted are so many is said for a caller that takes them out
+pub record Within (count : ℕ) (room : List ℕ) (n : ℕ) : Type 0 where
+  pub least : n ≡ min count (length room)
+  pub fits : n ≤ length room
+  pub whole : n ≡ length (take n room)
+
+-- a text, and where it goes
+pub record Speech : Type 0 where
+  pub stream : Stream
+  pub text : List ℕ
+
+abbrev pub output : List ℕ → Speech
+output text = record { stream = Output; text = text }
+
+abbrev pub error : List ℕ → Speech
+error text = record { stream = Error; text = text }
+
+-- NAME: cannot read standard input
+unfoldable pub unreadText : List ℕ → List ℕ
+unreadText name =
+    name ++
+    (58 ∷ 32 ∷ 99 ∷ 97 ∷ 110 ∷ 110 ∷ 111 ∷ 116 ∷ 32
+    ∷ 114 ∷ 101 ∷ 97 ∷ 100 ∷ 32
+    ∷ 115 ∷ 116 ∷ 97 ∷ 110 ∷ 100 ∷ 97 ∷ 114 ∷ 100 ∷ 32
+    ∷ 105 ∷ 110 ∷ 112 ∷ 117 ∷ 116 ∷ 10 ∷ [])
+
+-- the text stands at the front of the room, and the code says how many bytes it is, and where it goes
+pub record Saying (what : Speech) (before : List ℕ) (said : Said) (after : List ℕ) : Type 0 where
+  pub stream : said .stream ≡ what .stream
+  pub counted : said .count ≡ length (what .text)
+  pub written : after ≡ put before 0 (what .text)
