@@ -1,7 +1,7 @@
 /* The gauge of the scope paper a second time, written from the papers alone, to be compared with the proved program.
  *
  *   second          reads a session from standard input and prints what `trovimbe session` prints
- *   second image    runs the session and writes the image taken out at its end, or the answer on standard error
+ *   second image    runs the session and writes the image taken out at its end, or the answer and its meaning on standard error
  *   second dump     prints the session's lines and after each the whole state
  *   second figures  holds the rules against the paper's "Figures to hold"
  *
@@ -757,11 +757,11 @@ static int image_at_end(int32_t size)
 {
     byte image[IMAGE_BYTES];
     if (SESSION_LIMIT < size) {
-        fprintf(stderr, "1\n");
+        fprintf(stderr, "1: the session is over 32,768 bytes\n");
         return 1;
     }
     if (!gauge.accepted) {
-        fprintf(stderr, "5\n");
+        fprintf(stderr, "5: no image was accepted\n");
         return 1;
     }
     take_image_out(&gauge, image);

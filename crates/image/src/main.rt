@@ -56,8 +56,16 @@ fn put_taken(s: &[u8], room: &mut [u8]) -> Said
     let session = ran.session;
     match outcome {
         Outcome::Done => put_image(session, room),
-        Outcome::Over => put_refused(1, b"the session is over 32,768 bytes", room),
-        Outcome::Short => put_refused(9, b"the room for the answers is too small", room),
+        Outcome::Over => put_refused(
+            runs::outcome_number(Outcome::Over),
+            b"the session is over 32,768 bytes",
+            room,
+        ),
+        Outcome::Short => put_refused(
+            runs::outcome_number(Outcome::Short),
+            b"the room for the answers is too small",
+            room,
+        ),
     }
 }
 

@@ -1,7 +1,6 @@
 -- The contracts of this crate's functions leave no choice.
 use mathlib.Core.Path.{refl, sym, _∙_}
 use Rattle.once.specs.Once.{Once}
-use Rattle.numbers.proofs.choose
 use Rattle.numbers.proofs.choose16
 use Rattle.numbers.proofs.choose8
 use Rattle.numbers.proofs.choose_bool
@@ -16,9 +15,6 @@ use Rattle.numbers.proofs.moved_into
 use Rattle.numbers.proofs.offset8
 use Rattle.numbers.proofs.offset32
 use Rattle.numbers.proofs.joined
-
-pub choose-once : Once choose.ended choose.Reads.Pre choose.Reads.Learnt
-choose-once κs a r r′ w w′ p h h′ = (h ∙ sym h′, refl)
 
 pub choose16-once : Once choose16.ended choose16.Reads.Pre choose16.Reads.Learnt
 choose16-once κs a r r′ w w′ p h h′ = (h ∙ sym h′, refl)

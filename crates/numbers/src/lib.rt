@@ -14,12 +14,6 @@ pub const ZERO10: u16 = 0x400;
 pub const ZERO7: u8 = 0x80;
 
 // The first where the test holds, else the second.
-pub fn choose(t: bool, a: u32, b: u32) -> u32
-    ensures { λ r. ⌜ r ≡ pick t a b ⌝ }
-{
-    if t { a } else { b }
-}
-
 pub fn choose16(t: bool, a: u16, b: u16) -> u16
     ensures { λ r. ⌜ r ≡ pick t a b ⌝ }
 {

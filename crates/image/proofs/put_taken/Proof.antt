@@ -18,10 +18,10 @@ returns : tie.Need-returns
 returns c = done (at-end (c .before .before .before .before .before .before .before .before .before)) (c .before .before .before .before .enum-told .given .1) (c .before .before .put-image .ensures)
 
 returns-2 : tie.Need-returns-2
-returns-2 c = idle (at-end (c .before .before .before .before .before .before .before .before .before .before)) Over (c .before .before .before .before .before .enum-told2 .given .1) (c .before .before .put-refused .ensures)
+returns-2 c = idle (at-end (c .before .before .before .before .before .before .before .before .before .before .before)) Over (c .before .before .before .before .before .before .enum-told2 .given .1) (rw (c .before .before .before .before .before .outcome-number .ensures) at (c .before .before .put-refused .ensures))
 
 returns-3 : tie.Need-returns-3
-returns-3 c = idle (at-end (c .before .before .before .before .before .before .before .before .before .before)) Short (c .before .before .before .before .before .enum-told3 .given .1) (c .before .before .put-refused2 .ensures)
+returns-3 c = idle (at-end (c .before .before .before .before .before .before .before .before .before .before .before)) Short (c .before .before .before .before .before .before .enum-told3 .given .1) (rw (c .before .before .before .before .before .outcome-number2 .ensures) at (c .before .before .put-refused2 .ensures))
 
 pub put-taken-spec : {M : Type 1} → statement M
 put-taken-spec =
@@ -33,9 +33,11 @@ put-taken-spec =
     (λ c. search needs)
     (λ c κs. search needs)
     (λ c. search needs)
+    (λ c κs. search needs)
     (λ c. search needs)
     (λ c κs. search needs)
     (λ c. search needs)
+    (λ c κs. search needs)
     (λ c. search needs)
     (λ c κs. search needs)
     (λ c. search needs)
