@@ -79,7 +79,8 @@ registersOf k m =
     ∷ eepromOf k (m .cells .locks)
     ∷ []
 
--- the byte at any other address: a register, a parameter, or FFh where there is nothing, past FFh too
+-- the byte at an address, by the common part and the meter: a register below 20h, a byte of block 1's shadow at 60h..7Fh, and FFh at any other,
+-- past FFh too. The label's bytes at 20h..2Fh are not here: `readByte` of `replies` takes them first
 unfoldable pub meterByte : Common → Meter → ℕ → ℕ
 meterByte k m a =
     pick (ltb a 0x20) (getD (registersOf k m) a 0)
