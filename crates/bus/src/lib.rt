@@ -24,9 +24,10 @@ pub enum Command {
 }
 
 // A transaction, taken apart: where in its record's payload the master bytes start, where in these those to be written start, whom it
-// selects, what it asks there, and how many bytes are read.
+// selects, what it asks there, and how many bytes are read. (With a `start` of one byte it would have just eight, which the compiler packs into
+// one number wherever it is passed.)
 pub struct Transaction {
-    pub start: u8,
+    pub start: u32,
     pub from: u8,
     pub address: u8,
     pub rom: Rom,
@@ -83,7 +84,7 @@ fn command_of(b: u8) -> Command
 }
 
 // A transaction with no function command.
-fn plain(start: u8, count: u16, rom: Rom) -> Transaction
+fn plain(start: u32, count: u16, rom: Rom) -> Transaction
     ensures { λ r. ⌜ r ≡ plainOf start count rom ⌝ }
 {
     Transaction {
@@ -96,7 +97,7 @@ fn plain(start: u8, count: u16, rom: Rom) -> Transaction
     }
 }
 
-fn asked_at(start: u8, count: u16, rom: Rom, at: u8, master: &[u8]) -> Transaction
+fn asked_at(start: u32, count: u16, rom: Rom, at: u8, master: &[u8]) -> Transaction
     requires { ⌜ at < 16 ⌝ }
     ensures { λ r. ⌜ r ≡ askedAt start count rom at (now (master .entry)) ⌝ }
 {
@@ -115,7 +116,7 @@ fn asked_at(start: u8, count: u16, rom: Rom, at: u8, master: &[u8]) -> Transacti
 }
 
 // What the master bytes ask, which start so far into a payload, where count bytes are read.
-pub fn asked(start: u8, count: u16, master: &[u8]) -> Transaction
+pub fn asked(start: u32, count: u16, master: &[u8]) -> Transaction
     ensures { λ r. ⌜ r ≡ askedOf start count (now (master .entry)) ⌝ }
 {
     let rom = rom_of(master);

@@ -4,12 +4,12 @@ ghost use mathlib.Core.Path.{_≡_};
 ghost use Prim.Native.Nat.{_*_, _≤_};
 ghost use Rattle.charge.specs.Charge.{ChargeWF, currentOf, tracedOf, blankedOf, grownOf, agedOf, countedOf, setOf, agedFullOf, shareOf};
 
-// ACR × 4,096 + fraction, the age counter, AS and LEARNF.
+// ACR × 4,096 + fraction, AS, LEARNF and the age counter. (Side by side, count and age would be passed as one number of eight bytes.)
 pub struct Charge {
     pub count: u32,
-    pub age: u32,
     pub aging: u8,
     pub learnf: bool,
+    pub age: u32,
 }
 
 // CURRENT and the c before it, and whether there is one, and two.

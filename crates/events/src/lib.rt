@@ -104,16 +104,17 @@ fn addressed(address: &[u8]) -> bool
 pub fn judged(p: &[u8]) -> Taken
     ensures { λ r. ⌜ r ≡ judgedOf (now (p .entry)) ⌝ }
 {
-    if p.len() != IMAGE_SIZE {
-        return Taken::Refused(Refusal::Size);
-    }
-    if addressed(&p[ADDRESS_AT..LABEL_AT]) {
-        if p[LOCKS_AT] <= 3 {
-            return Taken::Run(Event::Image);
+    let mut taken = Taken::Refused(Refusal::Size);
+    if p.len() == IMAGE_SIZE {
+        taken = Taken::Refused(Refusal::Address);
+        if addressed(&p[ADDRESS_AT..LABEL_AT]) {
+            taken = Taken::Refused(Refusal::Locks);
+            if p[LOCKS_AT] <= 3 {
+                taken = Taken::Run(Event::Image);
+            }
         }
-        return Taken::Refused(Refusal::Locks);
     }
-    Taken::Refused(Refusal::Address)
+    taken
 }
 
 // ---- a reader for each kind
@@ -184,13 +185,14 @@ fn transaction_taken(loaded: bool, room: usize, p: &[u8]) -> Taken
 fn power_on_taken(loaded: bool, p: &[u8]) -> Taken
     ensures { λ r. ⌜ r ≡ takenBy Kind.PowerOn loaded (now (p .entry)) ⌝ }
 {
-    if p.len() != 0 {
-        return Taken::Refused(Refusal::Size);
+    let mut taken = Taken::Refused(Refusal::Size);
+    if p.len() == 0 {
+        taken = Taken::Refused(Refusal::Order);
+        if loaded {
+            taken = Taken::Run(Event::Change(Change::PowerOn));
+        }
     }
-    if loaded {
-        return Taken::Run(Event::Change(Change::PowerOn));
-    }
-    Taken::Refused(Refusal::Order)
+    taken
 }
 
 // The event of a record, or the first refusal that applies, with so many bytes of reply room left.

@@ -8,10 +8,10 @@ ghost use Rattle.full.specs.Full.{AverageWF, averagedOf, loweredOf, tape
 
 // The run of eight: how many c it has and their sum; IAVG, and whether there is one.
 pub struct Average {
-    pub run: u8,
     pub sum: u32,
-    pub iavg: u16,
+    pub run: u8,
     pub known: bool,
+    pub iavg: u16,
 }
 
 // The readings since the previous IAVG: whether there is one, and their lowest VOLT.

@@ -143,7 +143,7 @@ impl Gauge {
         let chosen = replies::selected(address, t, master);
         replies::replied(self.common, self.label, self.meter, t, chosen, room);
         if chosen {
-            return self.ran(t, master);
+            self = self.ran(t, master);
         }
         self
     }

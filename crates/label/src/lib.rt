@@ -30,17 +30,21 @@ pub fn in_block(a: usize) -> bool
 }
 
 impl Label {
-    // 6Ch: bytes written from the address a upward.
+    // 6Ch: bytes written from the address a upward. A whole label, the usual write, is taken at once.
     pub fn written(mut self, locked: bool, a: usize, bytes: &[u8]) -> Label
         requires { ⌜ a < 256 ⌝ }
         ensures { λ r. ⌜ r ≡ labelWrittenOf self locked a (now (bytes .entry)) ⌝ }
     {
-        if locked {
-            return self;
+        if !locked {
+            if numbers::and(a == 0x20, 16 <= bytes.len()) {
+                let whole = parts::sixteen(bytes, 0);
+                self.shadow = whole;
+            } else {
+                let mut shadow = self.shadow;
+                parts::laid(&mut shadow, 0x20, a, bytes);
+                self.shadow = shadow;
+            }
         }
-        let mut shadow = self.shadow;
-        parts::laid(&mut shadow, 0x20, a, bytes);
-        self.shadow = shadow;
         self
     }
 

@@ -34,9 +34,9 @@ pub struct Locks {
 
 // What writes, copy, recall, lock and the save change.
 pub struct Cells {
-    pub block: Block,
-    pub locks: Locks,
     pub saved: Saved,
+    pub locks: Locks,
+    pub block: Block,
 }
 
 // The flow of currents: the last two, the run of eight, and the readings since it began.

@@ -10,7 +10,7 @@ use native.Mathlib.Omega.{arith}
 use lib.Dec.{leb, ltb}
 use lib.ListN.{length, getD, set, length-set}
 use lib.Seq.{ext-getD}
-use borrow.Author.Tests.{le-leb, leb-true, leb-false, ltb-true, ltb-false}
+use borrow.Author.Tests.{le-leb, lt-leb, lt-ltb, leb-true, leb-false, ltb-true, ltb-false}
 use Rattle.numbers.specs.Choice.{pick, both}
 use Rattle.parts.specs.Parts.{put, laidOf}
 use Rattle.parts.proofs.Laws.{put-whole, laid-length, laid-reached, laid-missed}
@@ -30,6 +30,12 @@ pub listed-at : (f : ℕ → ℕ) (i n j : ℕ) → j < n → getD (listed f i n
 listed-at f i zero j h = absurd (omega arith)
 listed-at f i (suc n) zero h = let e : i + 0 ≡ i = omega arith in rw e refl
 listed-at f i (suc n) (suc j) h = let e : i + 1 + j ≡ i + suc j = omega arith in listed-at f (i + 1) n j (omega arith) ∙ ap f e
+
+-- a list is that of its values
+itself : (l : List ℕ) → l ≡ listed (λ i. getD l i 0) 0 (length l)
+itself l =
+    ext-getD 0 l _ (sym (listed-length _ 0 (length l)))
+    (λ i h. let z : 0 + i ≡ i = omega arith in sym (listed-at (λ i. getD l i 0) 0 (length l) i h ∙ ap (λ (i : ℕ). getD l i 0) z))
 
 -- the same values below n
 pub listed-same : (f g : ℕ → ℕ) (n : ℕ) → ((i : ℕ) → i < n → f i ≡ g i) → listed f 0 n ≡ listed g 0 n
@@ -103,13 +109,41 @@ net-listed address n room e idle h =
     laid-listed (λ i. 0xff) n 0 room 0 address idle h ∙ listed-same _ (netByte address) n
     (λ i b. let z : 0 + i ≡ i = omega arith in rw (z, sub-zero i, e, le-leb 0 i (omega arith)) refl)
 
--- the map: what is laid last is asked for first
-pub read-listed : (k : Common) (l : Label) (m : Meter) (a n : ℕ) (room₁ room₂ room₃ room₄ : List ℕ) → length (m .cells .block .shadow) ≡ 32
-    → length (l .shadow) ≡ 16 → room₁ ≡ listed (λ i. 0xff) 0 n → room₂ ≡ overOf 0x60 (m .cells .block .shadow) a room₁
-    → room₃ ≡ overOf 0x00 (registersOf k m) a room₂ → room₄ ≡ overOf 0x20 (l .shadow) a room₃ → room₄ ≡ listed (λ i. readByte k l m (a + i)) 0 n
-unfolding readByte labelByte meterByte inLabel inBlock
-read-listed k l m a n room₁ room₂ room₃ room₄ block label e₁ e₂ e₃ e₄ =
-    let f₂ = laid-listed _ n a room₁ 0x60 (m .cells .block .shadow) e₁ e₂ in
-    let f₃ = laid-listed _ n a room₂ 0x00 (registersOf k m) f₂ e₃ in
-    laid-listed _ n a room₃ 0x20 (l .shadow) f₃ e₄ ∙ listed-same _ (λ i. readByte k l m (a + i)) n
-    (λ i b. rw (label, block, registers-length k m, sub-zero (a + i), le-leb 0 (a + i) (omega arith)) refl)
+-- a room that ends within it shows it alone, whatever it held
+pub net-short : (address room : List ℕ) {r : List ℕ} → length address ≡ 8 → length room ≤ 8 → r ≡ overOf 0 address 0 room
+    → r ≡ listed (netByte address) 0 (length room)
+net-short address room e short h =
+    laid-listed (λ i. getD room i 0) (length room) 0 room 0 address (itself room) h ∙ listed-same _ (netByte address) (length room)
+    (λ i b. let z : 0 + i ≡ i = omega arith in rw (z, sub-zero i, e, le-leb 0 i (omega arith), lt-ltb i 8 (omega arith)) refl)
+
+-- ---- the map
+
+module _ (k : Common) (l : Label) (m : Meter) where
+  -- below 20h stand the registers
+  low-byte : (x : ℕ) → x < 0x20 → getD (registersOf k m) x 0 ≡ readByte k l m x
+  unfolding readByte meterByte inLabel
+  low-byte x h = rw (lt-leb 0x20 x h, lt-ltb x 0x20 h) refl
+
+  -- what is laid last is asked for first
+  map-byte : (x : ℕ) (s : Bool) → ltb x 0x20 ≡ s
+      → pick s (getD (registersOf k m) x 0) (pick (inLabel x) (labelByte l x) (pick (inBlock x) (getD (m .cells .block .shadow) (x - 0x60) 0) 0xff)) ≡ readByte k l m x
+  unfolding readByte meterByte
+  map-byte x true e = low-byte x (ltb-true x 0x20 e)
+  map-byte x false e = rw e refl
+
+  pub read-listed : (a n : ℕ) (room₁ room₂ room₃ room₄ : List ℕ) → length (m .cells .block .shadow) ≡ 32 → length (l .shadow) ≡ 16
+      → room₁ ≡ listed (λ i. 0xff) 0 n → room₂ ≡ overOf 0x60 (m .cells .block .shadow) a room₁ → room₃ ≡ overOf 0x20 (l .shadow) a room₂
+      → room₄ ≡ overOf 0x00 (registersOf k m) a room₃ → room₄ ≡ listed (λ i. readByte k l m (a + i)) 0 n
+  unfolding labelByte inLabel inBlock
+  read-listed a n room₁ room₂ room₃ room₄ block label e₁ e₂ e₃ e₄ =
+      let f₂ = laid-listed _ n a room₁ 0x60 (m .cells .block .shadow) e₁ e₂ in
+      let f₃ = laid-listed _ n a room₂ 0x20 (l .shadow) f₂ e₃ in
+      laid-listed _ n a room₃ 0x00 (registersOf k m) f₃ e₄ ∙ listed-same _ (λ i. readByte k l m (a + i)) n
+      (λ i b. rw (label, block, registers-length k m, sub-zero (a + i), le-leb 0 (a + i) (omega arith)) (map-byte (a + i) (ltb (a + i) 0x20) refl))
+
+  -- a room that ends among the registers shows these alone, whatever it held
+  pub low-listed : (a : ℕ) (room : List ℕ) {r : List ℕ} → a + length room ≤ 0x20 → r ≡ overOf 0x00 (registersOf k m) a room
+      → r ≡ listed (λ i. readByte k l m (a + i)) 0 (length room)
+  low-listed a room h e =
+      laid-listed (λ i. getD room i 0) (length room) a room 0x00 (registersOf k m) (itself room) e ∙ listed-same _ (λ i. readByte k l m (a + i)) (length room)
+      (λ i b. rw (registers-length k m, sub-zero (a + i), le-leb 0 (a + i) (omega arith), lt-ltb (a + i) 0x20 (omega arith)) (low-byte (a + i) (omega arith)))

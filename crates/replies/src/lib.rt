@@ -99,22 +99,26 @@ fn idle(room: &mut [u8])
     }
 }
 
-// The address, then FFh.
+// The address, then FFh where the room goes on.
 fn net_reply(address: [u8; 8], room: &mut [u8])
     ensures { λ _. ⌜ now (room .exit) ≡ listed (netByte address) 0 (length (now (room .entry))) ⌝ }
 {
-    idle(room);
+    if 8 < room.len() {
+        idle(room);
+    }
     parts::laid(room, 0, 0, &address);
 }
 
-// What stands from 60h on, laid over a room that stands from the address a upward.
+// What stands from 60h on, laid over a room that stands from the address a upward, where that ends above it.
 fn block_laid(b: Block, a: usize, room: &mut [u8])
     requires { ⌜ a < 256 ⌝ }
     ensures { λ _. ⌜ now (room .exit) ≡ overOf 0x60 (b .shadow) a (now (room .entry)) ⌝ }
     ensures sized { λ _. ⌜ length (b .shadow) ≡ 32 ⌝ }
 {
-    let block = b.shadow;
-    parts::laid(room, a, 0x60, &block);
+    if 0x60 < a + room.len() {
+        let block = b.shadow;
+        parts::laid(room, a, 0x60, &block);
+    }
 }
 
 // What stands from 20h on.
@@ -139,16 +143,18 @@ fn registers_laid(k: Common, m: Meter, a: usize, room: &mut [u8])
     }
 }
 
-// The map from the address a upward.
+// The map from the address a upward: a room that ends among the registers is filled by these alone.
 fn read_reply(k: Common, l: Label, m: Meter, a: usize, room: &mut [u8])
     requires { ⌜ MeterWF m ⌝ }
     requires { ⌜ a < 256 ⌝ }
     ensures { λ _. ⌜ now (room .exit) ≡ listed (λ i. readByte k l m (a + i)) 0 (length (now (room .entry))) ⌝ }
 {
-    idle(room);
-    block_laid(m.cells.block, a, room);
+    if 0x20 < a + room.len() {
+        idle(room);
+        block_laid(m.cells.block, a, room);
+        label_laid(l, a, room);
+    }
     registers_laid(k, m, a, room);
-    label_laid(l, a, room);
 }
 
 fn filled(k: Common, l: Label, m: Meter, source: Source, room: &mut [u8])

@@ -12,9 +12,10 @@ use Rattle.numbers.proofs.Bounds.{picked}
 use Rattle.parts.proofs.Laws.{laid-none, laid-length}
 use Rattle.meter.specs.declared.Block.{Block}
 use Rattle.meter.specs.declared.Meter.{Meter}
+use Rattle.meter.specs.State.{withCells}
 use Rattle.label.specs.Label.{inLabel, inBlock}
 use Rattle.label.proofs.Kept.{but-none, or-none}
-use Rattle.stores.specs.Stores.{reachesOf, porfWrittenOf, acrWrittenOf, asWrittenOf, lockWrittenOf, blockWrittenOf, meterWrittenOf, blockCopiedOf, blockRecalledOf, meterCopiedOf, meterRecalledOf, meterLockedOf, BlockSized}
+use Rattle.stores.specs.Stores.{reachesOf, porfWrittenOf, acrWrittenOf, asWrittenOf, lockWrittenOf, blockWrittenOf, cellsWrittenOf, meterWrittenOf, blockCopiedOf, blockRecalledOf, meterCopiedOf, meterRecalledOf, meterLockedOf, BlockSized}
 
 module _ (b : Block) (locked : Bool) (a : ℕ) where
   module _ (bytes : List ℕ) where
@@ -32,7 +33,7 @@ module _ (b : Block) (locked : Bool) (a : ℕ) where
     unfolding blockWrittenOf
     written-locked e = simp e
 
-    block-written-elsewhere : min (a + length bytes) 0x80 ≤ max a 0x60 → blockWrittenOf b locked a bytes ≡ b
+    pub block-written-elsewhere : min (a + length bytes) 0x80 ≤ max a 0x60 → blockWrittenOf b locked a bytes ≡ b
     unfolding blockWrittenOf
     block-written-elsewhere h =
         rw (laid-none 0x60 0x80 (b .shadow) a bytes h) (picked (λ (x : Block). x ≡ b) locked b b (λ e. refl) (λ e. refl))
@@ -67,12 +68,17 @@ unfolding reachesOf
 missed a bytes x h = rw (lt-leb a x h) refl
 
 module _ (m : Meter) (a : ℕ) where
-  -- bytes for 20h..2Fh alone are for no register, and not for block 1
+  -- bytes from 20h on are for no register: the cells alone may change
+  pub written-above : (bytes : List ℕ) → 0x20 ≤ a → meterWrittenOf m a bytes ≡ withCells m (cellsWrittenOf (m .cells) a bytes)
+  unfolding meterWrittenOf porfWrittenOf acrWrittenOf asWrittenOf
+  written-above bytes low =
+      rw (missed a bytes 0x01 (omega arith), missed a bytes 0x10 (omega arith), missed a bytes 0x14 (omega arith)) refl
+
+  -- bytes for 20h..2Fh alone are not for block 1 either
   pub written-elsewhere : (bytes : List ℕ) → 0x20 ≤ a → a + length bytes ≤ 0x30 → meterWrittenOf m a bytes ≡ m
-  unfolding meterWrittenOf porfWrittenOf acrWrittenOf asWrittenOf lockWrittenOf
+  unfolding lockWrittenOf
   written-elsewhere bytes low high =
-      rw (missed a bytes 0x01 (omega arith), missed a bytes 0x10 (omega arith), missed a bytes 0x14 (omega arith), missed a bytes 0x1f (omega arith), block-kept bytes (omega arith))
-      refl
+      written-above bytes low ∙ rw (missed a bytes 0x1f (omega arith), block-kept bytes (omega arith)) refl
     where
       block-kept : (bytes : List ℕ) → a + length bytes ≤ 0x60 → blockWrittenOf (m .cells .block) (m .cells .locks .bl1) a bytes ≡ m .cells .block
       block-kept bytes h = block-written-elsewhere (m .cells .block) (m .cells .locks .bl1) a bytes (omega arith)

@@ -79,17 +79,18 @@ fn lock_written(lock: bool, a: usize, bytes: &[u8]) -> bool
     lock
 }
 
-// 60h to 7Fh.
+// 60h to 7Fh, where the bytes end above 60h.
 fn block_written(mut b: Block, locked: bool, a: usize, bytes: &[u8]) -> Block
     requires { ⌜ a < 256 ⌝ }
     ensures { λ r. ⌜ r ≡ blockWrittenOf b locked a (now (bytes .entry)) ⌝ }
 {
-    if locked {
-        return b;
+    if 0x60 < a + bytes.len() {
+        if !locked {
+            let mut shadow = b.shadow;
+            parts::laid(&mut shadow, 0x60, a, bytes);
+            b.shadow = shadow;
+        }
     }
-    let mut shadow = b.shadow;
-    parts::laid(&mut shadow, 0x60, a, bytes);
-    b.shadow = shadow;
     b
 }
 
@@ -111,11 +112,13 @@ pub fn meter_written(mut m: Meter, a: usize, bytes: &[u8]) -> Meter
     ensures kept { λ r. ⌜ MeterWF r ⌝ }
 {
     let cells = cells_written(m.cells, a, bytes);
-    let charge = as_written(acr_written(m.charge, a, bytes), a, bytes);
-    let porf = porf_written(m.shown.flags.porf, a, bytes);
     m.cells = cells;
-    m.charge = charge;
-    m.shown.flags.porf = porf;
+    if a < 0x20 {
+        let charge = as_written(acr_written(m.charge, a, bytes), a, bytes);
+        let porf = porf_written(m.shown.flags.porf, a, bytes);
+        m.charge = charge;
+        m.shown.flags.porf = porf;
+    }
     m
 }
 

@@ -1,15 +1,27 @@
+use mathlib.Core.Logic.{⊎-elim}
+use mathlib.Core.Path.{ap, _∙_}
 use lib.ListN.{length}
 use denote.Ref.{now}
-use Rattle.replies.proofs.Listed.{net-listed}
+use Rattle.replies.specs.Reply.{netByte, overOf}
+use Rattle.replies.proofs.Listed.{listed-length, net-listed, net-short}
 use borrow.Author.Needs.{needs}
 use Rattle.replies.proofs.net_reply.Statement.{statement}
 use Rattle.replies.proofs.net_reply.Tie as tie
 
 returns : tie.Need-returns
 returns c =
-    let idle = c .before .before .before .before .before .before .before in
-    let a = idle .before .before .before .args in
-    net-listed (a .t1) (length (now (a .room))) _ (search needs) (idle .idle .ensures) (c .before .before .laid .ensures)
+    let laid = c .before .before in
+    let join = laid .before .before .before in
+    let a = join .before .before .args in
+    ⊎-elim
+    (λ w. net-listed (a .t1) (length (now (a .room))) _ (search needs) (w .5 ∙ w .2 .ensures) (laid .laid .ensures))
+    (λ w. net-short (a .t1) (now (a .room)) (search needs) (w .0 .left) (laid .laid .ensures ∙ ap (overOf 0 (a .t1) 0) (w .1)))
+    (join .if1 .came)
+
+same-length : tie.Need-same-length
+same-length c =
+    let a = c .before .before .before .before .before .before .before .args in
+    ap length (returns c) ∙ listed-length (netByte (a .t1)) 0 (length (now (a .room)))
 
 pub net-reply-spec : {M : Type 1} → statement M
 net-reply-spec =
@@ -18,5 +30,5 @@ net-reply-spec =
     (λ c κs. search needs)
     (λ c. search needs)
     (λ c κs. search needs)
-    (λ c. search needs)
+    same-length
     returns)

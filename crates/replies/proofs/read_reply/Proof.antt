@@ -1,19 +1,30 @@
+use mathlib.Core.Logic.{⊎-elim}
+use mathlib.Core.Path.{_∙_, ap}
+use Prim.Native.Nat.{_+_}
 use lib.ListN.{length}
 use denote.Ref.{now}
-use Rattle.replies.proofs.Listed.{read-listed}
+use Rattle.map.specs.Registers.{registersOf}
+use Rattle.replies.specs.Reply.{readByte, overOf}
+use Rattle.replies.proofs.Listed.{listed-length, read-listed, low-listed}
 use borrow.Author.Needs.{needs}
 use Rattle.replies.proofs.read_reply.Statement.{statement}
 use Rattle.replies.proofs.read_reply.Tie as tie
 
 returns : tie.Need-returns
 returns c =
-    let label = c .before .before in
-    let registers = label .before .before .before .before in
-    let block = registers .before .before .before .before in
-    let idle = block .before .before .before .before in
-    let a = idle .before .before .before .args in
-    read-listed (a .k) (a .l) (a .m) (a .a) (length (now (a .room))) _ _ _ _ (block .block-laid .ensures .1) (label .label-laid .ensures .1) (idle .idle .ensures)
-    (block .block-laid .ensures .0) (registers .registers-laid .ensures) (label .label-laid .ensures .0)
+    let registers = c .before .before in
+    let join = registers .before .before in
+    let a = join .before .before .args in
+    ⊎-elim
+    (λ w. read-listed (a .k) (a .l) (a .m) (a .a) (length (now (a .room))) _ _ _ _ (w .6 .ensures .1) (w .10 .ensures .1) (w .2 .ensures)
+    (w .6 .ensures .0) (w .13 ∙ w .10 .ensures .0) (registers .registers-laid .ensures))
+    (λ w. low-listed (a .k) (a .l) (a .m) (a .a) (now (a .room)) (w .0 .left) (registers .registers-laid .ensures ∙ ap (overOf 0x00 (registersOf (a .k) (a .m)) (a .a)) (w .1)))
+    (join .if1 .came)
+
+same-length : tie.Need-same-length
+same-length c =
+    let a = c .before .before .before .before .before .before .args in
+    ap length (returns c) ∙ listed-length (λ i. readByte (a .k) (a .l) (a .m) (a .a + i)) 0 (length (now (a .room)))
 
 pub read-reply-spec : {M : Type 1} → statement M
-read-reply-spec = tie.close (tie.spec (λ c κs. search needs) (λ c κs. search needs) (λ c κs. search needs) (λ c κs. search needs) (λ c. search needs) returns)
+read-reply-spec = tie.close (tie.spec (λ c. search needs) (λ c κs. search needs) (λ c κs. search needs) (λ c κs. search needs) (λ c κs. search needs) same-length returns)
