@@ -137,7 +137,7 @@ static void full_found(byte *m)
     if ((m[STATUS] & LEARNF) != 0 && full_40 > 0)
         m[AS] = (byte)clamped_wide(((int64_t)big_16(m + ACR) << 21) / (full * full_40), 63, 128);
     m[STATUS] = (byte)((m[STATUS] | CHGTF) & ~LEARNF);
-    set_acr(m, (full * m[AS] >> 7) * full_40 >> 14);
+    set_acr(m, ((full * m[AS] >> 7) * full_40 + 16383) >> 14);
 }
 
 static void average_formed(Gauge *g)

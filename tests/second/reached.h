@@ -157,7 +157,7 @@ static void saw_power_on(const Gauge *was, const Gauge *is)
 
 /* ---- Conversion ---- */
 
-/* C29 to C35, as full is found. */
+/* C29 to C35 and W1.1, as full is found. */
 static void saw_full(const Gauge *g)
 {
     int64_t full_40 = wide_parameter(g, FULL_40), whole = g->full * full_40;
@@ -170,6 +170,9 @@ static void saw_full(const Gauge *g)
     SAW(learns && learnt >= 63 && learnt <= 128, "full: AS learnt");
     SAW(learns && learnt < 63, "full: AS learnt, moved up to 63");
     SAW(learns && learnt > 128, "full: AS learnt, moved down to 128");
+    int64_t aged = g->full * (!learns ? g->as : learnt < 63 ? 63 : learnt > 128 ? 128 : learnt) / 128 * full_40;
+    SAW(aged % 16384 != 0, "full: ACR rounded up");
+    SAW(aged > 0 && aged % 16384 == 0, "full: ACR exact");
 }
 
 /* An average that just does not find full, or just does. */
@@ -300,6 +303,7 @@ static void saw_reading(const Gauge *was, const Gauge *is, int32_t voltage, int3
     SAW(n > 0 && d < 0, "results: D below 0");
     SAW(n > 0 && d == 0, "results: D = 0");
     SAW(n > 0 && d > 0 && is->rarc == 0, "results: RARC rounded down to 0");
+    SAW(was->chgtf && is->chgtf && is->rarc == 100, "results: CHGTF stays at RARC 100");
     SAW(is->rarc == 90 && is->chgtf, "results: CHGTF stays at RARC 90");
     SAW(was->chgtf && is->rarc == 89, "results: CHGTF cleared at RARC 89");
     SAW(was->aef && is->aef && is->voltage >= edge && is->rarc == 5, "results: AEF stays at RARC 5");

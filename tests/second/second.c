@@ -68,6 +68,11 @@ static int64_t divided_down(int64_t value, int64_t divisor)
     return value % divisor < 0 ? quotient - 1 : quotient;
 }
 
+static int64_t divided_up(int64_t value, int64_t divisor)
+{
+    return -divided_down(-value, divisor);
+}
+
 static int32_t signed_byte(int32_t value)
 {
     return value < 128 ? value : value - 256;
@@ -197,7 +202,7 @@ static void accumulate_and_age(Gauge *g, int32_t c)
     }
 }
 
-/* C29 to C35. A reading came before, so FULL is not 0. */
+/* C29 to C35, W1.1. A reading came before, so FULL is not 0. */
 static void full_found(Gauge *g)
 {
     int64_t full_40 = wide_parameter(g, FULL_40);
@@ -206,7 +211,7 @@ static void full_found(Gauge *g)
     if (g->learnf && full_40 > 0)
         g->as = moved_into_as_range((int32_t)divided_down((int64_t)g->acr * 2097152, g->full * full_40));
     g->learnf = false;
-    g->acr = (int32_t)divided_down(age_scaled_full(g) * full_40, 16384);
+    g->acr = (int32_t)divided_up(age_scaled_full(g) * full_40, 16384);
     g->fraction = 0;
 }
 
@@ -671,9 +676,9 @@ static void hold_full_and_learn(void)
     charge_to_full(&g, 0);
     hold("full at 0 degrees, CHGTF", 1, g.chgtf);
     hold("full at 0 degrees, AF", 15063, age_scaled_full(&g));
-    hold("full at 0 degrees, ACR", 9193, g.acr);
+    hold("full at 0 degrees, ACR", 9194, g.acr);
     reading(&g, 401, 0);
-    hold("full at 0 degrees, then RARC", 99, g.rarc);
+    hold("full at 0 degrees, then RARC", 100, g.rarc);
 
     g = model_m();
     g.acr = 9000;
@@ -681,7 +686,7 @@ static void hold_full_and_learn(void)
     charge_to_full(&g, 320);
     hold("learn, FULL", 16384, g.full);
     hold("learn, AS", 115, g.as);
-    hold("learn, ACR", 8984, g.acr);
+    hold("learn, ACR", 8985, g.acr);
 }
 
 static void hold_conversions(void)

@@ -8,7 +8,7 @@ use Rattle.numbers.proofs.Bounds.{times, picked}
 use Rattle.params.specs.declared.Counting.{Counting}
 use Rattle.charge.specs.declared.Charge.{Charge}
 use Rattle.charge.specs.declared.Age.{Age}
-use Rattle.charge.specs.Charge.{ChargeWF, setOf, withAs, blankedOf, grownOf, fallOf, agedOf, countedOf, agedFullOf, shareOf}
+use Rattle.charge.specs.Charge.{ChargeWF, setOf, withAs, blankedOf, grownOf, fallOf, agedOf, countedOf, agedFullOf, shareOf, shareUpOf}
 
 pub set-wf : (g : Charge) (acr : ℕ) (learnf : Bool) → acr ≤ 65535 → ChargeWF g → ChargeWF (setOf g acr learnf)
 set-wf g acr learnf h w = record { count = omega arith; age = w .age; low = w .low; high = w .high }
@@ -46,3 +46,15 @@ aged-full-high full aging p q = omega (arith, times full aging 16384 128 p q)
 pub share-high : (x full40 : ℕ) → x ≤ 16384 → full40 ≤ 65535 → shareOf x full40 ≤ 65535
 unfolding shareOf
 share-high x full40 p q = omega (arith, times x full40 16384 65535 p q)
+
+-- the charge at full is the least that covers its share of Full40, and at most Full40: 0 where that is 0
+pub share-up-covers : (x full40 : ℕ) → x * full40 ≤ 16384 * shareUpOf x full40
+unfolding shareUpOf
+share-up-covers x full40 = omega arith
+
+pub share-up-least : (x full40 acr : ℕ) → x * full40 ≤ 16384 * acr → shareUpOf x full40 ≤ acr
+unfolding shareUpOf
+share-up-least x full40 acr h = omega arith
+
+pub share-up-high : (x full40 : ℕ) → x ≤ 16384 → shareUpOf x full40 ≤ full40
+share-up-high x full40 p = share-up-least x full40 full40 (times x full40 16384 full40 p (omega arith))

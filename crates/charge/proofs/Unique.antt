@@ -7,6 +7,7 @@ use Rattle.charge.proofs.Charge.counted
 use Rattle.charge.proofs.Charge.set
 use Rattle.charge.proofs.aged_full
 use Rattle.charge.proofs.share
+use Rattle.charge.proofs.share_up
 
 pub current-once : Once current.ended current.Reads.Pre current.Reads.Learnt
 current-once κs a r r′ w w′ p h h′ = (h ∙ sym h′, refl)
@@ -25,3 +26,6 @@ aged-full-once κs a r r′ w w′ p h h′ = (h ∙ sym h′, refl)
 
 pub share-once : Once share.ended share.Reads.Pre share.Reads.Learnt
 share-once κs a r r′ w w′ p h h′ = (h .0 ∙ sym (h′ .0), refl)
+
+pub share-up-once : Once «share_up».ended «share_up».Reads.Pre «share_up».Reads.Learnt
+share-up-once κs a r r′ w w′ p h h′ = (h ∙ sym h′, refl)

@@ -102,3 +102,7 @@ agedFullOf full aging = full * aging / 128
 -- a share of Full40 in units of 2^-14, as ACR: rounded down
 unfoldable pub shareOf : ℕ → ℕ → ℕ
 shareOf share full40 = share * full40 / 16384
+
+-- the same rounded up: the charge at full, so that a full pack says 100
+unfoldable pub shareUpOf : ℕ → ℕ → ℕ
+shareUpOf share full40 = (share * full40 + 16383) / 16384

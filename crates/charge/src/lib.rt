@@ -2,7 +2,7 @@
 use params::Counting;
 ghost use mathlib.Core.Path.{_≡_};
 ghost use Prim.Native.Nat.{_*_, _≤_};
-ghost use Rattle.charge.specs.Charge.{ChargeWF, currentOf, tracedOf, blankedOf, grownOf, agedOf, countedOf, setOf, agedFullOf, shareOf};
+ghost use Rattle.charge.specs.Charge.{ChargeWF, currentOf, tracedOf, blankedOf, grownOf, agedOf, countedOf, setOf, agedFullOf, shareOf, shareUpOf};
 
 // ACR × 4,096 + fraction, AS, LEARNF and the age counter. (Side by side, count and age would be passed as one number of eight bytes.)
 pub struct Charge {
@@ -135,4 +135,11 @@ pub fn share(x: u32, full40: u16) -> u64
     ensures small { λ r. ⌜ r ≤ 4 * x ⌝ }
 {
     (x as u64) * (full40 as u64) / 16384
+}
+
+// The same rounded up: the charge at full.
+pub fn share_up(x: u32, full40: u16) -> u64
+    ensures { λ r. ⌜ r ≡ shareUpOf x full40 ⌝ }
+{
+    ((x as u64) * (full40 as u64) + 16383) / 16384
 }

@@ -1,4 +1,5 @@
 -- What the definitions keep: bounds of what they give; charge and average are well-formed after step 6.
+use mathlib.Core.Path.{_≡_}
 use mathlib.Core.Bool.{Bool}
 use Prim.Native.Nat.{ℕ, _≤_}
 use native.Mathlib.Omega.{arith}
@@ -7,10 +8,16 @@ use borrow.Author.Tests.{eqb-false}
 use Rattle.numbers.specs.Choice.{both}
 use Rattle.numbers.proofs.Bounds.{picked}
 use Rattle.charge.specs.declared.Charge.{Charge}
-use Rattle.charge.specs.Charge.{ChargeWF, agedFullOf, shareOf}
-use Rattle.charge.proofs.Laws.{set-wf, with-as-wf, aged-full-high, share-high}
+use Rattle.charge.specs.Charge.{ChargeWF, acrOf, agedFullOf, shareUpOf}
+use Rattle.charge.proofs.Laws.{set-wf, with-as-wf, aged-full-high, share-up-high}
 use Rattle.full.specs.declared.Average.{Average}
 use Rattle.full.specs.Full.{AverageWF, eighth, averagedOf, learntOf, taughtOf, filledOf, settledOf}
+
+-- ACR at full: AF × Full40 / 16,384 rounded up
+pub filled-acr : (g : Charge) (full full40 : ℕ)
+    → acrOf (filledOf g full full40 .count) ≡ shareUpOf (agedFullOf full (filledOf g full full40 .aging)) full40
+unfolding filledOf
+filled-acr g full full40 = omega arith
 
 module _ (g : Charge) (full full40 : ℕ) (w : ChargeWF g) where
   taught-low : 63 ≤ taughtOf g full full40
@@ -22,8 +29,8 @@ module _ (g : Charge) (full full40 : ℕ) (w : ChargeWF g) where
   taught-high = picked (λ (x : ℕ). x ≤ 128) (both (g .learnf) (ltb 0 full40)) _ _ (λ e. omega arith) (λ e. w .high)
 
   -- the charge at full is an ACR
-  pub filled-high : full ≤ 16384 → full40 ≤ 65535 → shareOf (agedFullOf full (taughtOf g full full40)) full40 ≤ 65535
-  filled-high p q = share-high _ full40 (aged-full-high full _ p taught-high) q
+  pub filled-high : full ≤ 16384 → full40 ≤ 65535 → shareUpOf (agedFullOf full (taughtOf g full full40)) full40 ≤ 65535
+  filled-high p q = omega (arith, q, share-up-high (agedFullOf full (taughtOf g full full40)) full40 (aged-full-high full _ p taught-high))
 
   pub filled-wf : full ≤ 16384 → full40 ≤ 65535 → ChargeWF (filledOf g full full40)
   unfolding filledOf

@@ -6,7 +6,7 @@ use Rattle.numbers.specs.Offset.{zeroAt, movedInto}
 use Rattle.numbers.specs.Choice.{pick, both}
 use Rattle.params.specs.declared.Limits.{Limits}
 use Rattle.charge.specs.declared.Charge.{Charge}
-use Rattle.charge.specs.Charge.{acrOf, setOf, withAs, agedFullOf, shareOf}
+use Rattle.charge.specs.Charge.{acrOf, setOf, withAs, agedFullOf, shareUpOf}
 use Rattle.full.specs.declared.Average.{Average}
 use Rattle.full.specs.declared.Since.{Since}
 
@@ -61,11 +61,11 @@ learntOf acr full full40 = movedInto 63 128 (acr * 2 ^ 21 / (full * full40))
 abbrev pub taughtOf : Charge → ℕ → ℕ → ℕ
 taughtOf g full full40 = pick (both (g .learnf) (ltb 0 full40)) (learntOf (acrOf (g .count)) full full40) (g .aging)
 
--- LEARNF clears; ACR = AF × Full40 / 16,384 rounded down, fraction 0
+-- LEARNF clears; ACR = AF × Full40 / 16,384 rounded up, fraction 0
 unfoldable pub filledOf : Charge → ℕ → ℕ → Charge
 filledOf g full full40 =
     let aging = taughtOf g full full40 in
-    setOf (withAs g aging) (shareOf (agedFullOf full aging) full40) false
+    setOf (withAs g aging) (shareUpOf (agedFullOf full aging) full40) false
 
 -- the charge after step 6
 unfoldable pub settledOf : Charge → Bool → ℕ → ℕ → Charge

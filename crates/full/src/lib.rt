@@ -96,7 +96,7 @@ fn filled(mut g: Charge, full: u16, full40: u16) -> Charge
     let teach = numbers::and(g.learnf, 0 < full40);
     let before = (g.count / 4096) as u16;
     let aging = numbers::choose8(teach, learnt(before, full, full40), g.aging);
-    let acr = charge::share(charge::aged_full(full, aging), full40) as u16;
+    let acr = charge::share_up(charge::aged_full(full, aging), full40) as u16;
     g.aging = aging;
     g.set(acr, false)
 }

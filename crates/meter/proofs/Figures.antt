@@ -1,12 +1,12 @@
--- The cases of "Figures to hold" that document 01 marks with *, in its order: one table, one statement, closed by computation. A row is a
--- sentence: what the definitions give and, after `is`, what document 01 says.
+-- The cases of "Figures to hold" that document 01 marks with *, in its order, F12 and F13 as request [1] has them: one table, one statement, closed by computation. A row is a
+-- sentence: what the definitions give and, after `is`, what the paper says.
 use mathlib.Core.Path.{_≡_, refl}
 use mathlib.Core.Bool.{true, false}
 use mathlib.Core.List.{List, [], _∷_, map}
 use Prim.Native.Nat.{ℕ, _+_, _-_, _*_}
 use lib.ListN.{set}
 use Rattle.numbers.specs.Offset.{zeroAt}
-use Rattle.charge.specs.Charge.{acrOf, fractionOf, countedOf, agedFullOf, shareOf}
+use Rattle.charge.specs.Charge.{acrOf, fractionOf, countedOf, agedFullOf, shareOf, shareUpOf}
 use Rattle.full.specs.Full.{averagedOf, renewedOf, foundOf, learntOf, filledOf, settledOf, loweredOf}
 use Rattle.model.specs.Model.{slopesOver, linesOf}
 use Rattle.reading.specs.Reading.{degreesOf, drainingOf, pointOf, emptiedOf, leftOf, usableOf, percentOf, amountOf, resultsOf, ratedOf, flaggedOf, keptOf, seenOf}
@@ -150,10 +150,10 @@ figures =
     (degrees (readM (plus 319)) ∷ degrees (readM (plus 320)) ∷ [] is (zeroAt 7 + 39) ∷ (zeroAt 7 + 40) ∷ []) ∷
     -- F11. M, 40 °C, ACR 5,000: RARC 49, RSRC 50, RAAC 968, RSAC 976
     (warm .shown .results .rarc ∷ warm .shown .results .rsrc ∷ warm .shown .results .raac ∷ warm .shown .results .rsac ∷ [] is 49 ∷ 50 ∷ 968 ∷ 976 ∷ []) ∷
-    -- F12. M, 0 °C, AS 122, LEARNF 0, full found: AF 15063, ACR 9193, then RARC 99
-    (agedFull cold ∷ acr cold ∷ readAt (plus (8 * 0)) cold .shown .results .rarc ∷ [] is 15063 ∷ 9193 ∷ 99 ∷ []) ∷
-    -- F13. Learn: FULL 16384, Full40 10,000, ACR 9,000 gives AS 115, ACR 8984
-    (taught .charge .aging ∷ acr taught ∷ [] is 115 ∷ 8984 ∷ []) ∷
+    -- F12. M, 0 °C, AS 122, LEARNF 0, full found: AF 15063, ACR 9194, then RARC 100
+    (agedFull cold ∷ acr cold ∷ readAt (plus (8 * 0)) cold .shown .results .rarc ∷ [] is 15063 ∷ 9194 ∷ 100 ∷ []) ∷
+    -- F13. Learn: FULL 16384, Full40 10,000, ACR 9,000 gives AS 115, ACR 8985
+    (taught .charge .aging ∷ acr taught ∷ [] is 115 ∷ 8985 ∷ []) ∷
     -- F14 to F17. Blanking: 63 to 0, 64 to 64; with NBEN -15 to 0, -16 to -16
     (counted M (plus 63) ∷ counted M (plus 64) ∷ [] is (100 * 4096 + 0) ∷ (100 * 4096 + 64) ∷ []) ∷
     (counted noiseless (minus 15) ∷ counted noiseless (minus 16) ∷ [] is (100 * 4096 - 0) ∷ (100 * 4096 - 16) ∷ []) ∷
@@ -168,5 +168,5 @@ figures =
     []
 
 pub figures-hold : Hold figures
-unfolding poweredOf countedOf averagedOf renewedOf foundOf learntOf agedFullOf shareOf filledOf settledOf flowedOf convertOf slopesOver linesOf drainingOf pointOf emptiedOf leftOf usableOf percentOf amountOf resultsOf ratedOf flaggedOf keptOf loweredOf seenOf drainedOf shownOf readOf
+unfolding poweredOf countedOf averagedOf renewedOf foundOf learntOf agedFullOf shareOf shareUpOf filledOf settledOf flowedOf convertOf slopesOver linesOf drainingOf pointOf emptiedOf leftOf usableOf percentOf amountOf resultsOf ratedOf flaggedOf keptOf loweredOf seenOf drainedOf shownOf readOf
 figures-hold = (refl, (refl, (refl, (refl, (refl, (refl, (refl, (refl, (refl, (refl, (refl, (refl, (refl, (refl, tt))))))))))))))

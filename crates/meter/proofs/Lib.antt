@@ -2,3 +2,4 @@ pub mod Laws
 pub mod Meaning
 pub mod Figures
 pub mod Unique
+pub mod Hundred
