@@ -129,7 +129,8 @@ class Session:
         self.write(address, value.to_bytes(size, "big"))
 
     def write_acr(self, value):
-        self.write(0x10, value.to_bytes(2, "big"))
+        """The nearest charge that ACR can hold."""
+        self.write(0x10, min(0xFFFF, max(0, value)).to_bytes(2, "big"))
 
     def write_as(self, value):
         self.write(0x14, bytes([value]))

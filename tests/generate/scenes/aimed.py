@@ -143,7 +143,7 @@ def per_cents(session):
         session.write_as(128)
         aims = [(91, ae), (90, ae), (89, ae)] + aims
     for percent, empty in aims:
-        session.write_acr(max(0, charge_at(session, percent, empty) + chance.choice([-1, 0, 0, 0, 1])))
+        session.write_acr(charge_at(session, percent, empty) + chance.choice([-1, 0, 0, 0, 1]))
         some(chance, lambda: above_empty(session), lambda: above_empty(session), lambda: above_empty(session),
              lambda: below_empty(session))
         session.registers()

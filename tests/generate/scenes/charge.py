@@ -146,7 +146,7 @@ def crossings(session):
     acr = chance.randrange(full_40 + 1)
     warm = chance.choice([320, temperature(chance)])
     for _ in range(chance.randint(2, 6)):
-        session.write_acr(min(65535, max(0, acr)))
+        session.write_acr(acr)
         session.reading(some(chance, 1023, lambda: voltage_above(session, VAE)), warm)
         acr += chance.randint(-full_40 // 20 - 1, full_40 // 20 + 1)
     session.registers()

@@ -77,5 +77,5 @@ def sized(chance):
     filled(session, min(target, SESSION_LIMIT) - FINISH_BYTES)
     session.finish()
     filled(session, target)
-    session.records += bytes(target - len(session.records))
+    session.records += bytes(max(0, target - len(session.records)))  # what the last event ran over is more, too
     return bytes(session.records)
