@@ -1,4 +1,4 @@
--- The refusals of an image out, in the numbers of the paper: 5 before an image was accepted, else 9 for a room under 60; "nothing written".
+-- The refusals of an image out, in the numbers of the paper: 5 before an image was accepted, else 9 for a room under 60; "nothing is written".
 use mathlib.Core.Path.{_≡_}
 use mathlib.Core.Bool.{true, false}
 use mathlib.Core.List.{List}
