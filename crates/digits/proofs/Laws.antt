@@ -1,18 +1,18 @@
 -- How pieces of text are joined, and what follows of the digits' definitions.
 use mathlib.Core.Path.{_≡_, refl, sym, ap, _∙_}
 use mathlib.Core.List.{List, [], _∷_, _++_}
-use Prim.Native.Nat.{ℕ, _+_, _-_, _/_, _%_, _≤_, _<_}
+use Prim.Native.Nat.{ℕ, _+_, _-_, _*_, _/_, _%_, _≤_, _<_}
 use native.Mathlib.Nat.{add-zero}
 use native.Mathlib.Numerals.{add-one}
 use native.Mathlib.Omega.{arith}
 use borrow.Author.Tests.{lt-ltb}
 use lib.Dec.{ltb}
-use lib.ListN.{length, getD, take, length-append}
-use lib.Seq.{take-suc}
+use lib.ListN.{length, getD, take, drop, length-append, length-drop, take-append-drop}
+use lib.Seq.{take-suc, take-all, length-take-le}
 use Rattle.numbers.proofs.Bounds.{picked}
-use Rattle.parts.specs.Parts.{put}
-use Rattle.parts.proofs.Laws.{put-length, put-next}
-use Rattle.digits.specs.Digits.{pairText, hexText, digitOf, placesOf, shownText, placeText, decimalText, Writing}
+use Rattle.parts.specs.Parts.{put, part}
+use Rattle.parts.proofs.Laws.{put-length, put-next, part-rest}
+use Rattle.digits.specs.Digits.{lower, pairText, hexText, digitOf, placesOf, shownText, placeText, decimalText, Writing}
 
 -- ---- writing
 
@@ -45,6 +45,25 @@ hex-append letter (x ∷ xs) ys = ap (λ (r : List ℕ). pairText letter x ++ r)
 -- one byte more
 pub hex-more : (letter : ℕ) (s : List ℕ) (i : ℕ) → i < length s → hexText letter (take i s) ++ pairText letter (getD s i 0) ≡ hexText letter (take (i + 1) s)
 hex-more letter s i h = sym (rw (add-one, take-suc s i 0) (hex-append letter (take i s) (getD s i 0 ∷ [])))
+
+-- the bytes so far stand in hex, and one byte more behind them
+pub hex-then : {at next last : ℕ} {out out′ out″ : List ℕ} (s : List ℕ) (i : ℕ) → i < length s → Writing (2 * i) (hexText lower (take i s)) out at next out′
+    → Writing 2 (pairText lower (getD s i 0)) out′ next last out″ → Writing (2 * (i + 1)) (hexText lower (take (i + 1) s)) out at last out″
+hex-then s i h w v = rw (← hex-more lower s i h) (wider (then w v) (omega arith))
+
+-- none is left
+pub hex-all : {at next : ℕ} {out out′ : List ℕ} (s : List ℕ) (i : ℕ) → length s ≤ i → i ≤ length s → Writing (2 * i) (hexText lower (take i s)) out at next out′
+    → Writing (2 * length s) (hexText lower s) out at next out′
+hex-all s i h k w = wider (rw (take-all i s h) at w) (omega arith)
+
+-- the bytes up to a place, and behind them those from there on
+pub hex-parts : {at next last : ℕ} {out out′ out″ : List ℕ} (s : List ℕ) (i : ℕ) → i ≤ length s
+    → Writing (2 * length (take i s)) (hexText lower (take i s)) out at next out′
+    → Writing (2 * length (part (length s - i) s i)) (hexText lower (part (length s - i) s i)) out′ next last out″
+    → Writing (2 * length s) (hexText lower s) out at last out″
+hex-parts s i h w v =
+    let whole = sym (hex-append lower (take i s) (drop i s)) ∙ ap (hexText lower) (take-append-drop i s) in
+    rw (← whole) (wider (then w (rw (part-rest s i) at v)) (omega (arith, length-take-le i s h, length-drop i s)))
 
 -- ---- the next number
 

@@ -32,10 +32,11 @@ pub fn lower_pairs() -> [u8; 512]
     *b"000102030405060708090a0b0c0d0e0f101112131415161718191a1b1c1d1e1f202122232425262728292a2b2c2d2e2f303132333435363738393a3b3c3d3e3f404142434445464748494a4b4c4d4e4f505152535455565758595a5b5c5d5e5f606162636465666768696a6b6c6d6e6f707172737475767778797a7b7c7d7e7f808182838485868788898a8b8c8d8e8f909192939495969798999a9b9c9d9e9fa0a1a2a3a4a5a6a7a8a9aaabacadaeafb0b1b2b3b4b5b6b7b8b9babbbcbdbebfc0c1c2c3c4c5c6c7c8c9cacbcccdcecfd0d1d2d3d4d5d6d7d8d9dadbdcdddedfe0e1e2e3e4e5e6e7e8e9eaebecedeeeff0f1f2f3f4f5f6f7f8f9fafbfcfdfeff"
 }
 
-// A byte as the two digits that a table has for it.
+// A byte as the two digits that a table has for it. That it is below 256 is said too, for the table's rule.
 pub fn put_entry(table: &[u8; 512], b: u8, out: &mut [u8], at: usize) -> usize
     requires { ⌜ at + 2 ≤ length (now out) ⌝ }
     ensures { λ r. ⌜ Writing 2 (entryText (now (table .entry)) b) (now (out .entry)) at r (now (out .exit)) ⌝ }
+    ensures small { λ _. ⌜ b < 256 ⌝ }
 {
     let i = 2 * (b as usize);
     let next = put_byte(table[i], out, at);
@@ -58,18 +59,44 @@ fn put_pair(b: u8, out: &mut [u8], at: usize) -> usize
     put_byte(hex(b % 16), out, next)
 }
 
-// Bytes in lower case. Many at once go without the table: of this the compiler makes code that takes eight bytes at a time.
-pub fn put_hex(bytes: &[u8], out: &mut [u8], at: usize) -> usize
-    requires { ⌜ at + 2 * length (now bytes) ≤ length (now out) ⌝ }
-    ensures { λ r. ⌜ Writing (2 * length (now (bytes .entry))) (hexText lower (now (bytes .entry))) (now (out .entry)) at r (now (out .exit)) ⌝ }
+// Many bytes at once go without a table: of this the compiler makes code that takes eight at a time.
+fn put_many(many: &[u8], out: &mut [u8], at: usize) -> usize
+    requires { ⌜ at + 2 * length (now many) ≤ length (now out) ⌝ }
+    ensures { λ r. ⌜ Writing (2 * length (now (many .entry))) (hexText lower (now (many .entry))) (now (out .entry)) at r (now (out .exit)) ⌝ }
 {
     let mut next = at;
     let mut i = 0;
-    while i < bytes.len() {
-        next = put_pair(bytes[i], out, next);
+    while i < many.len() {
+        next = put_pair(many[i], out, next);
         i += 1;
     }
     next
+}
+
+// A few bytes by the table.
+fn put_few(table: &[u8; 512], few: &[u8], out: &mut [u8], at: usize) -> usize
+    requires { ⌜ now table ≡ pairsOf lower ⌝ }
+    requires { ⌜ at + 2 * length (now few) ≤ length (now out) ⌝ }
+    ensures { λ r. ⌜ Writing (2 * length (now (few .entry))) (hexText lower (now (few .entry))) (now (out .entry)) at r (now (out .exit)) ⌝ }
+{
+    let mut next = at;
+    let mut i = 0;
+    while i < few.len() {
+        next = put_entry(table, few[i], out, next);
+        i += 1;
+    }
+    next
+}
+
+// Bytes in lower case: by eights, and what is left.
+pub fn put_hex(table: &[u8; 512], bytes: &[u8], out: &mut [u8], at: usize) -> usize
+    requires { ⌜ now table ≡ pairsOf lower ⌝ }
+    requires { ⌜ at + 2 * length (now bytes) ≤ length (now out) ⌝ }
+    ensures { λ r. ⌜ Writing (2 * length (now (bytes .entry))) (hexText lower (now (bytes .entry))) (now (out .entry)) at r (now (out .exit)) ⌝ }
+{
+    let eights = bytes.len() / 8 * 8;
+    let next = put_many(&bytes[..eights], out, at);
+    put_few(table, &bytes[eights..], out, next)
 }
 
 // ---- decimal

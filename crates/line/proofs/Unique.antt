@@ -12,4 +12,4 @@ pub put-bare-end-once : Once put_bare_end.ended put_bare_end.Reads.Pre put_bare_
 put-bare-end-once κs a r r′ w w′ p h h′ = (h .onward ∙ sym (h′ .onward), λ i. ((h .written ∙ sym (h′ .written)) i, (tt, tt)))
 
 pub put-end-once : Once put_end.ended put_end.Reads.Pre put_end.Reads.Learnt
-put-end-once κs a r r′ w w′ p h h′ = (h .onward ∙ sym (h′ .onward), λ i. (tt, ((h .written ∙ sym (h′ .written)) i, (tt, tt))))
+put-end-once κs a r r′ w w′ p h h′ = (h .onward ∙ sym (h′ .onward), λ i. (tt, (tt, ((h .written ∙ sym (h′ .written)) i, (tt, tt)))))

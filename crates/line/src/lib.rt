@@ -53,13 +53,14 @@ pub fn put_bare_end(out: &mut [u8], at: usize) -> usize
 }
 
 // The reply and the end of the line.
-pub fn put_end(reply: &[u8], out: &mut [u8], at: usize) -> usize
+pub fn put_end(table: &[u8; 512], reply: &[u8], out: &mut [u8], at: usize) -> usize
+    requires { ⌜ now table ≡ pairsOf lower ⌝ }
     requires { ⌜ at + (2 + 2 * length (now reply)) ≤ length (now out) ⌝ }
     ensures { λ r. ⌜ Writing (2 + 2 * length (now (reply .entry))) (endText (now (reply .entry))) (now (out .entry)) at r (now (out .exit)) ⌝ }
 {
     if reply.len() == 0 {
         return put_bare_end(out, at);
     }
-    let next = digits::put_hex(reply, out, at);
+    let next = digits::put_hex(table, reply, out, at);
     digits::put_byte(b'\n', out, next)
 }

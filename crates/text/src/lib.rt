@@ -30,7 +30,7 @@ fn put_codes(codes: &[u64], replies: &[u8], out: &mut [u8], at: usize) -> usize
         } else {
             let left = (replies.len() - used) as u64;
             let end = used + numbers::at_most(left, asked) as usize;
-            next = line::put_end(&replies[used..end], out, start);
+            next = line::put_end(&table, &replies[used..end], out, start);
             used = end;
         }
     }

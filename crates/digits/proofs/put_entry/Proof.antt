@@ -5,7 +5,7 @@ use Rattle.digits.proofs.put_entry.Statement.{statement}
 use Rattle.digits.proofs.put_entry.Tie as tie
 
 returns : tie.Need-returns
-returns c = then (c .before .before .before .before .before .before .before .put-byte .ensures) (c .before .before .put-byte2 .ensures)
+returns c = (then (c .before .before .before .before .before .before .before .put-byte .ensures) (c .before .before .put-byte2 .ensures), search needs)
 
 pub put-entry-spec : {M : Type 1} → statement M
 put-entry-spec =

@@ -18,7 +18,7 @@ unfolding kindText
 returns-2 c =
     let kind = c .before .before .before .before .before .before .before .before .before .before .args .kind in
     let table = c .before .before .before .before .before .before .before .before .before .before .pre .0 in
-    rw (ne-eqb _ _ (c .before .before .before .before .before .before .before .before .if1 .left)) (then (rw (table, paired (kind / 256) (omega arith)) at (c .before .before .before .before .before .before .put-entry .ensures)) (rw (table, paired (kind % 256) (omega arith)) at (c .before .before .put-entry2 .ensures)))
+    rw (ne-eqb _ _ (c .before .before .before .before .before .before .before .before .if1 .left)) (then (rw (table, paired (kind / 256) (omega arith)) at (c .before .before .before .before .before .before .put-entry .ensures .0)) (rw (table, paired (kind % 256) (omega arith)) at (c .before .before .put-entry2 .ensures .0)))
 
 pub put-kind-spec : {M : Type 1} → statement M
 put-kind-spec =

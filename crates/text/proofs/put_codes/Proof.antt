@@ -34,11 +34,21 @@ loop-again c = (more-bare (c .before .before .before .before .before .before .be
 
 put-end-requires : tie.Need-put-end-requires Inv-loop μ-loop
 put-end-requires c κs =
-    let rest = drop (c .before .before .before .before .before .before .before .before .before .before .before .before .before .before .loop .used) (now (c .before .before .before .before .before .before .before .before .before .before .before .before .before .before .before .before .before .before .before .before .args .replies)) in
-    omega (arith, length-take (c .before .before .before .before .before .before .before .before .before .before .before .before .before .before .loop .used + c .before .before .at-most .result - c .before .before .before .before .before .before .before .before .before .before .before .before .before .before .loop .used) rest, length-drop (c .before .before .before .before .before .before .before .before .before .before .before .before .before .before .loop .used) (now (c .before .before .before .before .before .before .before .before .before .before .before .before .before .before .before .before .before .before .before .before .args .replies)), c .before .before .before .before .before .before .before .before .before .before .before .before .before .before .before .before .before .before .before .before .pre .1, c .before .before .before .before .before .before .before .before .before .before .before .before .before .before .loop .inv .0 .short, c .before .before .before .before .before .before .before .before .before .before .before .before .before .before .loop .inv .0 .sized, c .before .before .before .before .before .before .before .before .before .before .before .before .before .before .loop .inv .0 .served, c .before .before .before .before .before .before .before .before .before .before .before .before .before .loop-test .taken, c .before .before .before .before .before .before .before .before .put-start .ensures .within, kept (c .before .before .before .before .before .before .before .before .put-start .ensures))
+    let put = c .before .before .before .before .before .before .before .before .before .put-start .ensures in
+    let turn = c .before .before .before .before .before .before .before .before .before .before .before .before .before .before in
+    let at-loop = turn .before in
+    let start = at-loop .before .before .before .before .before .before in
+    let used = at-loop .loop .used in
+    let going = at-loop .loop .inv .0 in
+    let replies = now (start .args .replies) in
+    let asked = c .before .before .before .at-most .result in
+    (at-loop .before .before .lower-pairs .ensures, omega (arith, length-take (used + asked - used) (drop used replies), length-drop used replies, start .pre .1, going .short, going .sized, going .served, turn .loop-test .taken, put .within, kept put))
 
 loop-again-2 : tie.Need-loop-again-2 Inv-loop μ-loop
-loop-again-2 c = (more (c .before .before .before .before .before .before .before .before .before .before .before .before .before .before .before .before .before .loop .inv .0) (c .before .before .before .before .before .before .before .before .before .before .before .before .before .before .before .before .loop-test .taken) (ap (λ (k : ℕ). c .before .before .before .before .before .before .before .before .before .before .before .before .before .before .before .before .before .loop .used + k) (c .before .before .before .before .before .at-most .ensures)) (c .before .before .before .before .before .before .before .before .before .before .before .put-start .ensures) (c .before .before .put-end .ensures), c .before .before .before .before .before .before .before .count-up .ensures)
+loop-again-2 c =
+    let turn = c .before .before .before .before .before .before .before .before .before .before .before .before .before .before .before .before .before in
+    let used = turn .before .loop .used in
+    (more (turn .before .loop .inv .0) (turn .loop-test .taken) (ap (λ (k : ℕ). used + k) (c .before .before .before .before .before .before .at-most .ensures)) (c .before .before .before .before .before .before .before .before .before .before .before .before .put-start .ensures) (c .before .before .put-end .ensures), c .before .before .before .before .before .before .before .before .count-up .ensures)
 
 same-length : tie.Need-same-length Inv-loop μ-loop
 same-length c = c .before .loop .inv .0 .sized

@@ -1,0 +1,52 @@
+-- `digits::put_few` meets its contract. The invariant is that of `put_many`; the table has the two digits of each byte.
+use Prim.Native.Nat.{_*_, _-_, _≤_}
+use native.Mathlib.Omega.{arith}
+use lib.ListN.{length, take}
+use denote.Ref.{now}
+use Rattle.digits.specs.Digits.{lower, hexText, Writing}
+use Rattle.digits.proofs.Laws.{kept, none, hex-then, hex-all}
+use Rattle.digits.proofs.Pairs.{paired}
+use borrow.Author.Needs.{needs}
+use Rattle.digits.proofs.put_few.Statement.{statement}
+use Rattle.digits.proofs.put_few.Tie as tie
+
+abbrev Inv-loop : tie.InvT-loop
+Inv-loop table few out₀ at next₀ i₀ out next i = (i ≤ length few) × Writing (2 * i) (hexText lower (take i few)) out₀ at next out
+
+abbrev μ-loop : tie.MeasureT-loop
+μ-loop table few out₀ at next₀ i₀ out next i = length few - i
+
+loop-holds : tie.Need-loop-holds Inv-loop μ-loop
+loop-holds c = (omega arith, none (now (c .before .before .args .out)) (c .before .before .args .at))
+
+put-entry-requires : tie.Need-put-entry-requires Inv-loop μ-loop
+put-entry-requires c κs = omega (arith, kept (c .before .before .before .loop .inv .1), c .before .before .before .loop .inv .1 .within)
+
+loop-again : tie.Need-loop-again Inv-loop μ-loop
+loop-again c =
+    let turn = c .before .before .before .before .before in
+    let entry = c .before .before .put-entry .ensures in (
+      omega arith,
+      hex-then _ _ (turn .loop-test .taken) (turn .before .loop .inv .1) (rw (turn .before .before .before .before .pre .0, paired _ (entry .1)) at (entry .0)),
+    )
+
+same-length : tie.Need-same-length Inv-loop μ-loop
+same-length c = kept (c .before .loop .inv .1)
+
+returns : tie.Need-returns Inv-loop μ-loop
+returns c = hex-all _ _ (c .loop-test .left) (c .before .loop .inv .0) (c .before .loop .inv .1)
+
+pub put-few-spec : {M : Type 1} → statement M
+put-few-spec =
+    tie.close
+    (tie.spec
+    Inv-loop
+    μ-loop
+    loop-holds
+    (λ c. search needs)
+    put-entry-requires
+    (λ c. search needs)
+    (λ c. search needs)
+    loop-again
+    same-length
+    returns)
