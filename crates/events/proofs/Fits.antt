@@ -15,6 +15,7 @@ use Rattle.bus.proofs.Laws.{asked-placed}
 use Rattle.events.specs.declared.Kind.{Kind}
 use Rattle.events.specs.declared.Kind.the-variants as kind
 use Rattle.events.specs.declared.Refusal.the-variants as refusal
+use Rattle.events.specs.declared.Event.{Event}
 use Rattle.events.specs.declared.Event.the-variants.{Image, Change, Transact}
 use Rattle.events.specs.declared.Taken.{Taken}
 use Rattle.events.specs.declared.Taken.the-variants.{Run, Refused}
@@ -80,6 +81,15 @@ module _ (loaded : Bool) (p : List ℕ) where
   pub taking : (n : ℕ) → Taking loaded p (takenOf n loaded p)
   unfolding takenOf
   taking n = by-taking (kindOf n)
+
+-- an image that the judge accepts has its size
+pub judged-sized : (p : List ℕ) {e : Event} → judgedOf p ≡ Run e → length p ≡ imageSize
+unfolding judgedOf
+judged-sized p {e} h = by (eqb (length p) imageSize) refl
+  where
+    by : (b : Bool) → eqb (length p) imageSize ≡ b → length p ≡ imageSize
+    by true s = eqb-true (length p) imageSize s
+    by false s = let z : _≡_ {A = ℕ} 0 1 = cc (rw s at h) in absurd (omega arith)
 
 -- ---- only a transaction asks room
 

@@ -10,8 +10,9 @@ use lib.Dec.{ltb, leb}
 use lib.ListN.{length, getD, take, drop, length-append, length-drop, List·getD-append}
 use lib.Seq.{take-add, take-at, drop-at, length-take-le, getD-take}
 use Rattle.numbers.specs.Choice.{pick}
-use Rattle.parts.specs.Parts.{part, pairAt}
-use Rattle.runs.specs.Record.{Rec, whole, cut, wholeOf, recOf, sizeOf, recsFrom, recsOf, kindIn, recordOf}
+use Rattle.parts.specs.Parts.{part, put, pairAt}
+use Rattle.parts.proofs.Laws.{put-next}
+use Rattle.runs.specs.Record.{Rec, whole, cut, wholeOf, recOf, sizeOf, recsFrom, recsOf, kindIn, recordOf, Recorded}
 
 -- ---- a whole record has its header and its payload
 
@@ -176,3 +177,9 @@ module _ (kind : ℕ) (p t : List ℕ) where
       ∙ ap (whole kind) (ap (λ (k : ℕ). take k (p ++ t)) n ∙ take-at p t (length p) refl) in
       let rest : drop (sizeOf written) written ≡ t = ap (λ (k : ℕ). drop k written) size ∙ drop-at (recordOf kind p) t (4 + length p) (omega arith) in
       recs-cons written (omega arith) ∙ ap (λ (r : Rec). r ∷ recsOf (drop (sizeOf written) written)) head ∙ ap (λ (l : List ℕ). whole kind p ∷ recsOf l) rest
+
+-- what is put behind a record that was written stands behind it
+pub record-then : {kind : ℕ} {p before : List ℕ} {at next : ℕ} {after : List ℕ} → Recorded kind p before at next after → (rest : List ℕ)
+    → put after next rest ≡ put before at (recordOf kind p ++ rest)
+record-then {kind} {p} {before} {at} {next} h rest =
+    ap (λ (l : List ℕ). put l next rest) (h .written) ∙ put-next before at next (recordOf kind p) rest (h .onward)

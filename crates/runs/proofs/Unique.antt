@@ -4,6 +4,7 @@ use Rattle.once.specs.Once.{Once}
 use Rattle.runs.proofs.outcome_number
 use Rattle.runs.proofs.outcome_of
 use Rattle.runs.proofs.whole
+use Rattle.runs.proofs.put_record
 use Rattle.runs.proofs.code
 
 pub outcome-number-once : Once outcome_number.ended outcome_number.Reads.Pre outcome_number.Reads.Learnt
@@ -14,6 +15,9 @@ outcome-of-once κs a r r′ w w′ p h h′ = (h ∙ sym h′, refl)
 
 pub whole-once : Once whole.ended whole.Reads.Pre whole.Reads.Learnt
 whole-once κs a r r′ w w′ p h h′ = (h ∙ sym h′, refl)
+
+pub put-record-once : Once put_record.ended put_record.Reads.Pre put_record.Reads.Learnt
+put-record-once κs a r r′ w w′ p h h′ = (h .onward ∙ sym (h′ .onward), λ i. (tt, (tt, ((h .written ∙ sym (h′ .written)) i, (tt, tt)))))
 
 pub code-once : Once code.ended code.Reads.Pre code.Reads.Learnt
 code-once κs a r r′ w w′ p h h′ = (h ∙ sym h′, refl)

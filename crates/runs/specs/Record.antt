@@ -1,11 +1,12 @@
 -- The records of a session: a payload length (2 bytes), a kind (2 bytes), then the payload.
+use mathlib.Core.Path.{_≡_}
 use mathlib.Core.Bool.{Bool, false}
 use mathlib.Core.List.{List, [], _∷_}
 use Prim.Native.Nat.{ℕ, zero, suc, _+_, _-_, _/_, _%_}
 use lib.Dec.{ltb, leb}
 use lib.ListN.{length}
 use Rattle.numbers.specs.Choice.{pick}
-use Rattle.parts.specs.Parts.{part, pairAt}
+use Rattle.parts.specs.Parts.{part, put, pairAt}
 
 -- a record with its kind and payload, or one that is cut: 1 to 3 bytes where a header is due, or a payload that runs past the end
 pub data Rec : Type 0 where
@@ -40,3 +41,8 @@ kindIn cut = 0
 -- the bytes of a record: its payload's length and its kind, each as two bytes, the low one first, then the payload
 abbrev pub recordOf : ℕ → List ℕ → List ℕ
 recordOf kind p = length p % 256 ∷ length p / 256 ∷ kind % 256 ∷ kind / 256 ∷ p
+
+-- a record was written at a place of a room, and the next one goes behind it
+pub record Recorded (kind : ℕ) (p before : List ℕ) (at next : ℕ) (after : List ℕ) : Type 0 where
+  pub onward : next ≡ at + length (recordOf kind p)
+  pub written : after ≡ put before at (recordOf kind p)

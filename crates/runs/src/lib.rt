@@ -1,6 +1,8 @@
-// What every run of records needs: whether a record is whole, a line as a number, and how a session ends.
+// What every run of records needs: whether a record is whole, a record written, a line as a number, and how a session ends.
 ghost use mathlib.Core.Path.{_≡_};
-ghost use Rattle.runs.specs.Record.{wholeOf};
+ghost use Prim.Native.Nat.{_+_, _<_, _≤_};
+ghost use lib.ListN.{length};
+ghost use Rattle.runs.specs.Record.{wholeOf, Recorded};
 ghost use Rattle.runs.specs.Run.{codeOf, outcomeNumber, outcomeOf};
 
 // Run to its end; over 32,768 bytes; or too few lent answers.
@@ -43,6 +45,24 @@ pub fn whole(l: &[u8]) -> bool
     }
     let n = parts::pair(l, 0) as usize;
     4 + n <= l.len()
+}
+
+// Writes a record at a place of a lent room, and says where the next one goes.
+pub fn put_record(kind: u16, payload: &[u8], room: &mut [u8], at: usize) -> usize
+    requires { ⌜ length (now payload) < 65536 ⌝ }
+    requires { ⌜ at + (4 + length (now payload)) ≤ length (now room) ⌝ }
+    ensures { λ r. ⌜ Recorded kind (now (payload .entry)) (now (room .entry)) at r (now (room .exit)) ⌝ }
+{
+    let n = payload.len();
+    let header = [
+        (n % 256) as u8,
+        (n / 256) as u8,
+        (kind % 256) as u8,
+        (kind / 256) as u8,
+    ];
+    parts::store4(header, room, at);
+    parts::store(payload, room, at + 4);
+    at + (4 + n)
 }
 
 // A line of the answers.
