@@ -5,6 +5,7 @@ import sys
 
 TOP = os.path.dirname(os.path.dirname(os.path.dirname(os.path.abspath(__file__))))
 COMMAND = os.path.join(TOP, "trovimbe")
+SECOND = os.path.join(TOP, "tests", "second", "second.c")
 LONG = "--long" in sys.argv[1:]
 
 
@@ -33,6 +34,13 @@ def output(command, given):
     ended = subprocess.run(command, input=given, stdout=subprocess.PIPE, check=False)
     same(f"the status of {' '.join(command)}", ended.returncode, 0)
     return ended.stdout
+
+
+def compiled(to, *options, source=None):
+    """Builds the second program, or what is made of its text, as the file `to`."""
+    taken = [SECOND] if source is None else ["-x", "c", "-"]
+    output(["gcc", "-std=c11", "-O2", "-Wall", "-Wextra", "-Werror", *options, "-o", to, *taken], (source or "").encode())
+    return to
 
 
 FAILED = set()

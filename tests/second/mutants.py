@@ -1,4 +1,5 @@
-"""Wrong second programs: each breaks one rule of the scope paper and must be found by comparing generated sessions.
+"""Wrong second programs: each breaks one rule of the papers and must be found by a comparison: of generated sessions, and
+those of PRESET of the sessions that are written from an image and parameters (tests/cases/preset).
 
 A mutant is a label (the rule's row first), then pairs of a text that stands once in second.c and the text put in its
 place. They show that the comparison can fail. SLIPS are the paper's "Likely slips", RULES go through its rules in order,
@@ -334,6 +335,64 @@ LATCHED = [
     ("C30-in-32-bits", "(int32_t)divided_down((int64_t)g->acr * 2097152, g->full * full_40)",
      "(int32_t)((uint32_t)g->acr * 2097152u / (uint32_t)(g->full * full_40))"),
     ("C24-in-16-bits", "g->run_sum += c;", "g->run_sum = (int16_t)(g->run_sum + c);"),
+]
+
+PRESET = [
+    ("W2.1-length-high-byte-first", "    at[0] = (byte)(length % 256);\n    at[1] = (byte)(length / 256);",
+     "    at[1] = (byte)(length % 256);\n    at[0] = (byte)(length / 256);"),
+    ("W2.1-kind-before-length",
+     "    at[0] = (byte)(length % 256);\n    at[1] = (byte)(length / 256);\n"
+     "    at[2] = (byte)(kind % 256);\n    at[3] = (byte)(kind / 256);",
+     "    at[2] = (byte)(length % 256);\n    at[3] = (byte)(length / 256);\n"
+     "    at[0] = (byte)(kind % 256);\n    at[1] = (byte)(kind / 256);"),
+    ("W2.1-image-with-as-moved", "    at = put_record(at, 1, image, IMAGE_BYTES);",
+     "    byte *start = at;\n    at = put_record(at, 1, image, IMAGE_BYTES);\n"
+     "    start[62] = (byte)moved_into_as_range(image[58]);"),
+    ("W2.1-image-already-set", "    at = put_record(at, 1, image, IMAGE_BYTES);",
+     "    byte *start = at;\n    at = put_record(at, 1, image, IMAGE_BYTES);\n    memcpy(start + 28, wanted, BLOCK_1_BYTES);"),
+    ("W2.1-a-byte-less", "fwrite(room, 1, sizeof room, stdout);", "fwrite(room, 1, sizeof room - 1, stdout);"),
+    ("W2.2-copy-before-write",
+     "    at = put_record(at, 4, write, sizeof write);\n    at = put_record(at, 4, copy, sizeof copy);",
+     "    at = put_record(at, 4, copy, sizeof copy);\n    at = put_record(at, 4, write, sizeof write);"),
+    ("W2.2-read-back-before-copy",
+     "    at = put_record(at, 4, copy, sizeof copy);\n    put_record(at, 4, read_back, sizeof read_back);",
+     "    at = put_record(at, 4, read_back, sizeof read_back);\n    put_record(at, 4, copy, sizeof copy);"),
+    ("W2.2-31-bytes-read", "read_back[] = {0x20,", "read_back[] = {0x1F,"),
+    ("W2.2-31-bytes-written", "put_record(at, 4, write, sizeof write);", "put_record(at, 4, write, sizeof write - 1);"),
+    ("W2.2-write-reads-too", "BLOCK_1_BYTES] = {0x00, 0xCC, 0x6C, 0x60};", "BLOCK_1_BYTES] = {0x20, 0xCC, 0x6C, 0x60};"),
+    ("W2.2-written-from-61h", "0xCC, 0x6C, 0x60};", "0xCC, 0x6C, 0x61};"),
+    ("W2.2-copied-by-7fh", "{0x00, 0xCC, 0x48, 0x60}", "{0x00, 0xCC, 0x48, 0x7F}"),
+    ("W2.2-block-0-copied", "{0x00, 0xCC, 0x48, 0x60}", "{0x00, 0xCC, 0x48, 0x20}"),
+    ("W2.2-recalled", "{0x00, 0xCC, 0x48, 0x60}", "{0x00, 0xCC, 0xB8, 0x60}"),
+    ("W2.4-image-not-judged", "    if (answer != 0)\n        return answer;\n    if (wanted", "    if (wanted"),
+    ("W2.4-22-before-the-image", "    static const Gauge fresh;\n",
+     "    static const Gauge fresh;\n    if (wanted_size != BLOCK_1_BYTES)\n        return 22;\n"),
+    ("W2.4-20-before-the-image", "    static const Gauge fresh;\n",
+     "    static const Gauge fresh;\n    if (wanted_size == BLOCK_1_BYTES && (image[59] & 2) != 0)\n        return 20;\n"),
+    ("W2.4-end-of-the-image-not-looked-for", "static byte image[IMAGE_BYTES + 1],", "static byte image[IMAGE_BYTES],"),
+    ("W2.5-more-is-cut", "if (wanted_size != BLOCK_1_BYTES)", "if (wanted_size < BLOCK_1_BYTES)"),
+    ("W2.5-less-is-filled-up", "if (wanted_size != BLOCK_1_BYTES)", "if (wanted_size > BLOCK_1_BYTES)"),
+    ("W2.5-end-of-the-parameters-not-looked-for", "wanted[BLOCK_1_BYTES + 1];", "wanted[BLOCK_1_BYTES];"),
+    ("W2.6-20-before-22",
+     "    if (wanted_size != BLOCK_1_BYTES)\n        return 22;\n    if (image[59] / 2 == 1)\n        return 20;",
+     "    if (image[59] / 2 == 1)\n        return 20;\n    if (wanted_size != BLOCK_1_BYTES)\n        return 22;"),
+    ("W2.6-locked-and-written", "    if (image[59] / 2 == 1)\n        return 20;\n", ""),
+    ("W2.6-bl0-an-obstacle", "    if (image[59] / 2 == 1)\n        return 20;", "    if (image[59] != 0)\n        return 20;"),
+    ("W2.6-bl0-for-bl1", "    if (image[59] / 2 == 1)\n        return 20;", "    if (image[59] % 2 == 1)\n        return 20;"),
+    ("W2.6-both-locks-only", "    if (image[59] / 2 == 1)\n        return 20;", "    if (image[59] == 3)\n        return 20;"),
+    ("W2.7-120-refused", "if (room < PRESET_BYTES)", "if (room <= PRESET_BYTES)"),
+    ("W2.8-room-written-on-a-refusal", "    if (answer != 0) {\n        fprintf(stderr, \"%d: no",
+     "    if (answer != 0) {\n        fwrite(room, 1, sizeof room, stdout);\n        fprintf(stderr, \"%d: no"),
+    ("W2.8-image-written-on-a-refusal", "    if (answer != 0) {\n        fprintf(stderr, \"%d: no",
+     "    if (answer != 0) {\n        fwrite(image, 1, (size_t)image_size, stdout);\n        fprintf(stderr, \"%d: no"),
+    ("W2.9-crossed-refused", "    if (answer != 0) {\n        fprintf(stderr, \"%d: no",
+     "    if (answer == 0 && signed_byte(wanted[28]) < signed_byte(wanted[30]))\n        answer = 10;\n"
+     "    if (answer != 0) {\n        fprintf(stderr, \"%d: no"),
+    ("W2.9-above-40-refused", "    if (answer != 0) {\n        fprintf(stderr, \"%d: no",
+     "    if (answer == 0 && signed_byte(wanted[28]) > 40)\n        answer = 10;\n"
+     "    if (answer != 0) {\n        fprintf(stderr, \"%d: no"),
+    ("W2.9-7fh-cleared", "memcpy(write + 4, wanted, BLOCK_1_BYTES);",
+     "memcpy(write + 4, wanted, BLOCK_1_BYTES);\n    write[35] = 0;"),
 ]
 
 

@@ -2,6 +2,8 @@
  *
  *   second          reads a session from standard input and prints what `trovimbe session` prints
  *   second image    runs the session and writes the image taken out at its end, or the answer and its meaning on standard error
+ *   second preset IMAGE PARAMETERS
+ *                   writes the session that sets block 1, from two files by name, or the answer on standard error
  *   second dump     prints the session's lines and after each the whole state
  *   second figures  holds the rules against the paper's "Figures to hold"
  *
@@ -586,6 +588,49 @@ static void run_session(Gauge *g, const byte *session, int32_t size, int printin
     }
 }
 
+/* ---- Programming at the bench ---- */
+
+enum { PRESET_BYTES = 120, BLOCK_1_BYTES = 32 };
+
+/* W2.4 to W2.7: the first answer that applies, or 0. An image is judged as the first record of a session. */
+static int32_t preset_judged(const byte *image, int32_t image_size, int32_t wanted_size, int32_t room)
+{
+    static const Gauge fresh;
+    int32_t answer = judged(&fresh, 0, 1, image, image_size);
+    if (answer != 0)
+        return answer;
+    if (wanted_size != BLOCK_1_BYTES)
+        return 22;
+    if (image[59] / 2 == 1)
+        return 20;
+    if (room < PRESET_BYTES)
+        return 21;
+    return 0;
+}
+
+/* Hands back where the next record starts. */
+static byte *put_record(byte *at, int32_t kind, const byte *payload, size_t length)
+{
+    at[0] = (byte)(length % 256);
+    at[1] = (byte)(length / 256);
+    at[2] = (byte)(kind % 256);
+    at[3] = (byte)(kind / 256);
+    memcpy(at + 4, payload, length);
+    return at + 4 + length;
+}
+
+/* W2.1 and W2.2: the image as it is, a write of block 1, its copy and its read-back. */
+static void put_preset(byte *at, const byte *image, const byte *wanted)
+{
+    static const byte copy[] = {0x00, 0xCC, 0x48, 0x60}, read_back[] = {0x20, 0xCC, 0x69, 0x60};
+    byte write[4 + BLOCK_1_BYTES] = {0x00, 0xCC, 0x6C, 0x60};
+    memcpy(write + 4, wanted, BLOCK_1_BYTES);
+    at = put_record(at, 1, image, IMAGE_BYTES);
+    at = put_record(at, 4, write, sizeof write);
+    at = put_record(at, 4, copy, sizeof copy);
+    put_record(at, 4, read_back, sizeof read_back);
+}
+
 /* ---- Figures to hold ---- */
 
 static int failures;
@@ -774,12 +819,46 @@ static int image_at_end(int32_t size)
     return 0;
 }
 
+/* How many bytes of a file came, at most `most`; -1 where it cannot be read. */
+static int32_t file_read(const char *name, byte *to, size_t most)
+{
+    FILE *file = fopen(name, "rb");
+    int32_t size = file == NULL ? -1 : (int32_t)fread(to, 1, most, file);
+    if (file == NULL || ferror(file)) {
+        fprintf(stderr, "second: cannot read %s\n", name);
+        size = -1;
+    }
+    if (file != NULL)
+        fclose(file);
+    return size;
+}
+
+static int preset(const char *image_name, const char *wanted_name)
+{
+    static byte image[IMAGE_BYTES + 1], wanted[BLOCK_1_BYTES + 1]; /* one byte more shows a file that is too long */
+    static byte room[PRESET_BYTES];
+    int32_t image_size = file_read(image_name, image, sizeof image);
+    int32_t wanted_size = file_read(wanted_name, wanted, sizeof wanted);
+    if (image_size < 0 || wanted_size < 0)
+        return 1;
+    int32_t answer = preset_judged(image, image_size, wanted_size, sizeof room);
+    if (answer != 0) {
+        fprintf(stderr, "%d: no session is written\n", (int)answer);
+        return 1;
+    }
+    put_preset(room, image, wanted);
+    fwrite(room, 1, sizeof room, stdout);
+    return 0;
+}
+
 int main(int count, char **arguments)
 {
     static byte session[SESSION_LIMIT + 1]; /* one byte more shows a session that is too long */
     const char *mode = count > 1 ? arguments[1] : "session";
     if (strcmp(mode, "figures") == 0)
         return hold_figures();
+    if (strcmp(mode, "preset") == 0)
+        return count == 4 ? preset(arguments[2], arguments[3]) : 2;
     int32_t size = (int32_t)fread(session, 1, sizeof session, stdin);
     if (strcmp(mode, "image") == 0) {
         run_session(&gauge, session, size, PRINT_NOTHING);

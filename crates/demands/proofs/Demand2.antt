@@ -42,7 +42,7 @@ did-power-on σ room loaded = rw (loaded, le-ltb room 0 zero-le) refl
 
 -- The image taken out
 
-taken-image : (p : List ℕ) → length p ≡ imageSize → judgedOf p ≡ Run Image → takenOf 1 false p ≡ Run Image
+pub taken-image : (p : List ℕ) → length p ≡ imageSize → judgedOf p ≡ Run Image → takenOf 1 false p ≡ Run Image
 unfolding takenOf kindOf
 taken-image p e v = rw (eq-eqb (length p) imageSize e, v) refl
 

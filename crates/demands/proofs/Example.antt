@@ -20,6 +20,8 @@ use Rattle.gauge.specs.Act.{ranOf, actOf, replyOf}
 use Rattle.pack.specs.Image.{imageOf}
 use Rattle.events.specs.Image.{imageSize}
 use Rattle.events.specs.Record.{kindOf, addressedOf, judgedOf, takenOf}
+use Rattle.programming.specs.declared.Written.the-variants as Written
+use Rattle.programming.specs.Programming.{programmingOf, answerOf}
 use Rattle.runs.specs.declared.Outcome.the-variants.{Done}
 use Rattle.runs.specs.Record.{Rec, whole, cut, wholeOf, recOf, sizeOf, recsOf, recordOf}
 use Rattle.runs.specs.Run.{Line, linesAfter, endAfter, repliesOf, codesOf}
@@ -32,6 +34,7 @@ use Rattle.demands.specs.Demand2.{Carried, PoweredOn}
 use Rattle.demands.specs.Sections.{last, more}
 use Rattle.demands.specs.Class.{blockOf, touchedOf, labelsOf, touchedClass}
 use Rattle.demands.specs.Demand3.{asksAll, Starts, Demand3Met}
+use Rattle.demands.specs.Programming.{Bench}
 use Rattle.demands.proofs.Moments.{first-length}
 
 -- Any session within the limits has a call, and so has each of its moments
@@ -193,3 +196,26 @@ loads = refl
 pub powers-on : PoweredOn (call ones) (call (ones ++ (power-on ∷ [])))
 unfolding recOf sizeOf wholeOf
 powers-on = record { run = call-within (ones ++ (power-on ∷ [])) (omega arith); room = refl; last = refl }
+
+-- A session that is written at the bench
+
+-- the bytes that are wanted in block 1
+abbrev wanted : List ℕ
+wanted = replicate 31 0x28 ++ (0x5a ∷ [])
+
+abbrev programmed : Call Session
+programmed = called (programmingOf image wanted) (replicate 32 0) (replicate 30 0)
+
+-- THE HYPOTHESIS OF THE THEOREM ON PROGRAMMING CAN BE MET
+pub bench-met : Bench image wanted (replicate 120 0) Written.Done (programmingOf image wanted) programmed
+unfolding answerOf judgedOf addressedOf crc.bitOf crc.eightOf crc.nextOf
+bench-met = record {
+  accepted = refl;
+  unlocked = refl;
+  all = refl;
+  fits = omega arith;
+  wrote = record { number = refl; answer = refl; written = refl };
+  session = refl;
+  run = called-within (programmingOf image wanted) (replicate 32 0) (replicate 30 0) (omega arith) (omega arith) .allowed;
+  lent = omega arith;
+}

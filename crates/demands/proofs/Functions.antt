@@ -9,6 +9,8 @@ use Rattle.steps.specs.Step.{didOf}
 use Rattle.records.specs.Run.{emptyOf, resultOf, TakenOut}
 use Rattle.records.proofs.run
 use Rattle.records.proofs.take_out
+use Rattle.programming.specs.Programming.{Programming}
+use Rattle.programming.proofs.write
 use Rattle.demands.specs.Call.{Call, Allowed}
 use Rattle.demands.specs.Demand1.{Demand1}
 use Rattle.demands.specs.Demand2.{Demand2}
@@ -40,6 +42,12 @@ pub take-out-taken : (κs : Lfts («take_out».ended .signature .lifetimes)) (a 
     (r : Res («take_out».ended .signature) κs) (w : Lasts «take_out».ended κs a)
     → «take_out».Reads.Learnt κs a r (atExit «take_out».ended κs a w) → TakenOut (a .0) (now (a .1 .0)) r (w .1 .0)
 take-out-taken κs a r w h = h
+
+-- and what a caller learns from `programming::write` is what the theorem on programming is stated of
+pub write-wrote : (κs : Lfts (write.ended .signature .lifetimes)) (a : Args (write.ended .signature) κs)
+    (r : Res (write.ended .signature) κs) (w : Lasts write.ended κs a)
+    → write.Reads.Learnt κs a r (atExit write.ended κs a w) → Programming (now (a .0)) (now (a .1 .0)) (now (a .1 .1 .0)) r (w .1 .1 .0)
+write-wrote κs a r w h = h
 
 pub demands : Demand1 didOf emptyOf × Demand2 × Demand3
 demands = (demand-1, demand-2, demand-3)

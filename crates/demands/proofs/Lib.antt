@@ -11,6 +11,7 @@ pub mod Address
 pub mod Room
 pub mod Forms
 pub mod Demand3
+pub mod Programming
 pub mod Functions
 pub mod Cases
 pub mod Example

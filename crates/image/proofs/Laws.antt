@@ -10,7 +10,7 @@ use lib.ListN.{length, drop-of-length-le}
 use Rattle.parts.proofs.Laws.{put-whole}
 use Rattle.streams.specs.declared.Said.{Said}
 use Rattle.streams.specs.declared.Stream.the-variants.{Output}
-use Rattle.streams.specs.Streams.{Saying, error}
+use Rattle.streams.specs.Streams.{Saying, error, refusedText}
 use Rattle.pack.specs.Image.{bytesOf}
 use Rattle.steps.specs.declared.Session.{Session}
 use Rattle.runs.specs.declared.Outcome.{Outcome}
@@ -21,7 +21,7 @@ use Rattle.steps.specs.Step.{didOf}
 use Rattle.records.specs.declared.Ran.{Ran}
 use Rattle.records.specs.Run.{emptyOf, resultOf, TakenOut}
 use Rattle.text.proofs.Printed.{outcome-told}
-use Rattle.image.specs.Image.{refusedText, overWords, lastOf, imageSpeech, takenSpeech}
+use Rattle.image.specs.Image.{overWords, lastOf, imageSpeech, takenSpeech}
 
 -- ---- the outcome of a session, and its end where it was run
 

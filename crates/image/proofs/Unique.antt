@@ -2,13 +2,9 @@
 use denote.Ref.{now}
 use Rattle.once.specs.Once.{Once}
 use Rattle.streams.proofs.Laws.{own, same-said, same-room}
-use Rattle.image.proofs.put_refused
 use Rattle.image.proofs.put_image
 use Rattle.image.proofs.put_taken
 use Rattle.image.proofs.extracted
-
-pub put-refused-once : Once put_refused.ended put_refused.Reads.Pre put_refused.Reads.Learnt
-put-refused-once κs a r r′ w w′ p h h′ = (same-said h h′, λ i. (tt, (tt, (same-room h h′ i, tt))))
 
 pub put-image-once : Once put_image.ended put_image.Reads.Pre put_image.Reads.Learnt
 put-image-once κs a r r′ w w′ p h h′ = (same-said h h′, λ i. (tt, (same-room h h′ i, tt)))

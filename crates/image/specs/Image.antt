@@ -1,11 +1,10 @@
 -- What the program says of a session: the pack image taken out at its end, or why there is none.
 use mathlib.Core.Bool.{Bool}
-use mathlib.Core.List.{List, [], _∷_, _++_}
+use mathlib.Core.List.{List, [], _∷_}
 use Prim.Native.Nat.{ℕ}
 use lib.ListN.{length}
 use Rattle.numbers.specs.Choice.{pick}
-use Rattle.digits.specs.Digits.{decimalText}
-use Rattle.streams.specs.Streams.{Speech, output, error, unreadText}
+use Rattle.streams.specs.Streams.{Speech, output, error, unreadText, refusedText}
 use Rattle.events.specs.declared.Refusal.the-variants.{Order}
 use Rattle.events.specs.Record.{refusalNumber}
 use Rattle.pack.specs.Image.{bytesOf}
@@ -21,10 +20,7 @@ use Rattle.records.specs.Run.{emptyOf}
 abbrev pub imageName : List ℕ
 imageName = 105 ∷ 109 ∷ 97 ∷ 103 ∷ 101 ∷ []
 
--- ---- the refusals: a number, and what it means
-
-abbrev pub refusedText : ℕ → List ℕ → List ℕ
-refusedText number words = decimalText number ++ (58 ∷ 32 ∷ (words ++ (10 ∷ [])))
+-- ---- what the refusals mean
 
 -- the session is over 32,768 bytes
 abbrev pub overWords : List ℕ

@@ -6,27 +6,11 @@ use streams::Said;
 use streams::Stream;
 ghost use mathlib.Core.Path.{_≡_};
 ghost use mathlib.Core.List.{List};
-ghost use Prim.Native.Nat.{ℕ, _+_, _≤_};
+ghost use Prim.Native.Nat.{ℕ};
 ghost use lib.ListN.{length};
 ghost use Rattle.runs.specs.declared.Outcome.the-variants.{Done};
-ghost use Rattle.streams.specs.Streams.{Front, Saying, error};
-ghost use Rattle.image.specs.Image.{refusedText, imageSpeech, takenSpeech, extractedOf};
-
-// A refusal: its number and its meaning.
-fn put_refused(number: u8, words: &[u8], room: &mut [u8]) -> Said
-    requires { ⌜ length (now words) + 8 ≤ length (now room) ⌝ }
-    ensures { λ r. ⌜ Saying (error (refusedText number (now (words .entry)))) (now (room .entry)) r (now (room .exit)) ⌝ }
-{
-    let a = digits::put_decimal(number as usize, room, 0);
-    let b = digits::put_bytes(b": ", room, a);
-    let c = digits::put_bytes(words, room, b);
-    let count = digits::put_byte(b'\n', room, c);
-    let stream = Stream::Error;
-    Said {
-        stream: stream,
-        count: count,
-    }
-}
+ghost use Rattle.streams.specs.Streams.{Front, Saying};
+ghost use Rattle.image.specs.Image.{imageSpeech, takenSpeech, extractedOf};
 
 // The image of a session that was run to its end.
 fn put_image(session: Session, room: &mut [u8]) -> Said
@@ -42,7 +26,7 @@ fn put_image(session: Session, room: &mut [u8]) -> Said
             count: count,
         };
     }
-    put_refused(answer, b"no image was accepted", room)
+    streams::put_refused(answer, b"no image was accepted", room)
 }
 
 fn put_taken(s: &[u8], room: &mut [u8]) -> Said
@@ -56,12 +40,12 @@ fn put_taken(s: &[u8], room: &mut [u8]) -> Said
     let session = ran.session;
     match outcome {
         Outcome::Done => put_image(session, room),
-        Outcome::Over => put_refused(
+        Outcome::Over => streams::put_refused(
             runs::outcome_number(Outcome::Over),
             b"the session is over 32,768 bytes",
             room,
         ),
-        Outcome::Short => put_refused(
+        Outcome::Short => streams::put_refused(
             runs::outcome_number(Outcome::Short),
             b"the room for the answers is too small",
             room,

@@ -4,6 +4,7 @@ use mathlib.Core.List.{List, [], _∷_, _++_}
 use Prim.Native.Nat.{ℕ, _≤_, min}
 use lib.ListN.{length, take}
 use Rattle.parts.specs.Parts.{put}
+use Rattle.digits.specs.Digits.{decimalText}
 use Rattle.streams.specs.declared.Stream.{Stream}
 use Rattle.streams.specs.declared.Stream.the-variants.{Output, Error}
 use Rattle.streams.specs.declared.Said.{Said}
@@ -37,6 +38,10 @@ unreadText name =
     ∷ 114 ∷ 101 ∷ 97 ∷ 100 ∷ 32
     ∷ 115 ∷ 116 ∷ 97 ∷ 110 ∷ 100 ∷ 97 ∷ 114 ∷ 100 ∷ 32
     ∷ 105 ∷ 110 ∷ 112 ∷ 117 ∷ 116 ∷ 10 ∷ [])
+
+-- a refusal: a number, and what it means
+abbrev pub refusedText : ℕ → List ℕ → List ℕ
+refusedText number words = decimalText number ++ (58 ∷ 32 ∷ (words ++ (10 ∷ [])))
 
 -- the text stands at the front of the room, and the code says how many bytes it is, and where it goes
 pub record Saying (what : Speech) (before : List ℕ) (said : Said) (after : List ℕ) : Type 0 where

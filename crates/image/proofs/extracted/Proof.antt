@@ -5,9 +5,9 @@ use lib.ListN.{length}
 use denote.Ref.{now}
 use Rattle.runs.specs.declared.Outcome.the-variants.{Over}
 use Rattle.runs.specs.Run.{outcomeNumber}
-use Rattle.streams.specs.Streams.{error}
+use Rattle.streams.specs.Streams.{error, refusedText}
 use Rattle.streams.proofs.Laws.{cut, seen}
-use Rattle.image.specs.Image.{refusedText, overWords, takenSpeech}
+use Rattle.image.specs.Image.{overWords, takenSpeech}
 use Rattle.image.proofs.Laws.{alike}
 use borrow.Author.Needs.{needs}
 use Rattle.image.proofs.extracted.Statement.{statement}

@@ -1,10 +1,10 @@
--- `image::put_refused` meets its contract, by joining its pieces.
+-- `streams::put_refused` meets its contract, by joining its pieces.
 use mathlib.Core.Path.{refl, _∙_}
 use native.Mathlib.Nat.{zero-add}
 use Rattle.digits.proofs.Laws.{then}
 use borrow.Author.Needs.{needs}
-use Rattle.image.proofs.put_refused.Statement.{statement}
-use Rattle.image.proofs.put_refused.Tie as tie
+use Rattle.streams.proofs.put_refused.Statement.{statement}
+use Rattle.streams.proofs.put_refused.Tie as tie
 
 returns : tie.Need-returns
 returns c =

@@ -1,4 +1,4 @@
--- `streams::read_input` meets its contract. The invariant: the count lies within the room, which keeps its length.
+-- `streams::read_from` meets its contract. The invariant: the count lies within the room, which keeps its length.
 use mathlib.Core.Path.{_≡_, refl, ap, _∙_}
 use mathlib.Core.List.{List, _++_}
 use Prim.Native.Nat.{ℕ, _-_, _≤_}
@@ -7,18 +7,18 @@ use lib.ListN.{length, take, drop, length-drop}
 use Rattle.parts.specs.Parts.{part}
 use Rattle.parts.proofs.Laws.{part-rest, back-length}
 use borrow.Author.Needs.{needs}
-use Rattle.streams.proofs.read_input.Statement.{statement}
-use Rattle.streams.proofs.read_input.Tie as tie
+use Rattle.streams.proofs.read_from.Statement.{statement}
+use Rattle.streams.proofs.read_from.Tie as tie
 
 -- a count within the rest of a list
 rest-size : (l : List ℕ) (i : ℕ) {k : ℕ} → k ≤ length (part (length l - i) l i) → k ≤ length l - i
 rest-size l i h = omega (arith, ap length (part-rest l i) ∙ length-drop i l)
 
 abbrev Inv-loop : tie.InvT-loop
-Inv-loop room₀ count₀ room count = (count ≤ length room) × (length room ≡ length room₀)
+Inv-loop fd room₀ count₀ room count = (count ≤ length room) × (length room ≡ length room₀)
 
 abbrev μ-loop : tie.MeasureT-loop
-μ-loop room₀ count₀ room count = length room₀ - count
+μ-loop fd room₀ count₀ room count = length room₀ - count
 
 loop-holds : tie.Need-loop-holds Inv-loop μ-loop
 loop-holds c = (omega arith, refl)
@@ -44,8 +44,8 @@ loop-again c =
 same-length-2 : tie.Need-same-length-2 Inv-loop μ-loop
 same-length-2 c = c .before .loop .inv .1
 
-pub read-input-spec : {M : Type 1} → statement M
-read-input-spec =
+pub read-from-spec : {M : Type 1} → statement M
+read-from-spec =
     tie.close
     (tie.spec
     Inv-loop

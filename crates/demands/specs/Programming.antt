@@ -1,0 +1,80 @@
+-- PROGRAMMING PACKS AT THE BENCH, request [2] of document 02.
+--
+-- "Run through the gauge it ends with exactly those EEPROM bytes in block 1, and block 0, saved cells and locks unchanged."
+--
+-- Stated of any two calls that their contracts allow: one of `programming::write`, which writes a session, and one of `records::run`, which runs
+-- what was written, with any reply room.
+use mathlib.Core.Path.{_≡_}
+use mathlib.Core.Bool.{false}
+use mathlib.Core.List.{List, [], _∷_}
+use Prim.Native.Nat.{ℕ, _≤_, _<_}
+use lib.ListN.{length, take}
+use Rattle.gauge.specs.declared.Gauge.{Gauge}
+use Rattle.gauge.specs.Gauge.{withMeter}
+use Rattle.stores.specs.Stores.{reblockedOf}
+use Rattle.pack.specs.Image.{imageOf}
+use Rattle.events.specs.declared.Event.the-variants.{Image}
+use Rattle.events.specs.declared.Taken.the-variants.{Run}
+use Rattle.events.specs.Image.{imageAddress, imageLabel, imageAcr, imageAging, imageBl0, imageBl1}
+use Rattle.events.specs.Record.{judgedOf}
+use Rattle.programming.specs.declared.Written.{Written}
+use Rattle.programming.specs.Programming.{programmingSize, writtenNumber, Programming}
+use Rattle.runs.specs.Run.{Line}
+use Rattle.steps.specs.declared.Session.{Session}
+use Rattle.steps.specs.Step.{didOf, loadedWith}
+use Rattle.records.specs.Run.{emptyOf}
+use Rattle.demands.specs.Call.{Call, Allowed, linesIn, Told}
+
+-- an image that a record of it would be accepted with, block 1 not locked in it; 32 wanted bytes; a room of 120 bytes or more, what `write` says
+-- of them and what the room then holds. Its first 120 bytes are the session of c, with answers lent for as many records as they may hold
+pub record Bench (image wanted room : List ℕ) (said : Written) (after : List ℕ) (c : Call Session) : Type 0 where
+  pub accepted : judgedOf image ≡ Run Image
+  pub unlocked : imageBl1 image ≡ false
+  pub all : length wanted ≡ 32
+  pub fits : programmingSize ≤ length room
+  pub wrote : Programming image wanted room said after
+  pub session : c .bytes ≡ take programmingSize after
+  pub run : Allowed didOf emptyOf c
+  pub lent : 30 ≤ length (c .answers)
+
+-- ---- "it ends with exactly those EEPROM bytes in block 1, and block 0, saved cells and locks unchanged"
+
+pub record Set (image wanted : List ℕ) (g : Gauge) : Type 0 where
+  pub eeprom : g .meter .cells .block .eeprom ≡ wanted
+  pub shadow : g .meter .cells .block .shadow ≡ wanted
+  pub label : g .label ≡ record { shadow = imageLabel image; eeprom = imageLabel image }
+  pub saved : g .meter .cells .saved ≡ record { acr = imageAcr image; aging = imageAging image }
+  pub locks : g .meter .cells .locks ≡ record { lock = false; bl1 = imageBl1 image }
+  pub common : g .common ≡ record { address = imageAddress image; bl0 = imageBl0 image }
+  -- and all else is as the image left it
+  pub rest : g ≡ withMeter (imageOf image) (reblockedOf (imageOf image .meter) (g .meter .cells .block))
+
+-- ---- the answers: the image, the write and the copy are done and reply nothing, and so is the read-back, which replies the wanted bytes. With
+-- less reply room than these it is refused with 9
+
+abbrev pub benchLines : ℕ → List ℕ → List Line
+benchLines answer reply =
+    record { kind = 1; answer = 0; reply = [] }
+    ∷ record { kind = 4; answer = 0; reply = [] }
+    ∷ record { kind = 4; answer = 0; reply = [] }
+    ∷ record { kind = 4; answer = answer; reply = reply }
+    ∷ []
+
+-- and these lines are what room and answers hold
+pub record Answers (wanted : List ℕ) (c : Call Session) : Type 0 where
+  pub told : Told didOf emptyOf c
+  pub replied : 32 ≤ length (c .room) → linesIn didOf emptyOf c ≡ benchLines 0 wanted
+  pub short : length (c .room) < 32 → linesIn didOf emptyOf c ≡ benchLines 9 []
+
+-- ---- the theorem
+
+pub record BenchHolds (image wanted : List ℕ) (said : Written) (c : Call Session) : Type 0 where
+  pub done : writtenNumber said ≡ 0
+  pub loaded : c .ran .state ≡ loadedWith (c .ran .state .gauge)
+  pub set : Set image wanted (c .ran .state .gauge)
+  pub answers : Answers wanted c
+
+abbrev pub BenchTheorem : Type 0
+BenchTheorem =
+    (image wanted room : List ℕ) (said : Written) (after : List ℕ) (c : Call Session) → Bench image wanted room said after c
+    → BenchHolds image wanted said c
