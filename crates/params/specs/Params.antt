@@ -9,6 +9,7 @@ use Rattle.numbers.specs.Offset.{offset8Of, joinedOf}
 use Rattle.params.specs.declared.Counting.{Counting}
 use Rattle.params.specs.declared.Limits.{Limits}
 use Rattle.params.specs.declared.Capacity.{Capacity}
+use Rattle.params.specs.declared.Breaks.{Breaks}
 use Rattle.params.specs.declared.Slopes.{Slopes}
 use Rattle.params.specs.declared.Curves.{Curves}
 
@@ -52,6 +53,10 @@ limitsOf block = record {
 abbrev pub capacityOf : List ℕ → Capacity
 capacityOf block = record { rsnsp = byteAt block 0x69; full40 = joinedAt block 0x6a 0x6b }
 
+-- TBP34, TBP23, TBP12
+abbrev pub breaksOf : List ℕ → Breaks
+breaksOf block = record { b34 = signedAt block 0x7c; b23 = signedAt block 0x7d; b12 = signedAt block 0x7e }
+
 -- the slopes of a line, which stand from segment 4 to 1
 abbrev pub slopesOf : List ℕ → ℕ → Slopes
 slopesOf block address = record {
@@ -64,7 +69,7 @@ slopesOf block address = record {
 -- the breakpoints, byte 68h and the slopes of Full, AE and SE
 abbrev pub curvesOf : List ℕ → Curves
 curvesOf block = record {
-  breaks = record { b34 = signedAt block 0x7c; b23 = signedAt block 0x7d; b12 = signedAt block 0x7e };
+  breaks = breaksOf block;
   start = byteAt block 0x68;
   full = slopesOf block 0x6c;
   ae = slopesOf block 0x70;

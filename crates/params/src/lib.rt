@@ -1,7 +1,7 @@
 // The parameters, out of the shadow bytes of block 1.
 ghost use mathlib.Core.Path.{_≡_};
 ghost use Prim.Native.Nat.{_+_, _≤_};
-ghost use Rattle.params.specs.Params.{rnaopOf, countingOf, limitsOf, capacityOf, curvesOf, slopesOf};
+ghost use Rattle.params.specs.Params.{rnaopOf, countingOf, limitsOf, capacityOf, breaksOf, curvesOf, slopesOf};
 
 // NBEN, AB, AC and COB.
 pub struct Counting {
@@ -90,6 +90,18 @@ impl Capacity {
     }
 }
 
+impl Breaks {
+    pub fn of(b: &[u8; 32]) -> Breaks
+        ensures { λ r. ⌜ r ≡ breaksOf (now (b .entry)) ⌝ }
+    {
+        Breaks {
+            b34: numbers::offset8(b[28]),
+            b23: numbers::offset8(b[29]),
+            b12: numbers::offset8(b[30]),
+        }
+    }
+}
+
 impl Slopes {
     fn of(b: &[u8; 32], at: usize) -> Slopes
         requires { ⌜ at ≤ 28 ⌝ }
@@ -108,11 +120,7 @@ impl Curves {
     pub fn of(b: &[u8; 32]) -> Curves
         ensures { λ r. ⌜ r ≡ curvesOf (now (b .entry)) ⌝ }
     {
-        let breaks = Breaks {
-            b34: numbers::offset8(b[28]),
-            b23: numbers::offset8(b[29]),
-            b12: numbers::offset8(b[30]),
-        };
+        let breaks = Breaks::of(b);
         let full = Slopes::of(b, 12);
         let ae = Slopes::of(b, 16);
         let se = Slopes::of(b, 20);
