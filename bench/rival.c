@@ -16,7 +16,7 @@ enum { SESSION_LIMIT = 32768, REPLY_ROOM = 65536, READ_LIMIT = 64, HEADER = 4, L
 enum { TEXT_ROOM = (SESSION_LIMIT / HEADER + 2) * LONGEST_LINE + 2 * REPLY_ROOM };
 
 enum { IMAGE = 1, READING, CONVERSION, TRANSACTION, POWER_ON }; /* kinds */
-enum { DONE, OVERSIZED, CUT, UNKNOWN, MISSIZED, MISPLACED, WRONG_ADDRESS, WRONG_LOCKS, LONG_READ, NO_ROOM }; /* answers */
+enum { DONE, OVERSIZED, CUT, UNKNOWN, MISSIZED, MISPLACED, WRONG_ADDRESS, WRONG_LOCKS, LONG_READ, NO_ROOM, CROSSED }; /* answers */
 
 /* Tables 2 and 3 of 001, and the bits that are used. */
 enum {
@@ -31,7 +31,7 @@ enum { LOCK = 0x40, BL1 = 0x02, BL0 = 0x01 };                              /* of
 enum { NBEN = 0x80, RNAOP = 0x10 };                                        /* of CONTROL */
 
 /* Places in an image. */
-enum { ADDRESS = 0, LABEL_CELLS = 8, PARAMETER_CELLS = 24, SAVED_ACR = 56, SAVED_AS = 58, LOCK_BYTE = 59, IMAGE_BYTES = 60 };
+enum { ADDRESS = 0, LABEL_CELLS = 8, PARAMETER_CELLS = 24, BREAKPOINTS = 52, SAVED_ACR = 56, SAVED_AS = 58, LOCK_BYTE = 59, IMAGE_BYTES = 60 };
 
 enum { NONE_YET = -1, NONE_SINCE = 1024 }; /* for a VOLT, which is 0 to 1,023 */
 
@@ -388,7 +388,10 @@ static int32_t image_answer(const byte *image)
 {
     if (image[ADDRESS] != 0x3D || crc(image + ADDRESS, 7) != image[ADDRESS + 7])
         return WRONG_ADDRESS;
-    return image[LOCK_BYTE] > 3 ? WRONG_LOCKS : DONE;
+    if (image[LOCK_BYTE] > 3)
+        return WRONG_LOCKS;
+    int8_t high = (int8_t)image[BREAKPOINTS], middle = (int8_t)image[BREAKPOINTS + 1], low = (int8_t)image[BREAKPOINTS + 2];
+    return low <= middle && middle <= high && high <= 40 ? DONE : CROSSED;
 }
 
 /* 4 and 5, of all events but an image. */
@@ -478,7 +481,10 @@ static char *run(const byte *at, const byte *end, char *out)
         memcpy(out, " .... . -", 9); /* a reply goes over the dash */
         put_pair(out + 1, kind >> 8);
         put_pair(out + 3, kind & 0xFF);
-        out[6] = (char)('0' + record(&gauge, kind, at + HEADER, length, reply, &line_end, &room));
+        int32_t answer = record(&gauge, kind, at + HEADER, length, reply, &line_end, &room);
+        out[6] = (char)('0' + answer);
+        if (answer == CROSSED)
+            line_end = put_text(out + 6, "10 -");
         *line_end = '\n';
         out = line_end + 1;
         at += HEADER + length;

@@ -45,9 +45,35 @@ static int32_t segment(const Gauge *g, int32_t t);
 static int32_t whole_degrees(int32_t temperature);
 static bool in_block_0(int32_t address);
 static bool in_block_1(int32_t address);
+static int32_t signed_byte(int32_t value);
+static void take_image_out(const Gauge *g, byte *image);
 static bool length_fits(int32_t kind, int32_t length);
+static bool breakpoints_ordered(const byte *image);
+static int32_t judged(const Gauge *g, int32_t room_left, int32_t kind, const byte *payload, int32_t length);
+
+/* Whether a shadow or an EEPROM holds breakpoints that no image may have. */
+static bool crossed(const byte *memory) { return !breakpoints_ordered(memory + TBP34 - 0x34); }
 
 /* ---- Answers and classes ---- */
+
+/* W3.1 to W3.3, of an image of its size. */
+static void saw_image_answer(const byte *image, int32_t answer)
+{
+    int32_t low = signed_byte(image[0x36]), middle = signed_byte(image[0x35]), high = signed_byte(image[0x34]);
+    bool wrong = !breakpoints_ordered(image);
+    SAW(answer == 10, "answer: 10");
+    SAW(answer == 10 && low == middle + 1 && middle <= high && high <= 40, "answer: 10 for a TBP12 one above TBP23 alone");
+    SAW(answer == 10 && low <= middle && middle == high + 1 && high <= 40, "answer: 10 for a TBP23 one above TBP34 alone");
+    SAW(answer == 10 && low <= middle && middle <= high && high == 41, "answer: 10 for a TBP34 of 41 alone");
+    SAW(answer == 0 && low == middle && middle < high, "answer: 0 for equal TBP12 and TBP23");
+    SAW(answer == 0 && low < middle && middle == high, "answer: 0 for equal TBP23 and TBP34");
+    SAW(answer == 0 && low == middle && middle == high, "answer: 0 for three equal breakpoints");
+    SAW(answer == 0 && high == 40, "answer: 0 for a TBP34 of 40");
+    SAW(answer == 0 && low < 0 && high > 0, "answer: 0 for breakpoints on both sides of 0");
+    SAW(answer == 5 && wrong, "answer: 5 where 10 would come next");
+    SAW(answer == 6 && wrong, "answer: 6 where 10 would come next");
+    SAW(answer == 7 && wrong, "answer: 7 where 10 would come next");
+}
 
 static void saw_answer(const Gauge *g, int32_t kind, const byte *payload, int32_t length, int32_t answer)
 {
@@ -84,6 +110,8 @@ static void saw_answer(const Gauge *g, int32_t kind, const byte *payload, int32_
     SAW(answer == 5 && (wrong_family || wrong_crc), "answer: 5 where 6 would come next");
     SAW(answer == 5 && wrong_count, "answer: 5 where 8 would come next");
     SAW(answer == 6 && wrong_lock_byte, "answer: 6 where 7 would come next");
+    if (sized && kind == 1)
+        saw_image_answer(payload, answer);
 }
 
 static void saw_end(int32_t left, int32_t answer)
@@ -151,6 +179,7 @@ static void saw_power_on(const Gauge *was, const Gauge *is)
     SAW(again && was->run > 0, "power-on: a run of conversions is cut");
     SAW(again && was->learnf, "power-on: LEARNF cleared");
     SAW(again && was->lock, "power-on: LOCK cleared");
+    SAW(again && crossed(is->eeprom), "power-on: crossed breakpoints in the EEPROM");
     SAW(again && memcmp(was->shadow + 0x20, is->shadow + 0x20, 16) != 0, "power-on: a label that was not copied is lost");
     SAW(again && memcmp(was->shadow + 0x60, is->shadow + 0x60, 32) != 0, "power-on: parameters that were not copied are lost");
 }
@@ -358,6 +387,7 @@ static void saw_write(const Gauge *was, const Gauge *is, int32_t address, const 
     SAW(count > 0 && step > 0 && was->age_counter >= 2 * step && 32 * wide_parameter(was, AC) > was->age_counter,
         "write: AC lowered far below the counter");
     SAW((parameter(was, CONTROL) & RNAOP) != (parameter(is, CONTROL) & RNAOP), "write: RNAOP changed");
+    SAW(!crossed(was->shadow) && crossed(is->shadow), "write: breakpoints crossed");
 }
 
 static void saw_read(int32_t address, int32_t count)
@@ -377,11 +407,13 @@ static void saw_block_command(const Gauge *was, const Gauge *is, int32_t command
     bool differ_1 = memcmp(was->shadow + 0x60, was->eeprom + 0x60, 32) != 0;
     SAW(command == 0x48 && zero && eeprom, "copy: block 0");
     SAW(command == 0x48 && one && eeprom, "copy: block 1");
+    SAW(command == 0x48 && one && !crossed(was->eeprom) && crossed(is->eeprom), "copy: crossed breakpoints");
     SAW(command == 0x48 && zero && was->bl0 && differ_0, "copy: dropped, block 0 is locked");
     SAW(command == 0x48 && one && was->bl1 && differ_1, "copy: dropped, block 1 is locked");
     SAW(command == 0x48 && !zero && !one && (differ_0 || differ_1), "copy: an address in no block");
     SAW(command == 0xB8 && zero && shadow, "recall: block 0");
     SAW(command == 0xB8 && one && shadow, "recall: block 1");
+    SAW(command == 0xB8 && one && !crossed(was->shadow) && crossed(is->shadow), "recall: crossed breakpoints");
     SAW(command == 0xB8 && zero && shadow && was->bl0, "recall: block 0 is locked");
     SAW(command == 0xB8 && one && shadow && was->bl1, "recall: block 1 is locked");
     SAW(command == 0xB8 && one && was->learnf, "recall: LEARNF stays");
@@ -475,4 +507,17 @@ static void after_record(const Gauge *is, int32_t kind, const byte *payload, int
     case 4: saw_transaction(was, is, payload + 1, length - 1, payload[0]); break;
     default: saw_power_on(was, is); break;
     }
+}
+
+/* W3.8: the image at the end of the session, given to a fresh gauge. */
+static void saw_image_out(const Gauge *g)
+{
+    static const Gauge fresh;
+    byte image[IMAGE_BYTES];
+    take_image_out(g, image);
+    int32_t answer = g->accepted ? judged(&fresh, REPLY_ROOM, 1, image, IMAGE_BYTES) : -1;
+    SAW(answer == 0, "image out: accepted");
+    SAW(answer == 0 && crossed(g->shadow), "image out: accepted, crossed breakpoints were not copied");
+    SAW(answer == 10, "image out: refused with 10");
+    SAW(answer == 10 && !crossed(g->shadow), "image out: refused with 10, though the shadow is in order");
 }

@@ -487,7 +487,14 @@ static bool length_fits(int32_t kind, int32_t length)
     }
 }
 
-/* Answers 3 to 9, the first that applies, or 0. */
+/* W3.1: TBP12 <= TBP23 <= TBP34 <= 40, as signed bytes of the image. */
+static bool breakpoints_ordered(const byte *image)
+{
+    int32_t low = signed_byte(image[0x36]), middle = signed_byte(image[0x35]), high = signed_byte(image[0x34]);
+    return low <= middle && middle <= high && high <= 40;
+}
+
+/* Answers 3 to 10, the first that applies, or 0. */
 static int32_t judged(const Gauge *g, int32_t room_left, int32_t kind, const byte *payload, int32_t length)
 {
     if (kind < 1 || kind > 5)
@@ -500,6 +507,8 @@ static int32_t judged(const Gauge *g, int32_t room_left, int32_t kind, const byt
         return 6;
     if (kind == 1 && payload[59] > 3)
         return 7;
+    if (kind == 1 && !breakpoints_ordered(payload))
+        return 10;
     if (kind == 4 && payload[0] > READ_LIMIT)
         return 8;
     if (kind == 4 && payload[0] > room_left)
@@ -865,6 +874,7 @@ int main(int count, char **arguments)
         return image_at_end(size);
     }
     run_session(&gauge, session, size, strcmp(mode, "dump") == 0 ? PRINT_STATES : PRINT_LINES);
+    WATCH(saw_image_out(&gauge));
     WATCH(tell_reached());
     return 0;
 }

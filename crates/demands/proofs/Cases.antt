@@ -6,10 +6,12 @@ use lib.ListN.{replicate}
 use Rattle.label.specs.Label.{inLabel, inBlock}
 use Rattle.bus.specs.Ask.{romBy, commandOf, askedAt, askedOf, ownOf}
 use Rattle.replies.specs.Reply.{selectedOf}
+use Rattle.events.specs.declared.Refusal.the-variants.{Breaks}
+use Rattle.events.specs.declared.Taken.the-variants.{Refused}
 use Rattle.events.specs.Record.{kindOf, takenOf}
 use Rattle.runs.specs.Record.{Rec, whole, cut}
 use Rattle.demands.specs.Sections.{Class, labelling, gauging, fence}
-use Rattle.demands.specs.Class.{blockOf, touchedOf, labelsOf, touchedClass, classOf}
+use Rattle.demands.specs.Class.{blockOf, touchedOf, labelsOf, touchedClass, takenClass, classOf}
 
 abbrev own : List ℕ
 own = 0x3d ∷ 1 ∷ 2 ∷ 3 ∷ 4 ∷ 5 ∷ 6 ∷ 0xac ∷ []
@@ -73,3 +75,7 @@ cases =
 pub cases-hold : map (λ c. classOf own (c .0)) cases ≡ map (λ c. c .1) cases
 unfolding takenOf kindOf askedOf askedAt romBy commandOf selectedOf ownOf touchedClass labelsOf touchedOf blockOf inLabel inBlock
 cases-hold = refl
+
+-- a record that is refused with 10. Once an image was accepted there is none, since an image is then refused with 5
+pub crossed-fence : (address p : List ℕ) → takenClass address p (Refused Breaks) ≡ fence
+crossed-fence address p = refl

@@ -7,7 +7,7 @@ use native.Mathlib.Omega.{arith}
 use lib.Dec.{ltb}
 use Rattle.numbers.proofs.Bounds.{picked}
 use Rattle.events.specs.declared.Refusal.{Refusal}
-use Rattle.events.specs.declared.Refusal.the-variants.{Kind, Size, Order, Address, Locks, Count, Room}
+use Rattle.events.specs.declared.Refusal.the-variants.{Kind, Size, Order, Address, Locks, Count, Room, Breaks}
 use Rattle.events.specs.declared.Event.{Event}
 use Rattle.events.specs.declared.Event.the-variants.{Image, Change, Transact}
 use Rattle.events.specs.declared.Taken.{Taken}
@@ -29,6 +29,7 @@ refused Address = inr (omega arith, omega arith)
 refused Locks = inr (omega arith, omega arith)
 refused Count = inr (omega arith, omega arith)
 refused Room = inr (omega arith, omega arith)
+refused Breaks = inr (omega arith, omega arith)
 
 record Judged (σ : Session) (d : Did Session) : Type 0 where
   number : Numbered (d .answer)

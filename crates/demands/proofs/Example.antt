@@ -19,7 +19,7 @@ use Rattle.replies.specs.Reply.{readByte, selectedOf, sourceByte}
 use Rattle.gauge.specs.Act.{ranOf, actOf, replyOf}
 use Rattle.pack.specs.Image.{imageOf}
 use Rattle.events.specs.Image.{imageSize}
-use Rattle.events.specs.Record.{kindOf, addressedOf, judgedOf, takenOf}
+use Rattle.events.specs.Record.{kindOf, addressedOf, orderedOf, judgedOf, takenOf}
 use Rattle.programming.specs.declared.Written.the-variants as Written
 use Rattle.programming.specs.Programming.{programmingOf, answerOf}
 use Rattle.runs.specs.declared.Outcome.the-variants.{Done}
@@ -30,12 +30,13 @@ use Rattle.steps.specs.declared.Session.{Session}
 use Rattle.steps.specs.Step.{didOf}
 use Rattle.records.specs.Run.{emptyOf, sessionOf, takeOutNumber, takeOutRoom}
 use Rattle.demands.specs.Call.{Call, Within, firstOf, Stopped}
-use Rattle.demands.specs.Demand2.{Carried, PoweredOn}
+use Rattle.demands.specs.Demand2.{Carried, PoweredOn, eepromBreaks, Crossed, AnswersImage}
 use Rattle.demands.specs.Sections.{last, more}
 use Rattle.demands.specs.Class.{blockOf, touchedOf, labelsOf, touchedClass}
 use Rattle.demands.specs.Demand3.{asksAll, Starts, Demand3Met}
 use Rattle.demands.specs.Programming.{Bench}
 use Rattle.demands.proofs.Moments.{first-length}
+use Rattle.demands.proofs.Demand2.{demand-2}
 
 -- Any session within the limits has a call, and so has each of its moments
 
@@ -157,7 +158,7 @@ call-starts rs short asks holds = record {
 
 -- THE HYPOTHESIS OF DEMAND 3 CAN BE MET
 pub demand-3-met : Demand3Met
-unfolding recOf sizeOf wholeOf takenOf kindOf judgedOf addressedOf crc.bitOf crc.eightOf crc.nextOf
+unfolding recOf sizeOf wholeOf takenOf kindOf judgedOf addressedOf orderedOf crc.bitOf crc.eightOf crc.nextOf
     askedOf askedAt romBy commandOf touchedClass labelsOf touchedOf selectedOf inLabel blockOf
 demand-3-met = record {
   image = image;
@@ -181,7 +182,7 @@ demand-3-met = record {
 -- and their events do something: after the power-on the label that was written and copied is read back, and so is CURRENT
 pub answers : sessionOf (call ones .bytes) 4
     ≡ line 1 0 [] ∷ line 4 0 [] ∷ line 4 0 [] ∷ line 3 0 [] ∷ line 5 0 [] ∷ line 4 0 (0x5a ∷ 0xa5 ∷ []) ∷ line 3 0 [] ∷ line 4 0 (0xfc ∷ 0x18 ∷ []) ∷ []
-unfolding sessionOf recOf sizeOf wholeOf didOf takenOf kindOf judgedOf addressedOf crc.bitOf crc.eightOf crc.nextOf
+unfolding sessionOf recOf sizeOf wholeOf didOf takenOf kindOf judgedOf addressedOf orderedOf crc.bitOf crc.eightOf crc.nextOf
     imageOf poweredOf conversionOf convertOf flowedOf powerOnOf
     askedOf askedAt romBy commandOf selectedOf actOf ranOf writtenOf labelWrittenOf laidOf meterWrittenOf blockWrittenOf copiedOf labelCopiedOf meterCopiedOf blockCopiedOf
     replyOf sourceByte readByte inLabel inBlock labelByte meterByte registersOf
@@ -189,13 +190,31 @@ answers = refl
 
 -- the image that the first of them leaves can be taken out, and a power-on can follow it
 pub loads : call ones .ran .state .loaded ≡ true
-unfolding recOf sizeOf wholeOf didOf takenOf kindOf judgedOf addressedOf crc.bitOf crc.eightOf crc.nextOf
+unfolding recOf sizeOf wholeOf didOf takenOf kindOf judgedOf addressedOf orderedOf crc.bitOf crc.eightOf crc.nextOf
     askedOf askedAt romBy commandOf replyOf
 loads = refl
 
 pub powers-on : PoweredOn (call ones) (call (ones ++ (power-on ∷ [])))
 unfolding recOf sizeOf wholeOf
 powers-on = record { run = call-within (ones ++ (power-on ∷ [])) (omega arith); room = refl; last = refl }
+
+-- that image has its breakpoints in order; one that is taken out after TBP34 was written below TBP23, and copied, has not, and is refused
+abbrev crossing : List Rec
+crossing = whole 4 (0 ∷ 0xcc ∷ 0x6c ∷ 0x7c ∷ 0xff ∷ []) ∷ whole 4 (0 ∷ 0xcc ∷ 0x48 ∷ 0x7c ∷ []) ∷ []
+
+pub in-order : orderedOf (eepromBreaks (call ones)) ≡ true
+unfolding recOf sizeOf wholeOf didOf takenOf kindOf judgedOf addressedOf orderedOf crc.bitOf crc.eightOf crc.nextOf
+    imageOf poweredOf conversionOf convertOf flowedOf powerOnOf
+    askedOf askedAt romBy commandOf selectedOf actOf ranOf writtenOf meterWrittenOf blockWrittenOf laidOf copiedOf meterCopiedOf blockCopiedOf replyOf inLabel inBlock
+in-order = refl
+
+pub crosses : (call crossing .ran .state .loaded ≡ true) × Crossed (call crossing)
+unfolding recOf sizeOf wholeOf didOf takenOf kindOf judgedOf addressedOf orderedOf crc.bitOf crc.eightOf crc.nextOf
+    imageOf poweredOf askedOf askedAt romBy commandOf selectedOf actOf ranOf writtenOf meterWrittenOf blockWrittenOf laidOf copiedOf meterCopiedOf blockCopiedOf replyOf inLabel inBlock
+crosses = (refl, refl)
+
+pub image-declined : (room : List ℕ) (answer : ℕ) (after : List ℕ) (e : Call Session) → Carried (call crossing) room answer after e → AnswersImage e 10
+image-declined room answer after e k = demand-2 .images _ room answer after e k .declined (crosses .1) .refused
 
 -- A session that is written at the bench
 
@@ -208,7 +227,7 @@ programmed = called (programmingOf image wanted) (replicate 32 0) (replicate 30 
 
 -- THE HYPOTHESIS OF THE THEOREM ON PROGRAMMING CAN BE MET
 pub bench-met : Bench image wanted (replicate 120 0) Written.Done (programmingOf image wanted) programmed
-unfolding answerOf judgedOf addressedOf crc.bitOf crc.eightOf crc.nextOf
+unfolding answerOf judgedOf addressedOf orderedOf crc.bitOf crc.eightOf crc.nextOf
 bench-met = record {
   accepted = refl;
   unlocked = refl;

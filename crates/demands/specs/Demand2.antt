@@ -2,14 +2,20 @@
 --
 -- "From an accepted pack image, every reply byte, register, flag and EEPROM byte after each event is what the DS2781 sheet, as condensed in
 -- document 01, works out. The image taken out at any moment, read into a fresh gauge, gives the state that a power-on would have given there."
+--
+-- Document 02, of breakpoints that are crossed: "An image taken out after such a write and a copy may now be refused; demand 2's read-back holds
+-- for the others."
 use mathlib.Core.Path.{_≡_}
-use mathlib.Core.Bool.{true}
+use mathlib.Core.Bool.{true, false}
 use mathlib.Core.List.{List, [], _∷_, _++_}
 use Prim.Native.Nat.{ℕ, _+_, _-_, _≤_}
 use lib.ListN.{length, take}
 use Rattle.parts.specs.Parts.{put}
+use Rattle.params.specs.declared.Breaks.{Breaks}
+use Rattle.params.specs.Params.{breaksOf}
 use Rattle.gauge.specs.Gauge.{powerOnOf}
 use Rattle.events.specs.Image.{imageSize}
+use Rattle.events.specs.Record.{orderedOf}
 use Rattle.runs.specs.Record.{Rec, whole, recsOf}
 use Rattle.runs.specs.Run.{Did, Line, lineOf, endAfter, codesOf}
 use Rattle.steps.specs.declared.Session.{Session}
@@ -62,16 +68,38 @@ pub record PoweredOn (d f : Call Session) : Type 0 where
   pub room : f .room ≡ d .room
   pub last : recsOf (f .bytes) ≡ recsOf (d .bytes) ++ (whole 5 [] ∷ [])
 
+-- the breakpoints in the EEPROM there, and that they are not "TBP12 ≤ TBP23 ≤ TBP34 ≤ 40 as signed bytes"
+abbrev pub eepromBreaks : Call Session → Breaks
+eepromBreaks d = breaksOf (d .ran .state .gauge .meter .cells .block .eeprom)
+
+abbrev pub Crossed : Call Session → Type 0
+Crossed d = orderedOf (eepromBreaks d) ≡ false
+
+-- what the fresh gauge answers to the image
+abbrev pub AnswersImage : Call Session → ℕ → Type 0
+AnswersImage e answer = linesIn didOf emptyOf e ≡ record { kind = 1; answer = answer; reply = [] } ∷ []
+
+-- it is refused, and the fresh gauge is as it was
+pub record Declined (e : Call Session) : Type 0 where
+  pub refused : AnswersImage e 10
+  pub state : e .ran .state ≡ emptyOf
+
 -- it is accepted, and "gives the state that a power-on would have given there"
-pub record Restored (d : Call Session) (answer : ℕ) (e : Call Session) : Type 0 where
-  pub taken : answer ≡ 0
-  pub accepted : linesIn didOf emptyOf e ≡ record { kind = 1; answer = 0; reply = [] } ∷ []
+pub record Restored (d e : Call Session) : Type 0 where
+  pub accepted : AnswersImage e 0
   pub state : e .ran .state ≡ loadedWith (powerOnOf (d .ran .state .gauge))
   pub there : (f : Call Session) → PoweredOn d f → e .ran .state ≡ f .ran .state
+
+-- the answer is 10 exactly where the breakpoints are crossed
+pub record ReadBack (d : Call Session) (answer : ℕ) (e : Call Session) : Type 0 where
+  pub taken : answer ≡ 0
+  pub declined : Crossed d → Declined e
+  pub crossed : AnswersImage e 10 → Crossed d
+  pub restored : (Crossed d → ⊥) → Restored d e
 
 -- ---- the demand
 
 pub record Demand2 : Type 0 where
   pub events : AfterEach didOf emptyOf
   pub images : (d : Call Session) (room : List ℕ) (answer : ℕ) (after : List ℕ) (e : Call Session) → Carried d room answer after e
-      → Restored d answer e
+      → ReadBack d answer e

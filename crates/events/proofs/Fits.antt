@@ -19,8 +19,8 @@ use Rattle.events.specs.declared.Event.{Event}
 use Rattle.events.specs.declared.Event.the-variants.{Image, Change, Transact}
 use Rattle.events.specs.declared.Taken.{Taken}
 use Rattle.events.specs.declared.Taken.the-variants.{Run, Refused}
-use Rattle.events.specs.Image.{imageSize, imageAddress}
-use Rattle.events.specs.Record.{kindOf, sizedOf, addressedOf, lockableOf, judgedOf, transactionOf, takenBy, takenOf, fittedOf, Mastered}
+use Rattle.events.specs.Image.{imageSize, imageAddress, imageBreaks}
+use Rattle.events.specs.Record.{kindOf, sizedOf, addressedOf, lockableOf, orderedOf, judgedOf, transactionOf, takenBy, takenOf, fittedOf, Mastered}
 
 -- ---- an image is taken where none was accepted before, and only one that the judge accepts; any other event after one was
 
@@ -30,20 +30,28 @@ Taking loaded p (Run (Change c)) = loaded ≡ true
 Taking loaded p (Run (Transact t)) = (loaded ≡ true) × Mastered t p
 Taking loaded p (Refused r) = Unit
 
-module _ (loaded : Bool) (p : List ℕ) where
-  verdict : (a b c : Bool) → eqb (length p) imageSize ≡ a → addressedOf (imageAddress p) ≡ b → lockableOf p ≡ c
-      → judgedOf p ≡ pick a (pick b (pick c (Run Image) (Refused refusal.Locks)) (Refused refusal.Address)) (Refused refusal.Size)
-  unfolding judgedOf
-  verdict a b c ea eb ec = rw (ea, eb, ec) refl
+-- the judge accepts an image, or refuses
+abbrev Verdict : Taken → Type 0
+Verdict (Run Image) = Unit
+Verdict (Run (Change c)) = ⊥
+Verdict (Run (Transact t)) = ⊥
+Verdict (Refused r) = Unit
 
-  image-taking : (a b c : Bool) → eqb (length p) imageSize ≡ a → addressedOf (imageAddress p) ≡ b → lockableOf p ≡ c → loaded ≡ false
-      → Taking loaded p (judgedOf p)
-  image-taking true true true ea eb ec l =
-      let e : judgedOf p ≡ Run Image = verdict true true true ea eb ec in
-      rw e (l, e, eqb-true (length p) imageSize ea)
-  image-taking true true false ea eb ec l = rw (verdict true true false ea eb ec) tt
-  image-taking true false c ea eb ec l = rw (verdict true false c ea eb ec) tt
-  image-taking false b c ea eb ec l = rw (verdict false b c ea eb ec) tt
+verdict : (p : List ℕ) → Verdict (judgedOf p)
+unfolding judgedOf
+verdict p =
+    picked Verdict (eqb (length p) imageSize) _ _
+    (λ a. picked Verdict (addressedOf (imageAddress p)) _ _
+    (λ b. picked Verdict (lockableOf p) _ _ (λ c. picked Verdict (orderedOf (imageBreaks p)) _ _ (λ d. tt) (λ d. tt)) (λ c. tt))
+    (λ b. tt))
+    (λ a. tt)
+
+module _ (loaded : Bool) (p : List ℕ) where
+  image-taking : (t : Taken) → Verdict t → judgedOf p ≡ t → loaded ≡ false → length p ≡ imageSize → Taking loaded p t
+  image-taking (Run Image) v e l s = (l, e, s)
+  image-taking (Run (Change c)) v e l s = absurd v
+  image-taking (Run (Transact t)) v e l s = absurd v
+  image-taking (Refused r) v e l s = tt
 
   mastered : 1 ≤ length p → Mastered (askedOf 1 (getD p 0 0) (drop 1 p)) p
   mastered h =
@@ -61,7 +69,7 @@ module _ (loaded : Bool) (p : List ℕ) where
   by-taking kind.Image =
       picked (Taking loaded p) (eqb (length p) imageSize) _ _
       (λ sized. picked (Taking loaded p) (not loaded) _ _
-      (λ due. image-taking (eqb (length p) imageSize) (addressedOf (imageAddress p)) (lockableOf p) refl refl refl (not-true loaded due))
+      (λ due. image-taking (judgedOf p) (verdict p) refl (not-true loaded due) (eqb-true (length p) imageSize sized))
       (λ other. tt))
       (λ other. tt)
   by-taking kind.Reading =
@@ -117,14 +125,13 @@ module _ (room : ℕ) where
   still-fits (Run (Transact t)) h = absurd h
   still-fits (Refused r) h = refl
 
-  module _ (loaded : Bool) (p : List ℕ) where
-    judge-still : Still (judgedOf p)
-    unfolding judgedOf
-    judge-still =
-        picked Still (eqb (length p) imageSize) _ _
-        (λ a. picked Still (addressedOf (imageAddress p)) _ _ (λ b. picked Still (lockableOf p) _ _ (λ c. tt) (λ c. tt)) (λ b. tt))
-        (λ a. tt)
+  verdict-still : (t : Taken) → Verdict t → Still t
+  verdict-still (Run Image) v = tt
+  verdict-still (Run (Change c)) v = tt
+  verdict-still (Run (Transact t)) v = v
+  verdict-still (Refused r) v = tt
 
+  module _ (loaded : Bool) (p : List ℕ) where
     -- what is taken at its size and its time, or refused
     in-time : (sized due : Bool) (t : Taken) → Still t → Still (pick sized (pick due t (Refused refusal.Order)) (Refused refusal.Size))
     in-time true true t h = h
@@ -132,7 +139,7 @@ module _ (room : ℕ) where
     in-time false due t h = tt
 
     pub asks-nothing : (k : Kind) → Silent k → takenBy k loaded p ≡ fittedOf room (takenBy k loaded p)
-    asks-nothing kind.Image h = still-fits _ (in-time (sizedOf kind.Image (length p)) (not loaded) _ judge-still)
+    asks-nothing kind.Image h = still-fits _ (in-time (sizedOf kind.Image (length p)) (not loaded) _ (verdict-still (judgedOf p) (verdict p)))
     asks-nothing kind.Reading h = still-fits _ (in-time (sizedOf kind.Reading (length p)) loaded _ tt)
     asks-nothing kind.Conversion h = still-fits _ (in-time (sizedOf kind.Conversion (length p)) loaded _ tt)
     asks-nothing kind.Transaction h = absurd h

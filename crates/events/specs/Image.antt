@@ -6,6 +6,8 @@ use Prim.Native.Nat.{ℕ, _/_, _%_}
 use lib.Dec.{eqb}
 use lib.ListN.{getD}
 use Rattle.parts.specs.Parts.{part, pairAt}
+use Rattle.params.specs.declared.Breaks.{Breaks}
+use Rattle.params.specs.Params.{breaksOf}
 
 abbrev pub imageSize : ℕ
 imageSize = 60
@@ -36,6 +38,10 @@ imageLabel p = part 16 p labelAt
 
 abbrev pub imageBlock : List ℕ → List ℕ
 imageBlock p = part 32 p blockAt
+
+-- TBP34, TBP23 and TBP12: offsets 34h, 35h and 36h
+abbrev pub imageBreaks : List ℕ → Breaks
+imageBreaks p = breaksOf (imageBlock p)
 
 -- the saved ACR is little-endian
 abbrev pub imageAcr : List ℕ → ℕ

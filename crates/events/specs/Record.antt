@@ -1,14 +1,15 @@
 -- What a record of a kind and a payload asks: a record is either an event or a numbered refusal.
 use mathlib.Core.Path.{_≡_}
-use Prim.Native.Nat.{ℕ, _≤_}
+use Prim.Native.Nat.{ℕ, _+_, _≤_}
 use mathlib.Core.Bool.{Bool, true, false, not}
 use mathlib.Core.List.{List}
 use lib.Dec.{ltb, leb, eqb}
 use lib.ListN.{length, getD, drop}
 use Rattle.numbers.specs.Choice.{pick, both}
-use Rattle.numbers.specs.Offset.{offset32Of}
+use Rattle.numbers.specs.Offset.{zeroAt, offset32Of}
 use Rattle.parts.specs.Parts.{part, quadAt}
 use Rattle.crc.specs.Crc.{crcOf}
+use Rattle.params.specs.declared.Breaks.{Breaks}
 use Rattle.bus.specs.declared.Transaction.{Transaction}
 use Rattle.bus.specs.Ask.{askedOf}
 use Rattle.events.specs.declared.Kind.{Kind}
@@ -20,7 +21,7 @@ use Rattle.events.specs.declared.Event.{Event}
 use Rattle.events.specs.declared.Event.the-variants.{Image, Change, Transact}
 use Rattle.events.specs.declared.Taken.{Taken}
 use Rattle.events.specs.declared.Taken.the-variants.{Run, Refused}
-use Rattle.events.specs.Image.{imageSize, imageAddress, imageLocks}
+use Rattle.events.specs.Image.{imageSize, imageAddress, imageBreaks, imageLocks}
 
 -- ---- the answer numbers
 
@@ -32,6 +33,7 @@ refusalNumber refusal.Address = 6
 refusalNumber refusal.Locks = 7
 refusalNumber refusal.Count = 8
 refusalNumber refusal.Room = 9
+refusalNumber refusal.Breaks = 10
 
 abbrev pub numberOf : Taken → ℕ
 numberOf (Run e) = 0
@@ -84,11 +86,19 @@ addressedOf address = both (eqb (getD address 0 0) 0x3d) (eqb (getD address 7 0)
 abbrev pub lockableOf : List ℕ → Bool
 lockableOf p = leb (imageLocks p) 3
 
--- 4, 6, 7: the first refusal that applies, in the order of checking
+-- "TBP12 ≤ TBP23 ≤ TBP34 ≤ 40 as signed bytes"
+unfoldable pub orderedOf : Breaks → Bool
+orderedOf b = both (leb (b .b12) (b .b23)) (both (leb (b .b23) (b .b34)) (leb (b .b34) (zeroAt 7 + 40)))
+
+-- 4, 6, 7, 10: the first refusal that applies, in the order of checking
 unfoldable pub judgedOf : List ℕ → Taken
 judgedOf p =
     pick (eqb (length p) imageSize)
-    (pick (addressedOf (imageAddress p)) (pick (lockableOf p) (Run Image) (Refused refusal.Locks)) (Refused refusal.Address))
+    (pick (addressedOf (imageAddress p))
+    (pick (lockableOf p)
+    (pick (orderedOf (imageBreaks p)) (Run Image) (Refused refusal.Breaks))
+    (Refused refusal.Locks))
+    (Refused refusal.Address))
     (Refused refusal.Size)
 
 -- ---- what a payload says
@@ -124,7 +134,7 @@ takenBy k loaded p =
     (Refused refusal.Size))
     (Refused refusal.Kind)
 
--- 3 to 8, by the record and whether an image was accepted
+-- 3 to 8 and 10, by the record and whether an image was accepted
 unfoldable pub takenOf : ℕ → Bool → List ℕ → Taken
 takenOf n loaded p = takenBy (kindOf n) loaded p
 

@@ -1,8 +1,9 @@
 // What a record asks: the event of a kind and a payload, or the first refusal that applies, and its number.
 use bus::Transaction;
+use params::Breaks;
 ghost use mathlib.Core.Path.{_≡_};
 ghost use lib.ListN.{length};
-ghost use Rattle.events.specs.Record.{numberOf, kindOf, addressedOf, judgedOf, takenBy, takenOf, fittedOf};
+ghost use Rattle.events.specs.Record.{numberOf, kindOf, addressedOf, orderedOf, judgedOf, takenBy, takenOf, fittedOf};
 
 // The pack image: its size, and where its parts stand.
 pub const IMAGE_SIZE: usize = 60;
@@ -38,6 +39,7 @@ pub enum Refusal {
     Locks,
     Count,
     Room,
+    Breaks,
 }
 
 // What changes a gauge and asks for no reply. Readings and conversions hold signed counts, as z + 2^31.
@@ -74,6 +76,7 @@ pub fn number(t: Taken) -> u8
             Refusal::Locks => 7,
             Refusal::Count => 8,
             Refusal::Room => 9,
+            Refusal::Breaks => 10,
         },
     }
 }
@@ -100,6 +103,14 @@ fn addressed(address: &[u8]) -> bool
     numbers::and(address[0] == 0x3d, address[7] == c)
 }
 
+// The breakpoints follow one another, and none is above 40 °C.
+fn ordered(b: Breaks) -> bool
+    ensures { λ r. ⌜ r ≡ orderedOf b ⌝ }
+{
+    let upper = numbers::and(b.b23 <= b.b34, b.b34 <= numbers::ZERO7 + 40);
+    numbers::and(b.b12 <= b.b23, upper)
+}
+
 // An image, judged by itself: whether it comes in its time is not asked here.
 pub fn judged(p: &[u8]) -> Taken
     ensures { λ r. ⌜ r ≡ judgedOf (now (p .entry)) ⌝ }
@@ -110,7 +121,11 @@ pub fn judged(p: &[u8]) -> Taken
         if addressed(&p[ADDRESS_AT..LABEL_AT]) {
             taken = Taken::Refused(Refusal::Locks);
             if p[LOCKS_AT] <= 3 {
-                taken = Taken::Run(Event::Image);
+                taken = Taken::Refused(Refusal::Breaks);
+                let block = parts::thirty_two(p, BLOCK_AT);
+                if ordered(Breaks::of(&block)) {
+                    taken = Taken::Run(Event::Image);
+                }
             }
         }
     }

@@ -1,4 +1,4 @@
--- The image, taken out and read in again: a power-on, and accepted.
+-- The image, taken out and read in again: a power-on, and accepted where its breakpoints are ordered.
 use mathlib.Core.Path.{_≡_, refl, sym, ap, _∙_}
 use mathlib.Core.Bool.{Bool, true, false}
 use mathlib.Core.List.{List, _++_}
@@ -8,14 +8,17 @@ use lib.Dec.{leb, eqb}
 use lib.ListN.{length, getD, drop, length-append}
 use lib.Seq.{take-at, drop-at, drop-drop, getD-drop}
 use borrow.Author.Tests.{eq-eqb}
+use Rattle.numbers.specs.Choice.{pick}
 use Rattle.parts.specs.Parts.{part, put, pairAt}
 use Rattle.parts.proofs.Laws.{put-next, put-front}
+use Rattle.params.specs.Params.{breaksOf}
 use Rattle.meter.specs.State.{poweredOf}
 use Rattle.gauge.specs.declared.Gauge.{Gauge}
 use Rattle.events.specs.declared.Event.the-variants.{Image}
-use Rattle.events.specs.declared.Taken.the-variants.{Run}
+use Rattle.events.specs.declared.Refusal.the-variants.{Breaks}
+use Rattle.events.specs.declared.Taken.the-variants.{Run, Refused}
 use Rattle.events.specs.Image.{imageSize, imageAddress, imageLabel, imageBlock, acrAt}
-use Rattle.events.specs.Record.{addressedOf, judgedOf}
+use Rattle.events.specs.Record.{addressedOf, orderedOf, judgedOf}
 use Rattle.gauge.specs.Gauge.{Sized, powerOnOf}
 use Rattle.pack.specs.Image.{imageOf, lockByte, tailOf, bytesOf}
 
@@ -95,12 +98,13 @@ round-trip g z =
     let acr : pairAt (bytesOf g) 56 ≡ g .meter .cells .saved .acr = omega (arith, p .byte 0, p .byte 1) in
     rw (p .address, p .label, p .block, acr, p .byte 2, p .byte 3, l .0, l .1) refl
 
--- and accepted, where the address is one
-pub image-accepted : (g : Gauge) → Sized g → addressedOf (g .common .address) ≡ true → judgedOf (bytesOf g) ≡ Run Image
+-- and judged by the breakpoints in the EEPROM, where the address is one
+pub image-judged : (g : Gauge) → Sized g → addressedOf (g .common .address) ≡ true
+    → judgedOf (bytesOf g) ≡ pick (orderedOf (breaksOf (g .meter .cells .block .eeprom))) (Run Image) (Refused Breaks)
 unfolding judgedOf
-image-accepted g z h =
+image-judged g z h =
     let p = image-holds g z in
-    rw (eq-eqb (length (bytesOf g)) imageSize (p .size), p .address, h, p .byte 3, bits (g .meter .cells .locks .bl1) (g .common .bl0) .2) refl
+    rw (eq-eqb (length (bytesOf g)) imageSize (p .size), p .address, h, p .block, p .byte 3, bits (g .meter .cells .locks .bl1) (g .common .bl0) .2) refl
 
 pub image-length : (g : Gauge) → Sized g → length (bytesOf g) ≡ imageSize
 image-length g z = image-holds g z .size

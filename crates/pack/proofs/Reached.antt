@@ -1,5 +1,5 @@
 -- The gauges that events reach from an accepted image: what is kept holds of them all, and so their image, taken out and read in again, is
--- accepted and is a power-on.
+-- refused for nothing but crossed breakpoints, and is a power-on.
 use mathlib.Core.Path.{_≡_, refl}
 use mathlib.Core.Bool.{Bool, true, false}
 use mathlib.Core.List.{List}
@@ -11,33 +11,35 @@ use borrow.Author.Tests.{eqb-true}
 use Rattle.numbers.specs.Choice.{pick}
 use Rattle.parts.specs.Parts.{part}
 use Rattle.parts.proofs.Laws.{part-length}
+use Rattle.params.specs.Params.{breaksOf}
 use Rattle.meter.specs.State.{poweredOf}
 use Rattle.gauge.specs.declared.Gauge.{Gauge}
 use Rattle.gauge.specs.Gauge.{Sized, powerOnOf}
 use Rattle.gauge.specs.Kept.{Kept}
 use Rattle.gauge.proofs.Kept.{address-kept, sized-kept}
-use Rattle.events.specs.declared.Refusal.the-variants.{Size, Address, Locks}
+use Rattle.events.specs.declared.Refusal.{Refusal}
+use Rattle.events.specs.declared.Refusal.the-variants.{Breaks}
 use Rattle.events.specs.declared.Event.the-variants.{Image}
+use Rattle.events.specs.declared.Taken.{Taken}
 use Rattle.events.specs.declared.Taken.the-variants.{Run, Refused}
 use Rattle.events.specs.Image.{imageSize, imageAddress}
-use Rattle.events.specs.Record.{addressedOf, lockableOf, judgedOf}
+use Rattle.events.specs.Record.{addressedOf, orderedOf, judgedOf}
 use Rattle.pack.specs.Image.{imageOf, bytesOf}
 use Rattle.pack.specs.Reach.{Reached}
 use Rattle.pack.specs.Reach.Reached.{accepted, changed, acted-on}
-use Rattle.pack.proofs.Image.{round-trip, image-accepted}
+use Rattle.pack.proofs.Image.{round-trip, image-judged}
 
 -- ---- an image that is accepted
 
--- the first two of its tests
-tests : (x y z : Bool) → pick x (pick y (pick z (Run Image) (Refused Locks)) (Refused Address)) (Refused Size) ≡ Run Image → (x ≡ true) × (y ≡ true)
-tests true true z e = (refl, refl)
-tests true false z e = (refl, cc)
-tests false y z e = (cc, cc)
+-- it has passed each test
+pass : (x : Bool) (t : Taken) (r : Refusal) → pick x t (Refused r) ≡ Run Image → (x ≡ true) × (t ≡ Run Image)
+pass true t r e = (refl, e)
+pass false t r e = (cc, cc)
 
 module _ (p : List ℕ) (e : judgedOf p ≡ Run Image) where
   passed : (eqb (length p) imageSize ≡ true) × (addressedOf (imageAddress p) ≡ true)
   unfolding judgedOf
-  passed = tests (eqb (length p) imageSize) (addressedOf (imageAddress p)) (lockableOf p) e
+  passed = let size = pass (eqb (length p) imageSize) _ _ e in (size .0, pass (addressedOf (imageAddress p)) _ _ (size .1) .0)
 
   pub accepted-length : length p ≡ imageSize
   accepted-length = eqb-true (length p) imageSize (passed .0)
@@ -72,9 +74,9 @@ module _ (g : Gauge) (r : Reached g) where
   pub reached-address : addressedOf (g .common .address) ≡ true
   reached-address = reached-keeps _ (address-kept (λ a. addressedOf a ≡ true)) accepted-address g r
 
-  -- the image that is taken out is accepted, and is a power-on
-  pub out-accepted : judgedOf (bytesOf g) ≡ Run Image
-  out-accepted = image-accepted g reached-sized reached-address
+  -- the image that is taken out is refused with 10 or accepted, by the breakpoints in the EEPROM, and is a power-on
+  pub out-judged : judgedOf (bytesOf g) ≡ pick (orderedOf (breaksOf (g .meter .cells .block .eeprom))) (Run Image) (Refused Breaks)
+  out-judged = image-judged g reached-sized reached-address
 
   pub out-in : imageOf (bytesOf g) ≡ powerOnOf g
   out-in = round-trip g reached-sized

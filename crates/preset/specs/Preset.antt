@@ -54,6 +54,21 @@ locksWords =
     ∷ 97 ∷ 98 ∷ 111 ∷ 118 ∷ 101 ∷ 32
     ∷ 51 ∷ []
 
+-- the breakpoints of the image are crossed or above 40 degrees
+abbrev pub breaksWords : List ℕ
+breaksWords =
+    116 ∷ 104 ∷ 101 ∷ 32
+    ∷ 98 ∷ 114 ∷ 101 ∷ 97 ∷ 107 ∷ 112 ∷ 111 ∷ 105 ∷ 110 ∷ 116 ∷ 115 ∷ 32
+    ∷ 111 ∷ 102 ∷ 32
+    ∷ 116 ∷ 104 ∷ 101 ∷ 32
+    ∷ 105 ∷ 109 ∷ 97 ∷ 103 ∷ 101 ∷ 32
+    ∷ 97 ∷ 114 ∷ 101 ∷ 32
+    ∷ 99 ∷ 114 ∷ 111 ∷ 115 ∷ 115 ∷ 101 ∷ 100 ∷ 32
+    ∷ 111 ∷ 114 ∷ 32
+    ∷ 97 ∷ 98 ∷ 111 ∷ 118 ∷ 101 ∷ 32
+    ∷ 52 ∷ 48 ∷ 32
+    ∷ 100 ∷ 101 ∷ 103 ∷ 114 ∷ 101 ∷ 101 ∷ 115 ∷ []
+
 -- the image is refused
 abbrev pub otherWords : List ℕ
 otherWords =
@@ -92,11 +107,12 @@ roomWords =
     ∷ 116 ∷ 111 ∷ 111 ∷ 32
     ∷ 115 ∷ 109 ∷ 97 ∷ 108 ∷ 108 ∷ []
 
--- of an image. The judge refuses it for its size, its address or its lock byte alone
+-- of an image. The judge refuses it for its size, its address, its lock byte or its breakpoints alone
 abbrev pub imageWords : Refusal → List ℕ
 imageWords refusal.Size = sizeWords
 imageWords refusal.Address = addressWords
 imageWords refusal.Locks = locksWords
+imageWords refusal.Breaks = breaksWords
 imageWords refusal.Kind = otherWords
 imageWords refusal.Order = otherWords
 imageWords refusal.Count = otherWords

@@ -31,6 +31,11 @@ fn put_judged(number: u8, r: Refusal, room: &mut [u8]) -> Said
             b"the lock byte of the image is above 3",
             room,
         ),
+        Refusal::Breaks => streams::put_refused(
+            number,
+            b"the breakpoints of the image are crossed or above 40 degrees",
+            room,
+        ),
         Refusal::Kind => streams::put_refused(number, b"the image is refused", room),
         Refusal::Order => streams::put_refused(number, b"the image is refused", room),
         Refusal::Count => streams::put_refused(number, b"the image is refused", room),

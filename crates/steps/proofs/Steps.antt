@@ -14,7 +14,7 @@ use Rattle.replies.proofs.Listed.{listed-length}
 use Rattle.gauge.specs.declared.Gauge.{Gauge}
 use Rattle.gauge.specs.Act.{replyOf}
 use Rattle.events.specs.declared.Refusal.{Refusal}
-use Rattle.events.specs.declared.Refusal.the-variants.{Kind, Size, Order, Address, Locks, Count, Room}
+use Rattle.events.specs.declared.Refusal.the-variants.{Kind, Size, Order, Address, Locks, Count, Room, Breaks}
 use Rattle.events.specs.declared.Event.{Event}
 use Rattle.events.specs.declared.Event.the-variants.{Image, Change, Transact}
 use Rattle.events.specs.declared.Taken.{Taken}
@@ -65,6 +65,7 @@ refusal-small Address = omega arith
 refusal-small Locks = omega arith
 refusal-small Count = omega arith
 refusal-small Room = omega arith
+refusal-small Breaks = omega arith
 
 record Small (room : ℕ) (d : Did Session) : Type 0 where
   answer : d .answer < 256

@@ -1,7 +1,7 @@
 """AS that falls, and AC changed on the way."""
 from builder import AB, AC, VAE, Session, profile, some
 from scenes.charge import charge
-from scenes.pack import battery, temperature, voltage_above
+from scenes.pack import battery, insert, temperature, voltage_above
 
 
 @profile()
@@ -11,7 +11,7 @@ def ageing(chance):
     battery(session)
     session.set_parameter(AC, chance.randint(1, 4), 2)
     session.set_parameter(AB, chance.choice([0, 0, 5, 251]))
-    session.image(saved_acr=chance.randint(200, 3000), saved_as=chance.choice([128, 100, 66, 64, 63]))
+    insert(session, saved_acr=chance.randint(200, 3000), saved_as=chance.choice([128, 100, 66, 64, 63]))
     while session.room_for(2500):
         for _ in range(chance.randint(5, 60)):
             session.current(some(chance, -32768, -4096, lambda: chance.randint(-32768, -1000)))

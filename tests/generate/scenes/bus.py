@@ -1,6 +1,6 @@
 """Transactions: first bytes, commands, addresses, blocks and locks."""
-from builder import CONTROL, COPY, EDGES, LOCK, READ, RECALL, SESSION_LIMIT, WRITE, Session, profile, some
-from scenes.pack import start, temperature
+from builder import CONTROL, COPY, EDGES, LOCK, READ, RECALL, SESSION_LIMIT, TBP34, WRITE, Session, profile, scene, some
+from scenes.pack import breakpoints, in_order, start, temperature
 
 
 def any_address(chance):
@@ -72,6 +72,20 @@ def block_dance(session):
         session.read(first, 32)
 
 
+@scene(walk=1)
+def breakpoint_dance(session):
+    """Breakpoints in order and crossed, written, copied and recalled, and the curve read over them."""
+    chance = session.chance
+    for _ in range(chance.randint(2, 6)):
+        some(chance,
+             lambda: session.write(TBP34, breakpoints(chance)),
+             lambda: session.write(TBP34, in_order(breakpoints(chance))),
+             lambda: session.command(COPY, TBP34),
+             lambda: session.command(RECALL, TBP34))
+        session.reading(1023, temperature(chance))
+        session.registers()
+
+
 def net_address_dance(session):
     """33h and 39h with both RNAOP."""
     chance = session.chance
@@ -131,7 +145,7 @@ def bus(chance):
         elif kind < 0.65:
             some(chance, lambda: status_dance(session), lambda: past_the_end(session))
         elif kind < 0.75:
-            block_dance(session)
+            some(chance, lambda: block_dance(session), lambda: breakpoint_dance(session))
         elif kind < 0.8:
             net_address_dance(session)
         elif kind < 0.9:

@@ -1,6 +1,6 @@
 """Both ends of every number."""
 from builder import Session, profile, some
-from scenes.pack import battery
+from scenes.pack import battery, insert
 
 
 @profile()
@@ -11,8 +11,8 @@ def extremes(chance):
     ends = [0x00, 0xFF, 0x80, 0x7F]
     session.block_1[:] = some(chance, lambda: bytes([chance.choice(ends)]) * 32,
                               lambda: bytes(chance.choice(ends) for _ in range(32)), session.block_1)
-    session.image(saved_acr=chance.choice([0, 1, 0x7FFF, 0x8000, 0xFFFF, 0x00FF, 0xFF00]),
-                  saved_as=chance.choice([0, 63, 64, 127, 128, 255]))
+    insert(session, saved_acr=chance.choice([0, 1, 0x7FFF, 0x8000, 0xFFFF, 0x00FF, 0xFF00]),
+           saved_as=chance.choice([0, 63, 64, 127, 128, 255]))
     counts = [-2 ** 31, 2 ** 31 - 1, -2 ** 31 + 128, 2 ** 31 - 129, -32768, 32767, -32769, 32768, -32640, 32895, -32896, -1, 0,
               1, 128, -128, 64, 63, -16]
     voltages = counts + [-1, 0, 1, 1020, 1022, 1023, 1024] * 3

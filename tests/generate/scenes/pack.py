@@ -1,6 +1,6 @@
 """The pack under test: its parameters and image, and readings that fit them."""
 from builder import (
-    AB, AC, COB, CONTROL, EMPTY_40, FULL_40, FULL_SLOPES, IAE, IMIN, RSNSP, SE_SLOPES, TBP34, VAE, VCHG, some)
+    AB, AC, COB, CONTROL, COPY, EMPTY_40, FULL_40, FULL_SLOPES, IAE, IMIN, RSNSP, SE_SLOPES, TBP34, VAE, VCHG, signed, some)
 
 
 def temperature(chance):
@@ -11,10 +11,17 @@ def temperature(chance):
 
 
 def breakpoints(chance):
+    """TBP34, TBP23 and TBP12: in order, at an edge of that, or crossed."""
     points = [chance.randint(-40, 40) for _ in range(3)]
     ordered = sorted(points, reverse=True)
     wild = [chance.randint(-128, 127) for _ in range(3)]
-    return [value % 256 for value in chance.choice([ordered, ordered, points, wild, [18, 0, -12], points[:1] * 3])]
+    return [value % 256 for value in chance.choice([ordered, ordered, points, wild, [18, 0, -12], points[:1] * 3, [40] + ordered[1:],
+                                                            ordered[:1] + 2 * ordered[2:]])]
+
+
+def in_order(points):
+    """Breakpoints that an image may have: capped at 40, and none above the one before."""
+    return bytes(value % 256 for value in sorted((min(40, signed(value)) for value in points), reverse=True))
 
 
 def battery(session):
@@ -43,13 +50,29 @@ def battery(session):
     block[TBP34 - 0x60:TBP34 - 0x60 + 3] = bytes(breakpoints(chance))
 
 
+def insert(session, saved_acr, saved_as, locks=0):
+    """An image that is accepted. Breakpoints that it cannot have come over the bus, where block 1 can be written."""
+    at = slice(TBP34 - 0x60, TBP34 - 0x60 + 3)
+    wanted = bytes(session.block_1[at])
+    session.block_1[at] = in_order(wanted)
+    session.image(saved_acr, saved_as, locks)
+    if session.block_1[at] != wanted and locks < 2:
+        session.block_1[at] = wanted
+        session.write(TBP34, wanted)
+        if session.chance.random() < 0.5:
+            session.command(COPY, TBP34)
+            if session.chance.random() < 0.3:
+                session.block_1[at] = in_order(wanted)
+                session.write(TBP34, session.block_1[at])
+
+
 def start(session, locks=None):
-    """An image that is accepted."""
+    """An image that is accepted, with any saved cells."""
     chance = session.chance
     full_40 = session.parameter(FULL_40, 2)
-    session.image(saved_acr=some(chance, 0, 5000, full_40 * 9 // 10, lambda: chance.randrange(65536)),
-                  saved_as=some(chance, 128, 122, 100, 64, 63, 62, 0, 129, 255, lambda: chance.randrange(256)),
-                  locks=chance.choice([0, 0, 0, 1, 2, 3]) if locks is None else locks)
+    insert(session, saved_acr=some(chance, 0, 5000, full_40 * 9 // 10, lambda: chance.randrange(65536)),
+           saved_as=some(chance, 128, 122, 100, 64, 63, 62, 0, 129, 255, lambda: chance.randrange(256)),
+           locks=chance.choice([0, 0, 0, 1, 2, 3]) if locks is None else locks)
 
 
 def voltage_above(session, parameter):

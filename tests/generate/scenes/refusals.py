@@ -5,6 +5,16 @@ from scenes.bus import any_event, any_transaction
 from scenes.pack import battery, start
 
 
+def crossed(chance):
+    """TBP34, TBP23 and TBP12 that no image may have, often for one reason alone."""
+    base = chance.choice([-128, -1, 0, 39, chance.randint(-128, 39)])
+    more = base + chance.choice([1, 1, chance.randint(1, 40 - base)])
+    high = chance.choice([41, 41, 42, 127])
+    return bytes(value % 256 for value in chance.choice([
+        [base, more, base], [more, base, more], [base, more, more], [base, base, more], [more, base, 40],
+        [high, base, base], [high, more, base], [high, high, high]]))
+
+
 def wrong_image(session):
     """An image that is refused, also where none was accepted before."""
     chance = session.chance
@@ -14,12 +24,14 @@ def wrong_image(session):
     family = bytes([chance.choice([0x00, 0x32, 0x3C, 0x3E])]) + session.address[1:7]
     other_family = family + bytes([crc(family)]) + good[8:]
     lock = bytes([chance.choice([4, 4, 5, 8, 255])])
+    cross = crossed(chance) + good[55:59]
     session.add(IMAGE, some(chance, flipped, other_family, good[:59] + lock, bytes(flipped[:59]) + lock, good[:59],
-                            good + b"\x00"))
+                            good + b"\x00", good[:52] + cross + good[59:], good[:52] + cross + good[59:],
+                            good[:52] + cross + lock, bytes(flipped[:52]) + cross + good[59:]))
 
 
 def wrong_record(session):
-    """A record that some number from 3 to 9 refuses, often for two reasons at once."""
+    """A record that some number from 3 to 10 refuses, often for two reasons at once."""
     chance = session.chance
     some(chance,
          lambda: session.add(unknown(chance), chance.randbytes(chance.choice([0, 1, 4, 8, 60, 70]))),
