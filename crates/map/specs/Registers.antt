@@ -12,6 +12,7 @@ use Rattle.meter.specs.declared.Meter.{Meter}
 use Rattle.charge.specs.Charge.{acrOf, fractionOf}
 use Rattle.label.specs.declared.Common.{Common}
 use Rattle.label.specs.Label.{inBlock}
+use Rattle.map.specs.declared.Pair.{Pair}
 
 -- the two bytes of a register
 abbrev pub upperOf : ℕ → ℕ
@@ -51,10 +52,6 @@ tempRegister m = tempWordOf (m .shown .reading .temp)
 abbrev pub acrlRegister : Meter → ℕ
 acrlRegister m = fractionOf (m .charge .count) * 16
 
--- the bytes from 00h on with a two-byte register put in at an address
-abbrev pub putOf : List ℕ → ℕ → ℕ → List ℕ
-putOf bytes at x = set (set bytes at (upperOf x)) (at + 1) (lowerOf x)
-
 -- 00h to 1Fh, a line a register
 unfoldable pub registersOf : Common → Meter → List ℕ
 registersOf k m =
@@ -78,6 +75,21 @@ registersOf k m =
     ∷ 0xff ∷ 0xff ∷ 0xff
     ∷ eepromOf k (m .cells .locks)
     ∷ []
+
+-- the two bytes of a register, and those of two registers of one byte
+abbrev pub pairOf : ℕ → Pair
+pairOf x = record { high = upperOf x; low = lowerOf x }
+
+abbrev pub twoOf : ℕ → ℕ → Pair
+twoOf high low = record { high = high; low = low }
+
+-- what stands at an address and behind it
+abbrev pub registerOf : Common → Meter → ℕ → Pair
+registerOf k m at = twoOf (getD (registersOf k m) at 0) (getD (registersOf k m) (at + 1) 0)
+
+-- the bytes from 00h on with such a pair put in at an address
+abbrev pub putOf : List ℕ → ℕ → Pair → List ℕ
+putOf bytes at p = set (set bytes at (p .high)) (at + 1) (p .low)
 
 -- the byte at an address, by the common part and the meter: a register below 20h, a byte of block 1's shadow at 60h..7Fh, and FFh at any other,
 -- past FFh too. The label's bytes at 20h..2Fh are not here: `readByte` of `replies` takes them first

@@ -3,14 +3,14 @@ use mathlib.Core.Path.{_≡_, refl, sym, ap, _∙_}
 use mathlib.Core.Bool.{Bool, true, false}
 use mathlib.Core.Logic.{inl, inr}
 use mathlib.Core.List.{List}
-use Prim.Native.Nat.{ℕ, zero, suc, _+_, _-_, _≤_, _<_}
+use Prim.Native.Nat.{ℕ, zero, suc, _+_, _-_, _%_, _≤_, _<_}
 use native.Mathlib.Nat.{sub-zero}
 use native.Mathlib.Numerals.{add-one}
 use native.Mathlib.Omega.{arith}
-use lib.Dec.{leb, ltb}
+use lib.Dec.{leb, ltb, eqb}
 use lib.ListN.{length, getD, set, length-set}
 use lib.Seq.{ext-getD}
-use borrow.Author.Tests.{le-leb, lt-leb, lt-ltb, leb-true, leb-false, ltb-true, ltb-false}
+use borrow.Author.Tests.{le-leb, lt-leb, lt-ltb, leb-true, leb-false, ltb-true, ltb-false, eqb-true, eqb-false}
 use Rattle.numbers.specs.Choice.{pick, both}
 use Rattle.parts.specs.Parts.{put, laidOf}
 use Rattle.parts.proofs.Laws.{put-whole, laid-length, laid-reached, laid-missed}
@@ -18,9 +18,10 @@ use Rattle.meter.specs.declared.Meter.{Meter}
 use Rattle.label.specs.declared.Common.{Common}
 use Rattle.label.specs.declared.Label.{Label}
 use Rattle.label.specs.Label.{inLabel, inBlock, labelByte}
-use Rattle.map.specs.Registers.{registersOf, meterByte}
+use Rattle.map.specs.declared.Pair.{Pair}
+use Rattle.map.specs.Registers.{registersOf, registerOf, meterByte}
 use Rattle.map.proofs.Meaning.{registers-length}
-use Rattle.replies.specs.Reply.{readByte, netByte, overOf, listed}
+use Rattle.replies.specs.Reply.{readByte, netByte, halfOf, overOf, listed}
 
 pub listed-length : (f : ℕ → ℕ) (i n : ℕ) → length (listed f i n) ≡ n
 listed-length f i zero = refl
@@ -118,11 +119,27 @@ net-short address room e short h =
 
 -- ---- the map
 
+-- a byte of the pair in which it stands
+pub half-byte : (k : Common) (m : Meter) (a i : ℕ) (p : Pair) → p ≡ registerOf k m (a - a % 2) → a % 2 + i < 2 → halfOf p (a + i) ≡ getD (registersOf k m) (a + i) 0
+half-byte k m a i p e h = by (eqb ((a + i) % 2) 0) refl
+  where
+    by : (b : Bool) → eqb ((a + i) % 2) 0 ≡ b → pick b (p .high) (p .low) ≡ getD (registersOf k m) (a + i) 0
+    by true even =
+        let at : a - a % 2 ≡ a + i = omega (arith, eqb-true ((a + i) % 2) 0 even) in
+        ap (λ (p : Pair). p .high) e ∙ ap (λ (x : ℕ). getD (registersOf k m) x 0) at
+    by false odd =
+        let at : a - a % 2 + 1 ≡ a + i = omega (arith, eqb-false ((a + i) % 2) 0 odd) in
+        ap (λ (p : Pair). p .low) e ∙ ap (λ (x : ℕ). getD (registersOf k m) x 0) at
+
 module _ (k : Common) (l : Label) (m : Meter) where
   -- below 20h stand the registers
   low-byte : (x : ℕ) → x < 0x20 → getD (registersOf k m) x 0 ≡ readByte k l m x
   unfolding readByte meterByte inLabel
   low-byte x h = rw (lt-leb 0x20 x h, lt-ltb x 0x20 h) refl
+
+  -- a room that ends within a register shows it alone
+  pub register-listed : (a n : ℕ) → a < 0x20 → a % 2 + n ≤ 2 → listed (λ i. getD (registersOf k m) (a + i) 0) 0 n ≡ listed (λ i. readByte k l m (a + i)) 0 n
+  register-listed a n h short = listed-same _ (λ i. readByte k l m (a + i)) n (λ i b. low-byte (a + i) (omega arith))
 
   -- what is laid last is asked for first
   map-byte : (x : ℕ) (s : Bool) → ltb x 0x20 ≡ s

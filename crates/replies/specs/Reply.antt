@@ -1,8 +1,8 @@
 -- Whom a transaction selects, and the bytes that it is answered with, by the parts of the gauge.
-use Prim.Native.Nat.{ℕ, zero, suc, _+_}
+use Prim.Native.Nat.{ℕ, zero, suc, _+_, _%_}
 use mathlib.Core.Bool.{Bool, true, false}
 use mathlib.Core.List.{List, [], _∷_}
-use lib.Dec.{ltb}
+use lib.Dec.{ltb, eqb}
 use lib.ListN.{length, getD}
 use Rattle.numbers.specs.Choice.{pick}
 use Rattle.parts.specs.Parts.{laidOf}
@@ -11,6 +11,7 @@ use Rattle.params.specs.Params.{rnaopOf}
 use Rattle.label.specs.declared.Common.{Common}
 use Rattle.label.specs.declared.Label.{Label}
 use Rattle.label.specs.Label.{inLabel, labelByte}
+use Rattle.map.specs.declared.Pair.{Pair}
 use Rattle.map.specs.Registers.{meterByte}
 use Rattle.bus.specs.declared.Rom.{Rom}
 use Rattle.bus.specs.declared.Rom.the-variants.{Net33, Net39, Skip, Match, Quiet}
@@ -71,6 +72,10 @@ unfoldable pub sourceByte : Common → Label → Meter → Source → ℕ → �
 sourceByte k l m Address i = netByte (k .address) i
 sourceByte k l m (Bytes a) i = readByte k l m (a + i)
 sourceByte k l m Idle i = 0xff
+
+-- of the two bytes from an even address on the one at the address a
+abbrev pub halfOf : Pair → ℕ → ℕ
+halfOf p a = pick (eqb (a % 2) 0) (p .high) (p .low)
 
 -- bytes that stand from the address base on, laid over a room that stands from the address a on
 abbrev pub overOf : ℕ → List ℕ → ℕ → List ℕ → List ℕ

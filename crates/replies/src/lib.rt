@@ -4,15 +4,16 @@ use bus::Rom;
 use bus::Transaction;
 use label::Common;
 use label::Label;
+use map::Pair;
 use meter::Block;
 use meter::Meter;
 ghost use mathlib.Core.Path.{_≡_};
 ghost use mathlib.Core.List.{_++_};
-ghost use Prim.Native.Nat.{_+_, _≤_, _<_};
-ghost use lib.ListN.{length, drop};
+ghost use Prim.Native.Nat.{_+_, _%_, _≤_, _<_};
+ghost use lib.ListN.{length, getD, drop};
 ghost use Rattle.meter.specs.State.{MeterWF};
 ghost use Rattle.map.specs.Registers.{registersOf};
-ghost use Rattle.replies.specs.Reply.{selectedOf, readSourceOf, netSourceOf, replySourceOf, readByte, netByte, overOf, sourceByte, listed, repliedOf};
+ghost use Rattle.replies.specs.Reply.{selectedOf, readSourceOf, netSourceOf, replySourceOf, readByte, netByte, halfOf, overOf, sourceByte, listed, repliedOf};
 
 // Where a reply's bytes come from: the net address, the map from an address on, or nowhere.
 pub enum Source {
@@ -143,12 +144,39 @@ fn registers_laid(k: Common, m: Meter, a: usize, room: &mut [u8])
     }
 }
 
+// Of the two bytes from an even address on the one at the address a.
+fn half(p: Pair, a: usize) -> u8
+    ensures { λ r. ⌜ r ≡ halfOf p a ⌝ }
+{
+    if a % 2 == 0 { p.high } else { p.low }
+}
+
+// A register, or a byte of one, the usual read: no other is worked out.
+fn register_reply(k: Common, m: Meter, a: usize, room: &mut [u8])
+    requires { ⌜ MeterWF m ⌝ }
+    requires { ⌜ (a < 0x20) × (a % 2 + length (now room) ≤ 2) ⌝ }
+    ensures { λ _. ⌜ now (room .exit) ≡ listed (λ i. getD (registersOf k m) (a + i) 0) 0 (length (now (room .entry))) ⌝ }
+{
+    let p = map::register(k, m, a - a % 2);
+    let mut i = 0;
+    while i < room.len() {
+        room[i] = half(p, a + i);
+        i += 1;
+    }
+}
+
 // The map from the address a upward: a room that ends among the registers is filled by these alone.
 fn read_reply(k: Common, l: Label, m: Meter, a: usize, room: &mut [u8])
     requires { ⌜ MeterWF m ⌝ }
     requires { ⌜ a < 256 ⌝ }
     ensures { λ _. ⌜ now (room .exit) ≡ listed (λ i. readByte k l m (a + i)) 0 (length (now (room .entry))) ⌝ }
 {
+    if a < 0x20 {
+        if a % 2 + room.len() <= 2 {
+            register_reply(k, m, a, room);
+            return;
+        }
+    }
     if 0x20 < a + room.len() {
         idle(room);
         block_laid(m.cells.block, a, room);
