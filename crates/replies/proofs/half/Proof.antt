@@ -1,5 +1,4 @@
 use borrow.Author.Tests.{eq-eqb, ne-eqb}
-use borrow.Author.Needs.{needs}
 use Rattle.replies.proofs.half.Statement.{statement}
 use Rattle.replies.proofs.half.Tie as tie
 
