@@ -1,2 +1,4 @@
+pub mod Ends
 pub mod Laws
+pub mod Product
 pub mod Unique

@@ -3,8 +3,10 @@ use params::Breaks;
 use params::Curves;
 use params::Slopes;
 ghost use mathlib.Core.Path.{_≡_};
-ghost use Prim.Native.Nat.{_≤_};
-ghost use Rattle.model.specs.Model.{slopeOf, walkedOf, fullLineOf, emptyLineOf, linesOf};
+ghost use Prim.Native.Nat.{_*_, _≤_};
+ghost use Rattle.numbers.specs.Offset.{movedInto};
+ghost use Rattle.model.specs.Model.{fullLineOf, emptyLineOf, linesOf};
+ghost use Rattle.model.specs.Product.{segmentsOf, weighedOf};
 
 // FULL, AE and SE.
 pub struct Model {
@@ -13,43 +15,52 @@ pub struct Model {
     pub se: u16,
 }
 
-// Step 2: the slope of the step from t + 1 to t degrees.
-fn slope(b: Breaks, s: Slopes, t: u8) -> u8
-    ensures { λ r. ⌜ r ≡ slopeOf b s t ⌝ }
-{
-    let cold = numbers::choose8(b.b12 <= t, s.s2, s.s1);
-    let mild = numbers::choose8(b.b23 <= t, s.s3, cold);
-    numbers::choose8(b.b34 <= t, s.s4, mild)
+// How many of the degrees from t up to 39 each segment has.
+struct Degrees {
+    s4: u8,
+    s3: u8,
+    s2: u8,
+    s1: u8,
 }
 
-// The slopes of FULL, AE and SE, each added up.
-struct Sums {
-    full: u32,
-    ae: u32,
-    se: u32,
+// Where a segment that starts at top ends: at its breakpoint b, but at top if b is above it, and no lower than the lowest degree.
+fn end(lowest: u8, top: u8, b: u8) -> u8
+    requires { ⌜ lowest ≤ top ⌝ }
+    ensures { λ r. ⌜ r ≡ movedInto lowest top b ⌝ }
+    ensures inside { λ r. ⌜ (lowest ≤ r) × (r ≤ top) ⌝ }
+{
+    numbers::moved_into(lowest, top, b as u64)
 }
 
-// Step 2: the slopes f of FULL, a of AE and s of SE going down from 40 degrees, which stand as 168, to t. One walk for the three decides a step's segment once.
-fn walked(b: Breaks, f: Slopes, a: Slopes, s: Slopes, t: u8) -> Sums
-    ensures { λ r. ⌜ r ≡ walkedOf b f a s t ⌝ }
+// Step 2: from 40 degrees, which stand as 168, down to t each segment starts where the one before it ends.
+fn segments(b: Breaks, t: u8) -> Degrees
+    ensures { λ r. ⌜ r ≡ segmentsOf b t ⌝ }
 {
-    let steps = numbers::less(168, t as u64) as u8;
-    let mut done: u8 = 0;
-    let mut full: u32 = 0;
-    let mut ae: u32 = 0;
-    let mut se: u32 = 0;
-    while done < steps {
-        let x = 167 - done;
-        full += slope(b, f, x) as u32;
-        ae += slope(b, a, x) as u32;
-        se += slope(b, s, x) as u32;
-        done += 1;
+    let end1 = numbers::at_most(168, t as u64) as u8;
+    let end4 = end(end1, 168, b.b34);
+    let end3 = end(end1, end4, b.b23);
+    let end2 = end(end1, end3, b.b12);
+    Degrees {
+        s4: 168 - end4,
+        s3: end4 - end3,
+        s2: end3 - end2,
+        s1: end2 - end1,
     }
-    Sums {
-        full: full,
-        ae: ae,
-        se: se,
-    }
+}
+
+// Step 2: the slopes over a segment's degrees.
+fn stretch(degrees: u8, slope: u8) -> u32
+    ensures { λ r. ⌜ r ≡ degrees * slope ⌝ }
+    ensures small { λ r. ⌜ r ≤ 65025 ⌝ }
+{
+    (degrees as u32) * (slope as u32)
+}
+
+// Step 2: the slopes of a line going down, each as often as its segment has degrees.
+fn weighed(n: Degrees, s: Slopes) -> u32
+    ensures { λ r. ⌜ r ≡ weighedOf n s ⌝ }
+{
+    stretch(n.s4, s.s4) + stretch(n.s3, s.s3) + stretch(n.s2, s.s2) + stretch(n.s1, s.s1)
 }
 
 fn full_line(slopes: u32) -> u16
@@ -74,10 +85,10 @@ pub fn lines(curves: Curves, t: u8) -> Model
     let full = curves.full;
     let ae = curves.ae;
     let se = curves.se;
-    let sums = walked(b, full, ae, se, t);
+    let n = segments(b, t);
     Model {
-        full: full_line(sums.full),
-        ae: empty_line(curves.start, sums.ae),
-        se: empty_line(0, sums.se),
+        full: full_line(weighed(n, full)),
+        ae: empty_line(curves.start, weighed(n, ae)),
+        se: empty_line(0, weighed(n, se)),
     }
 }

@@ -1,15 +1,19 @@
-use Rattle.model.specs.Model.{linesOf}
+use Rattle.model.specs.Product.{productOf}
 use borrow.Author.Needs.{needs}
+use Rattle.model.proofs.Product.{product-lines}
 use Rattle.model.proofs.lines.Statement.{statement}
 use Rattle.model.proofs.lines.Tie as tie
 
 returns : tie.Need-returns
-unfolding linesOf
+unfolding productOf
 returns c =
     let c1 = c .before in
     let c2 = c1 .before in
     let c3 = c2 .before in
-    (simp (c .empty-line2 .ensures, c1 .empty-line .ensures, c2 .full-line .ensures, c3 .walked .ensures), search needs)
+    let c4 = c3 .before in
+    let c5 = c4 .before in
+    let c6 = c5 .before in
+    (simp (c .empty-line2 .ensures, c1 .weighed3 .ensures, c2 .empty-line .ensures, c3 .weighed2 .ensures, c4 .full-line .ensures, c5 .weighed .ensures, c6 .segments .ensures) (product-lines _ _), search needs)
 
 pub lines-spec : {M : Type 1} → statement M
-lines-spec = tie.close (tie.spec (λ c κs. search needs) (λ c κs. search needs) (λ c κs. search needs) (λ c κs. search needs) returns)
+lines-spec = tie.close (tie.spec (λ c κs. search needs) (λ c κs. search needs) (λ c κs. search needs) (λ c κs. search needs) (λ c κs. search needs) (λ c κs. search needs) (λ c κs. search needs) returns)
