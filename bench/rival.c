@@ -12,11 +12,11 @@
 
 typedef unsigned char byte;
 
-enum { SESSION_LIMIT = 32768, REPLY_ROOM = 65536, READ_LIMIT = 64, HEADER = 4, LONGEST_LINE = 32 };
+enum { SESSION_LIMIT = 32768, REPLY_ROOM = 65536, READ_LIMIT = 64, LONGEST_SAMPLE = 64, HEADER = 4, LONGEST_LINE = 32 };
 enum { TEXT_ROOM = (SESSION_LIMIT / HEADER + 2) * LONGEST_LINE + 2 * REPLY_ROOM };
 
-enum { IMAGE = 1, READING, CONVERSION, TRANSACTION, POWER_ON }; /* kinds */
-enum { DONE, OVERSIZED, CUT, UNKNOWN, MISSIZED, MISPLACED, WRONG_ADDRESS, WRONG_LOCKS, LONG_READ, NO_ROOM, CROSSED }; /* answers */
+enum { IMAGE = 1, READING, CONVERSION, TRANSACTION, POWER_ON, SAMPLE }; /* kinds */
+enum { DONE, OVERSIZED, CUT, UNKNOWN, MISSIZED, MISPLACED, WRONG_ADDRESS, WRONG_LOCKS, LONG_READ, NO_ROOM, CROSSED, LATE }; /* answers */
 
 /* Tables 2 and 3 of 001, and the bits that are used. */
 enum {
@@ -33,7 +33,7 @@ enum { NBEN = 0x80, RNAOP = 0x10 };                                        /* of
 /* Places in an image. */
 enum { ADDRESS = 0, LABEL_CELLS = 8, PARAMETER_CELLS = 24, BREAKPOINTS = 52, SAVED_ACR = 56, SAVED_AS = 58, LOCK_BYTE = 59, IMAGE_BYTES = 60 };
 
-enum { NONE_YET = -1, NONE_SINCE = 1024 }; /* for a VOLT, which is 0 to 1,023 */
+enum { NONE_YET = -1, NONE_SINCE = 1024 }; /* for a VOLT, which is 0 to 1,023, and for a tick */
 
 typedef struct {
     byte memory[256 + READ_LIMIT]; /* as the bus reads it, past FFh too */
@@ -44,6 +44,7 @@ typedef struct {
     int32_t run, run_sum; /* conversions since the last average, and the sum of their c */
     int32_t last_volt;    /* of the last reading, or NONE_YET since power-on */
     int32_t lowest_volt;  /* of the readings since the last average, or NONE_SINCE */
+    int32_t last_tick;    /* of the last sample, or NONE_YET since power-on */
 } Gauge;
 
 /* ---- Numbers */
@@ -116,7 +117,7 @@ static void power_on(Gauge *g)
     memcpy(m + LABEL, g->pack + LABEL_CELLS, LABEL_END - LABEL);
     memcpy(m + PARAMETERS, g->pack + PARAMETER_CELLS, PARAMETERS_END - PARAMETERS);
     g->previous_current = g->age_counter = g->run = g->run_sum = 0;
-    g->last_volt = NONE_YET;
+    g->last_volt = g->last_tick = NONE_YET;
     g->lowest_volt = NONE_SINCE;
 }
 
@@ -152,21 +153,30 @@ static void average_formed(Gauge *g)
         full_found(m);
 }
 
-/* Step 4. */
-static void age(Gauge *g, int32_t fall)
+/* Step 4, of so many conversions in which ACR falls so far in all. One of them lowers it by 9 at most, which is less than any limit, so AS
+ * falls as often as the limit goes into the counter, but once for each conversion at most. */
+static inline void age(Gauge *g, int32_t fall, int32_t conversions)
 {
     byte *m = g->memory;
     int32_t limit = 32 * big_16(m + AC), counter = g->age_counter + (fall > 0 ? fall : 0);
     if (limit == 0) {
         counter = 0;
     } else if (counter >= limit) {
-        counter -= limit;
-        m[AS] = as_from(m[AS] - 1);
+        int32_t steps = conversions == 1 ? 1 : clamped(counter / limit, 1, conversions);
+        counter -= steps * limit;
+        m[AS] = as_from(m[AS] - steps);
     }
     g->age_counter = counter;
 }
 
-static void conversion(Gauge *g, int32_t raw)
+/* What a conversion adds to the charge count, AB with it. */
+static int32_t counted(const byte *m, int32_t c)
+{
+    bool blanked = (0 < c && c < 64) || (-16 < c && c < 0 && (m[CONTROL] & NBEN) != 0);
+    return (blanked ? 0 : c) + (int8_t)m[AB];
+}
+
+static inline __attribute__((always_inline)) void conversion(Gauge *g, int32_t raw)
 {
     byte *m = g->memory;
     int32_t c = clamped_wide((int64_t)raw + (int8_t)m[COB], -32768, 32767);
@@ -176,17 +186,52 @@ static void conversion(Gauge *g, int32_t raw)
     g->previous_current = previous;
     put_big_16(m + CURRENT, c);
 
-    bool blanked = (0 < c && c < 64) || (-16 < c && c < 0 && (m[CONTROL] & NBEN) != 0);
     int32_t before = charge_count(m);
-    int32_t after = clamped(before + (blanked ? 0 : c) + (int8_t)m[AB], 0, (1 << 28) - 1);
+    int32_t after = clamped(before + counted(m, c), 0, (1 << 28) - 1);
     set_charge_count(m, after);
-    age(g, (before >> 12) - (after >> 12));
+    age(g, (before >> 12) - (after >> 12), 1);
     if (after >> 12 == 0)
         m[STATUS] &= (byte)~LEARNF;
 
     g->run_sum += c;
     if (++g->run == 8)
         average_formed(g);
+}
+
+/* ---- Sample */
+
+/* So many conversions of the c that the last one had. Each adds the same, so that the count is clamped once, at the end. An average is formed
+ * only where the run is empty at the start: then it is c, and no reading has come for it, so that full is not found. */
+static void stretch(Gauge *g, int32_t c, int32_t count)
+{
+    byte *m = g->memory;
+    int32_t before = charge_count(m), run = g->run + count;
+    int32_t after = clamped(before + count * counted(m, c), 0, (1 << 28) - 1);
+    set_charge_count(m, after);
+    age(g, (before >> 12) - (after >> 12), count);
+    if (after >> 12 == 0)
+        m[STATUS] &= (byte)~LEARNF;
+    g->previous_current = c;
+    g->run_sum += count * c;
+    if (run >= 8) {
+        put_big_16(m + IAVG, c);
+        g->run_sum = (run & 7) * c;
+    }
+    g->run = run & 7;
+}
+
+/* A conversion, and what of the rest can be taken at once after it: all of it where an average was just formed, since full is found at one
+ * only with a reading before it; else up to the conversion that forms the next. Two turns at most. */
+static void sample(Gauge *g, int32_t raw, int32_t left)
+{
+    while (left > 0) {
+        conversion(g, raw);
+        left--;
+        int32_t reach = g->run == 0 ? left : clamped(left, 0, 7 - g->run);
+        if (reach > 0)
+            stretch(g, (int16_t)big_16(g->memory + CURRENT), reach);
+        left -= reach;
+    }
 }
 
 /* ---- Reading */
@@ -428,6 +473,16 @@ static inline int32_t record(Gauge *g, int32_t kind, const byte *payload, int32_
                 *line_end = end;
         }
         return answer;
+    case SAMPLE:
+        answer = event_answer(g, length == 6);
+        if (answer == DONE) {
+            int32_t tick = little_16(payload + 4), intervals = g->last_tick == NONE_YET ? 1 : (tick - g->last_tick) & 0xFFFF;
+            if (intervals == 0 || intervals > LONGEST_SAMPLE)
+                return LATE;
+            sample(g, little_32(payload), intervals);
+            g->last_tick = tick;
+        }
+        return answer;
     case POWER_ON:
         answer = event_answer(g, length == 0);
         if (answer == DONE)
@@ -483,8 +538,11 @@ static char *run(const byte *at, const byte *end, char *out)
         put_pair(out + 3, kind & 0xFF);
         int32_t answer = record(&gauge, kind, at + HEADER, length, reply, &line_end, &room);
         out[6] = (char)('0' + answer);
-        if (answer == CROSSED)
-            line_end = put_text(out + 6, "10 -");
+        if (answer > 9) { /* two digits, and no reply */
+            memcpy(out + 6, "1. -", 4);
+            out[7] = (char)('0' + answer - 10);
+            line_end = out + 10;
+        }
         *line_end = '\n';
         out = line_end + 1;
         at += HEADER + length;

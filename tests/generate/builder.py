@@ -6,14 +6,14 @@ A scene is a function that adds records to a session; a profile is one that make
 
 SESSION_LIMIT = 32768
 REPLY_ROOM = 65536
-IMAGE, READING, CONVERSION, TRANSACTION, POWER_ON = 1, 2, 3, 4, 5
+IMAGE, READING, CONVERSION, TRANSACTION, POWER_ON, SAMPLE = 1, 2, 3, 4, 5, 6
 READ, WRITE, COPY, RECALL, LOCK = 0x69, 0x6C, 0x48, 0xB8, 0x6A
 
 # How many bytes a payload of each kind has, at least and at most.
-SIZES = {IMAGE: (60, 60), READING: (8, 8), CONVERSION: (4, 4), TRANSACTION: (1, 65), POWER_ON: (0, 0)}
+SIZES = {IMAGE: (60, 60), READING: (8, 8), CONVERSION: (4, 4), TRANSACTION: (1, 65), POWER_ON: (0, 0), SAMPLE: (6, 6)}
 
 # Kinds that are meant as unknown. A request that gives a number a meaning takes it out of here, and nowhere else.
-UNKNOWN = [0, 6, 7, 8, 9, 18, 19, 20, 21, 22, 99, 0x0100, 0x0101, 0x0501, 0xFFFF]
+UNKNOWN = [0, 7, 8, 9, 18, 19, 20, 21, 22, 99, 0x0100, 0x0101, 0x0501, 0xFFFF]
 
 # Table 3 of the DS2781 sheet.
 CONTROL, AB, AC, VCHG, IMIN, VAE, IAE, EMPTY_40 = 0x60, 0x61, 0x62, 0x64, 0x65, 0x66, 0x67, 0x68
@@ -58,6 +58,7 @@ class Session:
         self.block_0 = bytearray(chance.randbytes(16))
         self.block_1 = bytearray(32)
         self.run = 0  # conversions since power-on, modulo eight
+        self.tick = None  # of the last sample since power-on
 
     def new_address(self):
         serial = bytes([0x3D]) + self.chance.randbytes(6)
@@ -80,11 +81,11 @@ class Session:
     def image(self, saved_acr=0, saved_as=128, locks=0, address=None):
         cells = little(saved_acr, 2) + bytes([saved_as, locks])
         self.add(IMAGE, (address or self.address) + self.block_0 + self.block_1 + cells)
-        self.run = 0
+        self.run, self.tick = 0, None
 
     def power_on(self):
         self.add(POWER_ON)
-        self.run = 0
+        self.run, self.tick = 0, None
 
     def reading(self, voltage, temperature):
         self.add(READING, little(voltage, 4) + little(temperature, 4))
@@ -96,6 +97,19 @@ class Session:
     def current(self, c):
         """A conversion whose c is the one wanted."""
         self.conversion(c - signed(self.parameter(COB)))
+
+    def sample(self, raw, ticks):
+        """A sample so many ticks after the last one; the first since power-on is taken at any tick, and counts as one."""
+        first = self.tick is None
+        tick = self.chance.choice([0, 65535, 65500, self.chance.randrange(65536)]) if first else (self.tick + ticks) % 65536
+        self.add(SAMPLE, little(raw, 4) + little(tick, 2))
+        if first or 1 <= ticks % 65536 <= 64:
+            self.run = (self.run + (1 if first else ticks)) % 8
+            self.tick = tick
+
+    def sampled(self, c, ticks):
+        """A sample whose c is the one wanted."""
+        self.sample(c - signed(self.parameter(COB)), ticks)
 
     def transaction(self, count, master=b""):
         self.add(TRANSACTION, bytes([count]) + bytes(master))

@@ -11,7 +11,7 @@ import random
 import sys
 
 from builder import (  # what the tests and the bench take from here
-    CONVERSION, COPY, POWER_ON, PROFILES, READ, READING, TRANSACTION, TURNS, WRITE, boundaries, little, record)
+    CONVERSION, COPY, POWER_ON, PROFILES, READ, READING, SAMPLE, TRANSACTION, TURNS, WRITE, boundaries, little, record)
 
 for file in sorted(pathlib.Path(__file__).with_name("scenes").glob("*.py")):
     importlib.import_module(f"scenes.{file.stem}")

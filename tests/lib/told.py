@@ -6,7 +6,7 @@
   down; hexadecimal is two's complement of 16 bits.
 - `AEF and SEF are set`, `LEARNF is cleared`: flags. `at -5 °C`: whole degrees.
 - "0417" in double quotes: the reply as ASCII.
-- `Records 9 and 11 have the bytes of records 2 and 3`.
+- `Records 9 and 11 have the bytes of records 2 and 3`, or `the currents` of them. `tick 24`: that of a sample.
 - A row `| 1, 3 | 5 | why |` of a table: the answers of records; every refusal of the story has one. `Answer 1 is missing here`.
 
 A number that is none of these must have a unit, or stand for an address.
@@ -29,7 +29,8 @@ SUM = rf"{ATOM}(?: [×/+-] {ATOM})*"
 LIST = r"\d+(?:(?:, | and | to )\d+)*"
 FLAG = rf"(?:{'|'.join([*FLAGS, 'LOCK', 'BL0', 'BL1'])})"
 FORMS = re.compile("|".join([
-    rf"[Rr]ecords? (?P<like>{LIST}) have the bytes of records (?P<model>{LIST})",
+    rf"[Rr]ecords? (?P<like>{LIST}) have the (?P<part>bytes|currents) of records (?P<model>{LIST})",
+    rf"tick (?P<tick>{DECIMAL})",
     rf"[Aa]nswers? (?P<absent>{LIST}) (?:is|are) missing here",
     rf"[Rr]ecords? (?P<records>{LIST})",
     r"`(?P<code>[^`]*)`",
@@ -117,8 +118,11 @@ class Story:
             self.quoted()
             self.named, self.quotes = numbers(found["records"]), []
         elif found["like"]:
+            part = slice(4, 8) if found["part"] == "currents" else slice(None)
             for one, other in zip(numbers(found["like"]), numbers(found["model"]), strict=True):
-                same(f"record {one}", self.bytes[one].hex(), self.bytes[other].hex())
+                same(f"record {one}", self.bytes[one][part].hex(), self.bytes[other][part].hex())
+        elif found["tick"]:
+            same(f"the tick of record {self.named[-1]}", int.from_bytes(self.bytes[self.named[-1]][8:10], "little"), value(found["tick"], {}))
         elif found["absent"]:
             for answer in numbers(found["absent"]):
                 same(f"the records with answer {answer}", [n for n, line in self.lines.items() if line[2] == str(answer)], [])

@@ -3,7 +3,8 @@ those of PRESET of the sessions that are written from an image and parameters (t
 
 A mutant is a label (the rule's row first), then pairs of a text that stands once in second.c and the text put in its
 place. They show that the comparison can fail. SLIPS are the paper's "Likely slips", RULES go through its rules in order,
-LATCHED take a parameter or a result at another moment than the one at which a rule is worked out.
+SAMPLES through those of samples, LATCHED take a parameter or a result at another moment than the one at which a rule is
+worked out.
 """
 
 SLIPS = [
@@ -30,7 +31,7 @@ RULES = [
     ("A3-last-bytes-overlooked", "for (int32_t number = 1; at < size; number++) {",
      "for (int32_t number = 1; at + 3 < size; number++) {"),
     ("A4-payload-past-end", "size - at - 4 < little_endian_16(header)", "size - at - 3 < little_endian_16(header)"),
-    ("A5-kind-six", "if (kind < 1 || kind > 5)", "if (kind < 1 || kind > 6)"),
+    ("A5-one-kind-more", "if (kind < 1 || kind > 6)", "if (kind < 1 || kind > 7)"),
     ("A5-kind-one-byte", "kind = little_endian_16(header + 2);", "kind = header[2];"),
     ("A6-66-bytes", "1 <= length && length <= 65", "1 <= length && length <= 66"),
     ("A6-64-bytes", "1 <= length && length <= 65", "1 <= length && length <= 64"),
@@ -343,6 +344,102 @@ RULES = [
     ("R45-by-tens", "g->rarc / 4 != previous_rarc / 4", "g->rarc / 5 != previous_rarc / 5"),
     ("R46-as-not-saved", "        g->saved_as = g->as;\n", ""),
     ("R47-first-saves", "if (g->had_reading && g->rarc / 4", "if (g->rarc / 4"),
+]
+
+DIFFERENCE = "(tick + 65536 - g->last_tick) % 65536"
+EACH_INTERVAL = "        conversion(g, raw);\n"
+REMEMBERED = "    g->had_sample = true;\n    g->last_tick = tick;"
+FORGOTTEN = "    g->had_sample = false;\n    g->last_tick = 0;\n"
+JUDGED = "        int32_t answer = judged(g, room_left, kind, header + 4, length);\n"
+LATE = JUDGED + "        if (answer == 11)\n            "
+
+SAMPLES = [
+    ("W5.1-tick-high-byte-first", "return little_endian_16(payload + 4);", "return 256 * payload[4] + payload[5];"),
+    ("W5.1-tick-first", "return little_endian_16(payload + 4);", "return little_endian_16(payload);",
+     "sample(g, little_endian_signed_32(payload), tick_of(payload));",
+     "sample(g, little_endian_signed_32(payload + 2), tick_of(payload));"),
+    ("W5.1-tick-of-one-byte", "return little_endian_16(payload + 4);", "return payload[4];"),
+    ("W5.1-current-of-sixteen-bits", "sample(g, little_endian_signed_32(payload), tick_of(payload));",
+     "sample(g, (int16_t)little_endian_signed_32(payload), tick_of(payload));"),
+    ("W5.2-no-kind", "if (kind < 1 || kind > 6)", "if (kind < 1 || kind > 5)"),
+    ("W5.2-longer", "return length == SAMPLE_BYTES;", "return length >= SAMPLE_BYTES;"),
+    ("W5.2-a-byte-less", "return length == SAMPLE_BYTES;", "return length == SAMPLE_BYTES || length == SAMPLE_BYTES - 1;"),
+    ("W5.2-before-an-image", "if ((kind == 1) == g->accepted)", "if (kind != 6 && (kind == 1) == g->accepted)"),
+    ("W5.3-not-round", DIFFERENCE, "tick - g->last_tick"),
+    ("W5.3-round-at-65535", DIFFERENCE, "tick >= g->last_tick ? tick - g->last_tick : tick + 65535 - g->last_tick"),
+    ("W5.3-in-eight-bits", DIFFERENCE, "(tick + 65536 - g->last_tick) % 256"),
+    ("W5.3-whichever-way", DIFFERENCE, "tick >= g->last_tick ? tick - g->last_tick : g->last_tick - tick"),
+    ("W5.4-first-refused", "% 65536 : 1;", "% 65536 : 0;"),
+    ("W5.4-first-not-counted", "% 65536 : 1;", "% 65536 : 0;", "return 1 <= intervals &&",
+     "return (g->had_sample ? 1 : 0) <= intervals &&"),
+    ("W5.4-first-from-tick-0", "% 65536 : 1;", "% 65536 : tick;"),
+    ("W5.4-first-at-its-most", "% 65536 : 1;", "% 65536 : LONGEST_SAMPLE;"),
+    ("W5.5-65-ticks", "intervals <= LONGEST_SAMPLE;", "intervals <= LONGEST_SAMPLE + 1;"),
+    ("W5.5-63-ticks", "intervals <= LONGEST_SAMPLE;", "intervals < LONGEST_SAMPLE;"),
+    ("W5.5-same-tick-is-nothing", "return 1 <= intervals &&", "return 0 <= intervals &&"),
+    ("W5.5-same-tick-is-a-round", "return 1 <= intervals &&", "return 0 <= intervals &&", "i < intervals; i++) {",
+     "i < (intervals > 0 ? intervals : 65536); i++) {"),
+    ("W5.5-same-tick-is-one", "return 1 <= intervals &&", "return 0 <= intervals &&", "i < intervals; i++) {",
+     "i < (intervals > 0 ? intervals : 1); i++) {"),
+    ("W5.5-more-is-64", "return 1 <= intervals && intervals <= LONGEST_SAMPLE;", "return 1 <= intervals;",
+     "i < intervals; i++) {", "i < clamped(intervals, 1, LONGEST_SAMPLE); i++) {"),
+    ("W5.5-another-number", "        return 11;", "        return 10;"),
+    ("W5.5-eleven-before-four", "    if (!length_fits(kind, length))",
+     "    if (kind == 6 && length > 5 && !tick_fits(g, tick_of(payload)))\n        return 11;\n"
+     "    if (!length_fits(kind, length))"),
+    ("W5.6-refused-and-stopped", "        room_left -= replied;",
+     "        if (answer == 11)\n            return;\n        room_left -= replied;"),
+    ("W5.6-refused-moves-the-tick", JUDGED, LATE + "g->last_tick = tick_of(header + 4);\n"),
+    ("W5.6-refused-forgets-the-tick", JUDGED, LATE + "g->had_sample = false;\n"),
+    ("W5.6-refused-counts-one", JUDGED, LATE + "conversion(g, little_endian_signed_32(header + 4));\n"),
+    ("W5.6-refused-shows-its-current", JUDGED,
+     LATE + "g->current = (int32_t)clamped(little_endian_signed_32(header + 4), -32768, 32767);\n"),
+    ("W5.7-one-interval", "i < intervals; i++) {", "i < 1; i++) {"),
+    ("W5.7-one-less", "i < intervals; i++) {", "i < (intervals > 1 ? intervals - 1 : 1); i++) {"),
+    ("W5.7-one-more", "i < intervals; i++) {", "i <= (intervals > 1 ? intervals : 0); i++) {"),
+    ("W5.7-a-product-of-the-current", EACH_INTERVAL,
+     "        conversion(g, (int32_t)clamped((int64_t)raw * intervals, -32768, 32767));\n        break;\n"),
+    ("W5.7-bias-once", EACH_INTERVAL, "        byte bias = g->shadow[AB];\n        g->shadow[AB] = i > 0 ? 0 : bias;\n" +
+     EACH_INTERVAL + "        g->shadow[AB] = bias;\n"),
+    ("W5.7-previous-current-of-before", EACH_INTERVAL, "        int32_t previous = g->previous_current;\n" + EACH_INTERVAL +
+     "        if (i > 0)\n            g->previous_current = previous;\n"),
+    ("W5.7-averaged-once", EACH_INTERVAL,
+     EACH_INTERVAL + "        if (i > 0 && g->run > 0)\n            g->run--, g->run_sum -= g->current;\n"),
+    ("W5.7-run-starts-anew", "    for (int32_t i = 0; i < intervals; i++) {",
+     "    if (intervals > 1)\n        g->run = g->run_sum = 0;\n    for (int32_t i = 0; i < intervals; i++) {"),
+    ("W5.7-run-ends-with-it", REMEMBERED, REMEMBERED + "\n    if (intervals > 8)\n        g->run = g->run_sum = 0;"),
+    ("W5.7-ageing-once", EACH_INTERVAL,
+     "        int32_t as = g->as, age = g->age_counter, acr = g->acr, step = 32 * wide_parameter(g, AC);\n" + EACH_INTERVAL +
+     "        if (i > 0 && step > 0 && age + (acr > g->acr ? acr - g->acr : 0) >= step)\n"
+     "            g->as = as, g->age_counter += step;\n"),
+    ("W5.7-ageing-as-often-as-it-can", REMEMBERED, REMEMBERED + "\n    int32_t step = 32 * wide_parameter(g, AC);\n"
+     "    while (intervals > 1 && step > 0 && g->age_counter >= step)\n"
+     "        g->as = moved_into_as_range(g->as - 1), g->age_counter -= step;"),
+    ("W5.7-learnf-looked-at-once", EACH_INTERVAL, "        bool learnf = g->learnf, chgtf = g->chgtf;\n" + EACH_INTERVAL +
+     "        if (i > 0 && learnf && chgtf == g->chgtf && g->acr == 0)\n            g->learnf = true;\n"),
+    ("W5.7-full-found-twice", EACH_INTERVAL,
+     "        bool read = g->read_since_average;\n        int32_t lowest = g->lowest_voltage;\n" + EACH_INTERVAL +
+     "        if (i + 1 < intervals)\n            g->read_since_average = read, g->lowest_voltage = lowest;\n"),
+    ("W5.7-full-at-the-last-only", EACH_INTERVAL,
+     "        if (i + 1 < intervals && g->run == 7)\n            g->read_since_average = false;\n" + EACH_INTERVAL),
+    ("W5.7-full-ends-it", EACH_INTERVAL,
+     "        if (i > 0 && g->run == 0 && g->chgtf && g->fraction == 0)\n            break;\n" + EACH_INTERVAL),
+    ("W5.7-replies-a-byte", "tick_of(payload)); return 0;", "tick_of(payload)); reply[0] = 0xFF; return 1;"),
+    ("W5.8-one-tick-alone-is-remembered", "    g->last_tick = tick;", "    g->last_tick = intervals > 1 ? g->last_tick : tick;"),
+    ("W5.8-first-tick-stays", REMEMBERED, "    if (!g->had_sample)\n        g->last_tick = tick;\n    g->had_sample = true;"),
+    ("W5.8-conversion-moves-it", "    case 3: conversion(g, little_endian_signed_32(payload)); return 0;",
+     "    case 3: conversion(g, little_endian_signed_32(payload)); g->last_tick = (g->last_tick + 1) % 65536; return 0;"),
+    ("W5.8-conversion-forgets-it", "    case 3: conversion(g, little_endian_signed_32(payload)); return 0;",
+     "    case 3: conversion(g, little_endian_signed_32(payload)); g->had_sample = false; return 0;"),
+    ("W5.8-reading-forgets-it", "    g->had_reading = true;\n", "    g->had_reading = true;\n    g->had_sample = false;\n"),
+    ("W5.8-acr-write-forgets-it", "            g->acr = 256 * held + value;\n",
+     "            g->acr = 256 * held + value;\n            g->had_sample = false;\n"),
+    ("W5.8-label-write-forgets-it", "            g->shadow[at] = (byte)value;",
+     "            g->shadow[at] = (byte)value, g->had_sample = g->had_sample && !in_block_0(at);"),
+    ("W5.8-recall-forgets-it", "    if (command == 0xB8)\n",
+     "    if (command == 0xB8)\n        g->had_sample = false;\n    if (command == 0xB8)\n"),
+    ("W5.9-tick-kept", FORGOTTEN, ""),
+    ("W5.9-tick-0-remembered", FORGOTTEN, "    g->had_sample = true;\n    g->last_tick = 0;\n"),
 ]
 
 LATCHED = [

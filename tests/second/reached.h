@@ -36,6 +36,9 @@ static void tell_reached(void)
 static int32_t little_endian_16(const byte *from);
 static int32_t little_endian_signed_32(const byte *from);
 static int32_t crc(const byte *from, int32_t count);
+static int32_t tick_of(const byte *payload);
+static int32_t elapsed(const Gauge *g, int32_t tick);
+static bool tick_fits(const Gauge *g, int32_t tick);
 static int32_t parameter(const Gauge *g, int32_t address);
 static int32_t signed_parameter(const Gauge *g, int32_t address);
 static int32_t wide_parameter(const Gauge *g, int32_t address);
@@ -77,7 +80,7 @@ static void saw_image_answer(const byte *image, int32_t answer)
 
 static void saw_answer(const Gauge *g, int32_t kind, const byte *payload, int32_t length, int32_t answer)
 {
-    bool known = kind >= 1 && kind <= 5, sized = known && length_fits(kind, length);
+    bool known = kind >= 1 && kind <= 6, sized = known && length_fits(kind, length);
     bool wrong_family = sized && kind == 1 && payload[0] != 0x3D;
     bool wrong_crc = sized && kind == 1 && payload[7] != crc(payload, 7);
     bool wrong_lock_byte = sized && kind == 1 && payload[59] > 3;
@@ -86,19 +89,22 @@ static void saw_answer(const Gauge *g, int32_t kind, const byte *payload, int32_
     SAW(answer == 0, "answer: 0");
     SAW(answer == 3, "answer: 3");
     SAW(answer == 3 && kind < 256, "answer: 3 for a kind below 256");
-    SAW(answer == 3 && kind % 256 >= 1 && kind % 256 <= 5, "answer: 3 for a kind whose low byte is known");
+    SAW(answer == 3 && kind % 256 >= 1 && kind % 256 <= 6, "answer: 3 for a kind whose low byte is known");
     SAW(answer == 4 && kind == 1, "answer: 4 for an image");
     SAW(answer == 4 && kind == 2, "answer: 4 for a reading");
     SAW(answer == 4 && kind == 3, "answer: 4 for a conversion");
     SAW(answer == 4 && kind == 4 && length == 0, "answer: 4 for a transaction without a count");
     SAW(answer == 4 && kind == 4 && length == 66, "answer: 4 for a transaction of 66 bytes");
     SAW(answer == 4 && kind == 5, "answer: 4 for a power-on");
+    SAW(answer == 4 && kind == 6 && length == 5, "answer: 4 for a sample of 5 bytes");
+    SAW(answer == 4 && kind == 6 && length == 7, "answer: 4 for a sample of 7 bytes");
     SAW(answer == 0 && kind == 4 && length == 65, "answer: 0 for a transaction of 65 bytes");
     SAW(answer == 5 && kind == 1, "answer: 5 for a second image");
     SAW(answer == 5 && kind == 2, "answer: 5 for a reading before an image");
     SAW(answer == 5 && kind == 3, "answer: 5 for a conversion before an image");
     SAW(answer == 5 && kind == 4, "answer: 5 for a transaction before an image");
     SAW(answer == 5 && kind == 5, "answer: 5 for a power-on before an image");
+    SAW(answer == 5 && kind == 6, "answer: 5 for a sample before an image");
     SAW(answer == 6 && wrong_family && !wrong_crc, "answer: 6 for the family alone");
     SAW(answer == 6 && wrong_crc && !wrong_family, "answer: 6 for the CRC alone");
     SAW(answer == 7, "answer: 7");
@@ -129,10 +135,12 @@ static void saw_class(int32_t kind, int32_t answer, int32_t first, int32_t last,
     bool refused = answer == 3 || answer == 4 || answer == 8;
     SAW(refused, "class: gauge event, a record refused with 3, 4 or 8");
     SAW(answer == 5 || answer == 9, "class: fence, a record refused with 5 or 9");
+    SAW(answer == 11, "class: gauge event, a sample refused with 11");
     if (answer != 0)
         return;
     SAW(kind == 2, "class: gauge event, a reading");
     SAW(kind == 3, "class: gauge event, a conversion");
+    SAW(kind == 6, "class: gauge event, a sample");
     SAW(kind == 5, "class: fence, a power-on");
     SAW(kind == 4 && !touches, "class: gauge event, a transaction that touches nothing");
     SAW(kind == 4 && touches && !meets, "class: gauge event, a transaction that touches nothing of the label");
@@ -163,6 +171,8 @@ static void saw_flags(const Gauge *was, const Gauge *is)
 
 /* ---- Power-on ---- */
 
+static int32_t tick_before_power_on = -1; /* where power-ons came since the last sample, -1 if there was none */
+
 static void saw_power_on(const Gauge *was, const Gauge *is)
 {
     bool again = was->accepted;
@@ -178,6 +188,9 @@ static void saw_power_on(const Gauge *was, const Gauge *is)
     SAW(again && was->age_counter > 0, "power-on: an age counter is lost");
     SAW(again && was->run > 0, "power-on: a run of conversions is cut");
     SAW(again && was->learnf, "power-on: LEARNF cleared");
+    SAW(again && was->had_sample, "power-on: a tick is lost");
+    if (was->had_sample)
+        tick_before_power_on = was->last_tick;
     SAW(again && was->lock, "power-on: LOCK cleared");
     SAW(again && crossed(is->eeprom), "power-on: crossed breakpoints in the EEPROM");
     SAW(again && memcmp(was->shadow + 0x20, is->shadow + 0x20, 16) != 0, "power-on: a label that was not copied is lost");
@@ -186,12 +199,20 @@ static void saw_power_on(const Gauge *was, const Gauge *is)
 
 /* ---- Conversion ---- */
 
+/* What came within the sample that is run, interval by interval. */
+typedef struct {
+    int32_t intervals, averages, fulls, fitting_averages, ageing_steps, bottoms, tops, emptied;
+} Within;
+
+static Within within;
+
 /* C29 to C35 and W1.1, as full is found. */
 static void saw_full(const Gauge *g)
 {
     int64_t full_40 = wide_parameter(g, FULL_40), whole = g->full * full_40;
     int64_t learnt = whole > 0 ? (int64_t)g->acr * 2097152 / whole : 0;
     bool learns = g->learnf && full_40 > 0;
+    within.fulls++;
     SAW(true, "full: found");
     SAW(g->chgtf, "full: found again, CHGTF is set");
     SAW(!g->learnf, "full: nothing is learnt, LEARNF is 0");
@@ -256,6 +277,104 @@ static void saw_conversion(const Gauge *was, const Gauge *is, int32_t raw)
         saw_average(was, was->run_sum + c);
 }
 
+/* ---- Sample ---- */
+
+static Gauge at_interval;
+static int32_t conversions_since, labels_since; /* the last accepted sample */
+static bool refused_since;
+
+static void before_interval(const Gauge *g) { at_interval = *g; }
+
+static void after_interval(const Gauge *is)
+{
+    const Gauge *was = &at_interval;
+    int64_t count = (int64_t)was->acr * 4096 + was->fraction + counted(was, is->current) + signed_parameter(was, AB);
+    int32_t limit = 32 * parameter(is, IMIN) - 1;
+    within.intervals++;
+    within.averages += is->run == 0;
+    within.fitting_averages += is->run == 0 && 1 <= is->iavg && is->iavg <= limit && 1 <= was->iavg && was->iavg <= limit;
+    within.ageing_steps += is->age_counter < was->age_counter && wide_parameter(is, AC) > 0;
+    within.bottoms += count < 0;
+    within.tops += count > 268435455;
+    within.emptied += within.intervals > 1 && was->learnf && !is->learnf && count < 4096;
+}
+
+/* Answer 11, W5.5. */
+static void saw_late(const Gauge *g, int32_t kind, const byte *payload, int32_t length, int32_t answer)
+{
+    bool whole = kind == 6 && length >= 6;
+    int32_t ticks = whole ? elapsed(g, tick_of(payload)) : 0;
+    SAW(answer == 11, "answer: 11");
+    SAW(answer == 11 && ticks == 0, "answer: 11 for a difference of 0");
+    SAW(answer == 11 && ticks == 65, "answer: 11 for a difference of 65");
+    SAW(answer == 11 && ticks > 256 && ticks % 256 >= 1 && ticks % 256 <= 64, "answer: 11 for a difference whose low byte would do");
+    SAW(answer == 11 && ticks == 65535, "answer: 11 for the tick before the last one");
+    SAW(answer == 4 && g->accepted && whole && !tick_fits(g, tick_of(payload)), "answer: 4 where 11 would come next");
+}
+
+/* W5.3, W5.4, W5.8 and W5.9: the tick, and what came since the last one. */
+static void saw_tick(const Gauge *was, int32_t tick)
+{
+    int32_t ticks = elapsed(was, tick), over = tick_before_power_on < 0 ? 0 : (tick + 65536 - tick_before_power_on) % 65536;
+    SAW(!was->had_sample, "sample: the first since power-on");
+    SAW(!was->had_sample && over > 64, "sample: the first since power-on, far from the tick before it");
+    SAW(!was->had_sample && over > 1 && over <= 64, "sample: the first since power-on, near the tick before it");
+    SAW(!was->had_sample && tick == 0, "sample: the first since power-on, at tick 0");
+    SAW(was->had_sample && ticks == 1, "sample: 1 tick");
+    SAW(ticks >= 2 && ticks <= 7, "sample: 2 to 7 ticks");
+    SAW(ticks >= 8 && ticks <= 16, "sample: 8 to 16 ticks");
+    SAW(ticks >= 17 && ticks <= 62, "sample: 17 to 62 ticks");
+    SAW(ticks == 63, "sample: 63 ticks");
+    SAW(ticks == 64, "sample: 64 ticks");
+    SAW(was->had_sample && tick < was->last_tick, "sample: the counter of ticks goes round");
+    SAW(was->had_sample && refused_since, "sample: samples were refused since the last one");
+    SAW(was->had_sample && conversions_since == 1 && ticks == 1, "sample: a conversion came since the last one, a tick ago");
+    SAW(was->had_sample && conversions_since > 1, "sample: conversions came since the last one");
+    SAW(was->had_sample && labels_since > 0, "sample: the label was written since the last one");
+    tick_before_power_on = -1;
+    conversions_since = labels_since = 0;
+    refused_since = false;
+}
+
+/* W5.7: all steps of a conversion come along the way. */
+static void saw_sample(const Gauge *was, const Gauge *is, int32_t raw)
+{
+    int64_t sum = (int64_t)raw + signed_parameter(was, COB);
+    int32_t c = is->current, step = 32 * wide_parameter(was, AC), n = within.intervals;
+    bool blanked = counted(was, c) != c, turned = c < 0 && !(was->currents > 0 && was->current < 0);
+    bool aged = n > 1 && within.ageing_steps > 0, learns = was->learnf && !turned;
+
+    SAW(sum != c, "sample: c clamped");
+    SAW(n > 1 && blanked, "sample: c is blanked");
+    SAW(n > 1 && within.bottoms > 0 && within.bottoms < n, "sample: the count clamped to 0 on the way");
+    SAW(n > 1 && within.tops > 0 && within.tops < n, "sample: the count clamped to 2^28 - 1 on the way");
+    SAW(n > 1 && blanked && is->acr < was->acr, "sample: AB alone lowers ACR");
+
+    SAW(within.averages == 0, "sample: no average");
+    SAW(was->run > 0 && within.averages == 1, "sample: an average that was begun before");
+    SAW(within.averages >= 2, "sample: two averages and more");
+    SAW(n > 8 && is->run > 0, "sample: an average is begun after another");
+
+    SAW(within.fulls == 1, "sample: full found");
+    SAW(within.fulls == 1 && is->run > 0 && counted(is, c) == c, "sample: full found, and counted on");
+    SAW(within.fulls == 1 && within.fitting_averages > 1, "sample: full found once, and another average fits");
+    SAW(within.fulls == 1 && was->learnf && is->as != was->as, "sample: full found, AS learnt");
+    SAW(within.fulls == 0 && within.fitting_averages > 0, "sample: full not found, no reading came");
+
+    SAW(aged && within.ageing_steps == 1, "sample: AS falls once");
+    SAW(aged && within.ageing_steps >= 2 && within.ageing_steps < n, "sample: AS falls twice and more");
+    SAW(aged && within.ageing_steps == n && is->age_counter >= step, "sample: AS falls at each interval, AC was lowered");
+    SAW(aged && within.ageing_steps < n && was->age_counter >= 2 * step, "sample: AS falls until the counter is below the step");
+    SAW(aged && was->as > 63 && is->as == 63 && was->as - 63 < within.ageing_steps, "sample: AS comes to 63 and stays");
+    SAW(n > 1 && step == 0 && was->age_counter > 0, "sample: AC = 0 zeroes the counter");
+    SAW(n > 1 && step == 0 && is->acr < was->acr, "sample: AC = 0, ACR falls");
+
+    SAW(n > 1 && was->learnf && turned, "sample: LEARNF cleared by a c that turns negative");
+    SAW(learns && within.emptied > 0, "sample: LEARNF cleared by ACR 0 on the way");
+    SAW(n > 1 && learns && c < 0 && is->learnf, "sample: LEARNF survives a discharge");
+    SAW(n > 1 && learns && c > 0 && is->learnf, "sample: LEARNF survives a charge");
+}
+
 /* ---- Reading ---- */
 
 static void saw_lines(const Gauge *is)
@@ -288,6 +407,7 @@ static void saw_point(const Gauge *g, int32_t e)
     SAW(e == 0, "empty: the point, E = 0");
     SAW(e == 0 && g->learnf, "empty: the point, E = 0 clears LEARNF");
     SAW(g->acr < e, "empty: the point raises ACR");
+    SAW(g->had_sample && conversions_since == 0 && g->current == g->previous_current, "empty: the point, after a sample");
 }
 
 /* Step 3, where VOLT is below 4 x VAE: what just is no empty point, or just is one. */
@@ -368,6 +488,7 @@ static void saw_write_at(const Gauge *was, int32_t at, int32_t value, bool held)
     SAW(at == 0x1F && (value & 0x40) == 0 && was->lock, "write: LOCK cleared");
     SAW(read_only, "write: dropped, read-only");
     SAW(in_block_0(at) && !was->bl0, "write: label");
+    labels_since += in_block_0(at);
     SAW(in_block_1(at) && !was->bl1, "write: parameter");
     SAW(in_block_0(at) && was->bl0, "write: dropped, block 0 is locked");
     SAW(in_block_1(at) && was->bl1, "write: dropped, block 1 is locked");
@@ -489,7 +610,12 @@ static void saw_transaction(const Gauge *was, const Gauge *is, const byte *maste
 
 static Gauge as_it_was;
 
-static void before_record(const Gauge *g) { as_it_was = *g; }
+static void before_record(const Gauge *g)
+{
+    static const Within nothing;
+    as_it_was = *g;
+    within = nothing;
+}
 
 static void after_record(const Gauge *is, int32_t kind, const byte *payload, int32_t length, int32_t answer)
 {
@@ -498,13 +624,16 @@ static void after_record(const Gauge *is, int32_t kind, const byte *payload, int
     saw_flags(was, is);
     if (was->accepted && (answer != 0 || kind != 4))
         saw_class(kind, answer, 1, 0, false);
+    saw_late(was, kind, payload, length, answer);
+    refused_since = refused_since || answer == 11;
     if (answer != 0)
         return;
     switch (kind) {
     case 1: saw_power_on(was, is); break;
     case 2: saw_reading(was, is, little_endian_signed_32(payload), little_endian_signed_32(payload + 4)); break;
-    case 3: saw_conversion(was, is, little_endian_signed_32(payload)); break;
+    case 3: saw_conversion(was, is, little_endian_signed_32(payload)); conversions_since++; break;
     case 4: saw_transaction(was, is, payload + 1, length - 1, payload[0]); break;
+    case 6: saw_tick(was, tick_of(payload)); saw_sample(was, is, little_endian_signed_32(payload)); break;
     default: saw_power_on(was, is); break;
     }
 }

@@ -47,6 +47,7 @@ typedef struct {
     int32_t currents, previous_current;               /* how many of the last two CURRENTs exist; the one before CURRENT */
     int32_t run, run_sum;                             /* conversions since the last average, and the sum of their c */
     bool read_since_average; int32_t lowest_voltage;  /* of the readings since the last average */
+    bool had_sample; int32_t last_tick;               /* of the last accepted sample since power-on */
 } Gauge;
 
 #ifdef REACHED
@@ -137,6 +138,8 @@ static void power_on(Gauge *g)
     g->iavg = g->temperature = g->voltage = g->current = 0;
     g->chgtf = g->aef = g->sef = g->learnf = g->lock = false;
     g->porf = true;
+    g->had_sample = false;
+    g->last_tick = 0;
     g->had_reading = g->had_average = g->read_since_average = false;
     g->currents = g->previous_current = g->run = g->run_sum = g->lowest_voltage = 0;
 }
@@ -253,6 +256,42 @@ static void conversion(Gauge *g, int32_t raw)
     g->run_sum += c;
     if (g->run == 8)
         average_formed(g);
+}
+
+/* ---- Sample ---- */
+
+enum { SAMPLE_BYTES = 6, LONGEST_SAMPLE = 64 };
+
+/* The tick of a sample's payload, after its raw current (W5.1). */
+static int32_t tick_of(const byte *payload)
+{
+    return little_endian_16(payload + 4);
+}
+
+/* W5.3 and W5.4: how many intervals a sample with this tick stands for. */
+static int32_t elapsed(const Gauge *g, int32_t tick)
+{
+    return g->had_sample ? (tick + 65536 - g->last_tick) % 65536 : 1;
+}
+
+/* W5.5. */
+static bool tick_fits(const Gauge *g, int32_t tick)
+{
+    int32_t intervals = elapsed(g, tick);
+    return 1 <= intervals && intervals <= LONGEST_SAMPLE;
+}
+
+/* W5.7 and W5.8. */
+static void sample(Gauge *g, int32_t raw, int32_t tick)
+{
+    int32_t intervals = elapsed(g, tick);
+    for (int32_t i = 0; i < intervals; i++) {
+        WATCH(before_interval(g));
+        conversion(g, raw);
+        WATCH(after_interval(g));
+    }
+    g->had_sample = true;
+    g->last_tick = tick;
 }
 
 /* ---- Reading ---- */
@@ -483,6 +522,7 @@ static bool length_fits(int32_t kind, int32_t length)
     case 2: return length == 8;
     case 3: return length == 4;
     case 4: return 1 <= length && length <= 65;
+    case 6: return length == SAMPLE_BYTES;
     default: return length == 0;
     }
 }
@@ -494,10 +534,10 @@ static bool breakpoints_ordered(const byte *image)
     return low <= middle && middle <= high && high <= 40;
 }
 
-/* Answers 3 to 10, the first that applies, or 0. */
+/* Answers 3 to 11, the first that applies, or 0. */
 static int32_t judged(const Gauge *g, int32_t room_left, int32_t kind, const byte *payload, int32_t length)
 {
-    if (kind < 1 || kind > 5)
+    if (kind < 1 || kind > 6)
         return 3;
     if (!length_fits(kind, length))
         return 4;
@@ -509,6 +549,8 @@ static int32_t judged(const Gauge *g, int32_t room_left, int32_t kind, const byt
         return 7;
     if (kind == 1 && !breakpoints_ordered(payload))
         return 10;
+    if (kind == 6 && !tick_fits(g, tick_of(payload)))
+        return 11;
     if (kind == 4 && payload[0] > READ_LIMIT)
         return 8;
     if (kind == 4 && payload[0] > room_left)
@@ -525,9 +567,9 @@ static void dump(const Gauge *g)
            (int)g->temperature, (int)g->voltage, (int)g->current, g->chgtf ? "CHGTF " : "", g->aef ? "AEF " : "",
            g->sef ? "SEF " : "", g->learnf ? "LEARNF " : "", g->porf ? "PORF " : "", g->lock ? "LOCK " : "",
            g->bl1 ? "BL1 " : "", g->bl0 ? "BL0 " : "");
-    printf(" reading %d average %d currents %d previous %d run %d sum %d since %d lowest %d | shadow ", g->had_reading,
+    printf(" reading %d average %d currents %d previous %d run %d sum %d since %d lowest %d tick %d | shadow ", g->had_reading,
            g->had_average, (int)g->currents, (int)g->previous_current, (int)g->run, (int)g->run_sum,
-           g->read_since_average, (int)g->lowest_voltage);
+           g->read_since_average, (int)g->lowest_voltage, g->had_sample ? (int)g->last_tick : -1);
     for (int32_t i = 0x20; i <= 0x7F; i++)
         if (in_block_0(i) || in_block_1(i))
             printf("%02x", g->shadow[i]);
@@ -561,6 +603,7 @@ static int32_t event(Gauge *g, int32_t kind, const byte *payload, int32_t length
     case 2: reading(g, little_endian_signed_32(payload), little_endian_signed_32(payload + 4)); return 0;
     case 3: conversion(g, little_endian_signed_32(payload)); return 0;
     case 4: transaction(g, payload + 1, length - 1, reply, payload[0]); return payload[0];
+    case 6: sample(g, little_endian_signed_32(payload), tick_of(payload)); return 0;
     default: power_on(g); return 0;
     }
 }

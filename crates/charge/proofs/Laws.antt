@@ -17,7 +17,7 @@ pub with-as-wf : (g : Charge) (aging : ℕ) → 63 ≤ aging → aging ≤ 128 �
 with-as-wf g aging p q w = record { count = w .count; age = w .age; low = p; high = q }
 
 -- one conversion takes at most 9 steps off ACR
-fall-small : (count counted ab : ℕ) → count < 2 ^ 28 → fallOf count (grownOf count counted ab) ≤ 9
+pub fall-small : (count counted ab : ℕ) → count < 2 ^ 28 → fallOf count (grownOf count counted ab) ≤ 9
 fall-small count counted ab h = omega arith
 
 -- what holds of the age counter and AS

@@ -2,6 +2,7 @@
 use mathlib.Core.Path.{refl, sym, _∙_}
 use Rattle.once.specs.Once.{Once}
 use Rattle.charge.proofs.current
+use Rattle.charge.proofs.blanked
 use Rattle.charge.proofs.Trace.traced
 use Rattle.charge.proofs.Charge.counted
 use Rattle.charge.proofs.Charge.set
@@ -11,6 +12,9 @@ use Rattle.charge.proofs.share_up
 
 pub current-once : Once current.ended current.Reads.Pre current.Reads.Learnt
 current-once κs a r r′ w w′ p h h′ = (h ∙ sym h′, refl)
+
+pub blanked-once : Once blanked.ended blanked.Reads.Pre blanked.Reads.Learnt
+blanked-once κs a r r′ w w′ p h h′ = (h ∙ sym h′, refl)
 
 pub traced-once : Once traced.ended traced.Reads.Pre traced.Reads.Learnt
 traced-once κs a r r′ w w′ p h h′ = (h ∙ sym h′, refl)

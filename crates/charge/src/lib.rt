@@ -36,7 +36,7 @@ pub fn current(raw: u32, cob: u8) -> u16
 }
 
 // Step 2.
-fn blanked(nben: bool, c: u16) -> u16
+pub fn blanked(nben: bool, c: u16) -> u16
     ensures { λ r. ⌜ r ≡ blankedOf nben c ⌝ }
 {
     let zero = numbers::ZERO15;

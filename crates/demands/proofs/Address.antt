@@ -11,12 +11,12 @@ use Rattle.gauge.proofs.Kept.{address-kept}
 use Rattle.events.specs.declared.Event.the-variants.{Image, Change, Transact}
 use Rattle.events.specs.declared.Taken.{Taken}
 use Rattle.events.specs.declared.Taken.the-variants.{Run, Refused}
-use Rattle.events.specs.Record.{masterOf, takenOf, asksOf, fittedOf}
-use Rattle.events.proofs.Fits.{Taking, taking}
+use Rattle.events.specs.Record.{masterOf, takenOf, timedOf, asksOf, fittedOf}
+use Rattle.events.proofs.Fits.{Taking, timed-taking}
 use Rattle.runs.specs.Record.{Rec, whole, cut}
 use Rattle.runs.specs.Run.{endAfter}
 use Rattle.steps.specs.declared.Session.{Session}
-use Rattle.steps.specs.Step.{loadedWith, takenDid, didOf}
+use Rattle.steps.specs.Step.{loadedWith, lastTick, takenDid, didOf}
 use Rattle.demands.specs.Class.{classOf}
 use Rattle.demands.proofs.Choice.{contrary}
 
@@ -50,7 +50,7 @@ module _ (g : Gauge) where
 
   did-stays : (room : ℕ) (r : Rec) → Stays address (didOf (loadedWith g) room r .state)
   unfolding didOf
-  did-stays room (whole kind p) = fitted-stays room p (takenOf kind true p) (taking true p kind)
+  did-stays room (whole kind p) = fitted-stays room p (timedOf (lastTick (loadedWith g)) (takenOf kind true p)) (timed-taking true p (lastTick (loadedWith g)) kind)
   did-stays room cut = record { loaded = refl; owned = refl }
 
 pub end-stays : (g : Gauge) (room : ℕ) (rs : List Rec) → Stays (g .common .address) (endAfter didOf (loadedWith g) room rs)

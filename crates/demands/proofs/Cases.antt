@@ -59,14 +59,16 @@ cases =
     ∷ (skips 2 0x99 0x20 [], gauging)
     ∷ (whole 4 (2 ∷ 0xcc ∷ 0x69 ∷ []), gauging)
     ∷ (whole 4 (2 ∷ []), gauging)
-    -- readings and conversions; power-on
+    -- readings, conversions and samples; power-on
     ∷ (whole 2 (replicate 8 0), gauging)
     ∷ (whole 3 (replicate 4 0), gauging)
+    ∷ (whole 6 (replicate 6 0), gauging)
     ∷ (whole 5 [], fence)
     -- refused with 3, with 4 (whatever the kind), and with 8; an image, refused with 5; a cut record
     ∷ (whole 0x63 [], gauging)
     ∷ (whole 1 [], gauging)
     ∷ (whole 5 (0 ∷ []), gauging)
+    ∷ (whole 6 (replicate 7 0), gauging)
     ∷ (skips 65 0x69 0x20 [], gauging)
     ∷ (whole 1 (replicate 60 0), fence)
     ∷ (cut, fence)

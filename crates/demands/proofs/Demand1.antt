@@ -7,16 +7,16 @@ use native.Mathlib.Omega.{arith}
 use lib.Dec.{ltb}
 use Rattle.numbers.proofs.Bounds.{picked}
 use Rattle.events.specs.declared.Refusal.{Refusal}
-use Rattle.events.specs.declared.Refusal.the-variants.{Kind, Size, Order, Address, Locks, Count, Room, Breaks}
+use Rattle.events.specs.declared.Refusal.the-variants.{Kind, Size, Order, Address, Locks, Count, Room, Breaks, Interval}
 use Rattle.events.specs.declared.Event.{Event}
 use Rattle.events.specs.declared.Event.the-variants.{Image, Change, Transact}
 use Rattle.events.specs.declared.Taken.{Taken}
 use Rattle.events.specs.declared.Taken.the-variants.{Run, Refused}
-use Rattle.events.specs.Record.{refusalNumber, takenOf, asksOf, fittedOf}
+use Rattle.events.specs.Record.{refusalNumber, takenOf, timedOf, asksOf, fittedOf}
 use Rattle.runs.specs.Record.{Rec, whole, cut}
 use Rattle.runs.specs.Run.{Did}
 use Rattle.steps.specs.declared.Session.{Session}
-use Rattle.steps.specs.Step.{eventDid, takenDid, didOf}
+use Rattle.steps.specs.Step.{lastTick, eventDid, takenDid, didOf}
 use Rattle.records.specs.Run.{emptyOf}
 use Rattle.demands.specs.Demand1.{Numbered, Demand1}
 use Rattle.demands.proofs.Every.{Lawful, run-sound}
@@ -30,6 +30,7 @@ refused Locks = inr (omega arith, omega arith)
 refused Count = inr (omega arith, omega arith)
 refused Room = inr (omega arith, omega arith)
 refused Breaks = inr (omega arith, omega arith)
+refused Interval = inr (omega arith, omega arith)
 
 record Judged (σ : Session) (d : Did Session) : Type 0 where
   number : Numbered (d .answer)
@@ -54,7 +55,7 @@ module _ (σ : Session) (room : ℕ) where
 
   whole-judged : (kind : ℕ) (p : List ℕ) → Judged σ (didOf σ room (whole kind p))
   unfolding didOf
-  whole-judged kind p = taken-judged p (takenOf kind (σ .loaded) p)
+  whole-judged kind p = taken-judged p (timedOf (lastTick σ) (takenOf kind (σ .loaded) p))
 
   still : (r : Rec) → (didOf σ room r .answer ≡ 0 → ⊥) → (didOf σ room r .state ≡ σ) × (didOf σ room r .reply ≡ [])
   unfolding didOf

@@ -12,6 +12,8 @@ use Rattle.meter.specs.declared.Meter.{Meter}
 use Rattle.params.specs.Params.{rnaopOf}
 use Rattle.meter.specs.Convert.{convertOf}
 use Rattle.meter.specs.Read.{readOf}
+use Rattle.samples.specs.Samples.{sampleOf}
+use Rattle.ticks.specs.Ticks.{timelyOf}
 use Rattle.label.specs.declared.Common.{Common}
 use Rattle.label.specs.declared.Label.{Label}
 use Rattle.label.specs.Label.{inLabel, labelByte, labelWrittenOf, labelCopiedOf, labelRecalledOf}
@@ -28,12 +30,13 @@ use Rattle.bus.specs.declared.Transaction.{Transaction}
 use Rattle.gauge.specs.declared.Gauge.{Gauge}
 use Rattle.replies.specs.declared.Source.{Source}
 use Rattle.replies.specs.declared.Source.the-variants.{Address, Bytes, Idle}
-use Rattle.gauge.specs.Gauge.{conversionOf, readingOf, writtenOf, copiedOf, recalledOf, lockedOf}
+use Rattle.gauge.specs.Gauge.{conversionOf, samplingOf, readingOf, writtenOf, copiedOf, recalledOf, lockedOf}
 use Rattle.replies.specs.Reply.{readByte, netByte, selectedOf, readSourceOf, netSourceOf, sourceByte, listed}
 use Rattle.gauge.specs.Act.{ranBy, ranOf, actOf, replyOf}
 use Rattle.events.specs.declared.Change.{Change}
 use Rattle.events.specs.declared.Change.the-variants as change
 use Rattle.events.specs.declared.Event.the-variants.{Image, Change as Changed, Transact}
+use Rattle.events.specs.declared.Refusal.the-variants.{Interval}
 use Rattle.events.specs.declared.Taken.{Taken}
 use Rattle.events.specs.declared.Taken.the-variants.{Run, Refused}
 use Rattle.runs.specs.Record.{Rec, whole, cut}
@@ -45,7 +48,7 @@ use Rattle.demands.specs.Sections.{Class, labelling, gauging, fence}
 use Rattle.demands.specs.Class.{touchedBy, touchedOf, touchedClass, changeClass, takenClass, classOf}
 use Rattle.demands.proofs.Choice.{contrary, pick-of}
 use Rattle.demands.proofs.Touched.{RunsIn, class-labels, class-gauges, runs-label, runs-meter, runs-within, runs-beside, block-label, block-meter}
-use Rattle.demands.proofs.Room.{freeOf}
+use Rattle.demands.proofs.Room.{timedDid, freeOf}
 
 -- The form, of either part
 
@@ -199,10 +202,11 @@ module _ (c : Common) where
   no-label : {A : Type 0} (x : Change) → changeClass x ≡ labelling → A
   no-label (change.Reading volt temp) e = contrary cc
   no-label (change.Conversion raw) e = contrary cc
+  no-label (change.Sample raw tick) e = contrary cc
   no-label change.PowerOn e = contrary cc
 
   label-taken : (l : Label) (p : List ℕ) (t : Taken) → takenClass (c .address) p t ≡ labelling
-      → Form (labelled c) l (λ g. takenDid (loadedWith g) p t)
+      → Form (labelled c) l (timedDid p t)
   label-taken l p (Run Image) e = contrary cc
   label-taken l p (Run (Changed x)) e = no-label x e
   label-taken l p (Run (Transact t)) e =
@@ -214,14 +218,22 @@ module _ (c : Common) where
       refused true f = contrary cc
       refused false f = contrary cc
 
-  change-form : (m : Meter) (p : List ℕ) (x : Change) → changeClass x ≡ gauging → Form (metered c) m (λ g. takenDid (loadedWith g) p (Run (Changed x)))
+  -- a sample: the tick is the meter's
+  sample-form : (m : Meter) (p : List ℕ) (raw tick : ℕ) (timely : Bool)
+      → Form (metered c) m (λ g. takenDid (loadedWith g) p (pick timely (Run (Changed (change.Sample raw tick))) (Refused Interval)))
+  unfolding samplingOf
+  sample-form m p raw tick true = record { part = sampleOf m raw tick; answer = 0; reply = []; form = λ l. refl }
+  sample-form m p raw tick false = record { part = m; answer = refusalNumber Interval; reply = []; form = λ l. refl }
+
+  change-form : (m : Meter) (p : List ℕ) (x : Change) → changeClass x ≡ gauging → Form (metered c) m (timedDid p (Run (Changed x)))
   unfolding readingOf conversionOf
   change-form m p (change.Reading volt temp) e = record { part = readOf m volt temp; answer = 0; reply = []; form = λ l. refl }
   change-form m p (change.Conversion raw) e = record { part = convertOf m raw; answer = 0; reply = []; form = λ l. refl }
+  change-form m p (change.Sample raw tick) e = same-form (λ l. refl) (sample-form m p raw tick (timelyOf (m .flow .tick) tick))
   change-form m p change.PowerOn e = contrary cc
 
   gauge-taken : (m : Meter) (p : List ℕ) (t : Taken) → takenClass (c .address) p t ≡ gauging
-      → Form (metered c) m (λ g. takenDid (loadedWith g) p t)
+      → Form (metered c) m (timedDid p t)
   gauge-taken m p (Run Image) e = contrary cc
   gauge-taken m p (Run (Changed x)) e = change-form m p x e
   gauge-taken m p (Run (Transact t)) e =
@@ -231,7 +243,7 @@ module _ (c : Common) where
 
   -- a cut record is a fence
   free-form : {A B : Type 0} {make : A → B → Gauge} {x : A} (k : Class) → (fence ≡ k → ⊥)
-      → ((p : List ℕ) (t : Taken) → takenClass (c .address) p t ≡ k → Form make x (λ g. takenDid (loadedWith g) p t))
+      → ((p : List ℕ) (t : Taken) → takenClass (c .address) p t ≡ k → Form make x (timedDid p t))
       → (r : Rec) → classOf (c .address) r ≡ k → Form make x (λ g. freeOf g r)
   free-form k none taken (whole kind p) e = taken p (takenOf kind true p) e
   free-form k none taken cut e = absurd (none e)

@@ -15,3 +15,4 @@ pub mod Programming
 pub mod Functions
 pub mod Cases
 pub mod Example
+pub mod Slow

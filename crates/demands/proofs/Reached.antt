@@ -10,12 +10,12 @@ use Rattle.pack.specs.Reach.{Reached, accepted, changed, acted-on}
 use Rattle.events.specs.declared.Event.the-variants.{Image, Change, Transact}
 use Rattle.events.specs.declared.Taken.{Taken}
 use Rattle.events.specs.declared.Taken.the-variants.{Run, Refused}
-use Rattle.events.specs.Record.{masterOf, takenOf, asksOf, fittedOf}
-use Rattle.events.proofs.Fits.{Taking, taking}
+use Rattle.events.specs.Record.{masterOf, takenOf, timedOf, asksOf, fittedOf}
+use Rattle.events.proofs.Fits.{Taking, timed-taking}
 use Rattle.runs.specs.Record.{Rec, whole, cut}
 use Rattle.runs.specs.Run.{endAfter}
 use Rattle.steps.specs.declared.Session.{Session}
-use Rattle.steps.specs.Step.{takenDid, didOf}
+use Rattle.steps.specs.Step.{lastTick, takenDid, didOf}
 
 abbrev pub Loaded : Session → Type 0
 Loaded σ = σ .loaded ≡ true → Reached (σ .gauge)
@@ -34,7 +34,7 @@ module _ (σ : Session) (room : ℕ) (g : Loaded σ) where
 
   did-reached : (r : Rec) → Loaded (didOf σ room r .state)
   unfolding didOf
-  did-reached (whole kind p) = fitted-reached p (takenOf kind (σ .loaded) p) (taking (σ .loaded) p kind)
+  did-reached (whole kind p) = fitted-reached p (timedOf (lastTick σ) (takenOf kind (σ .loaded) p)) (timed-taking (σ .loaded) p (lastTick σ) kind)
   did-reached cut = g
 
 pub end-reached : (σ : Session) (room : ℕ) (rs : List Rec) → Loaded σ → Loaded (endAfter didOf σ room rs)

@@ -1,21 +1,23 @@
 -- With reply room for all that is asked no record is refused for room; so a run is one of gauges, without room.
-use mathlib.Core.Path.{_≡_, refl, ap}
+use mathlib.Core.Path.{_≡_, refl, ap, _∙_}
 use mathlib.Core.Bool.{true}
 use mathlib.Core.List.{List, [], _∷_, zip, zipWith}
 use Prim.Native.Nat.{ℕ, _-_, _≤_}
 use native.Mathlib.Omega.{arith}
 use borrow.Author.Tests.{le-ltb}
 use lib.ListN.{length}
+use Rattle.numbers.proofs.Bounds.{picked}
+use Rattle.ticks.specs.declared.Tick.{Tick}
 use Rattle.gauge.specs.declared.Gauge.{Gauge}
 use Rattle.events.specs.declared.Event.the-variants.{Image, Change, Transact}
 use Rattle.events.specs.declared.Taken.{Taken}
 use Rattle.events.specs.declared.Taken.the-variants.{Run, Refused}
-use Rattle.events.specs.Record.{masterOf, takenOf, asksOf, fittedOf}
-use Rattle.events.proofs.Fits.{taking}
+use Rattle.events.specs.Record.{masterOf, takenOf, changeTimely, timedOf, asksOf, fittedOf}
+use Rattle.events.proofs.Fits.{timed-taking}
 use Rattle.runs.specs.Record.{Rec, whole, cut}
 use Rattle.runs.specs.Run.{Did, silently, Line, lineOf, linesAfter, endAfter}
 use Rattle.steps.specs.declared.Session.{Session}
-use Rattle.steps.specs.Step.{loadedWith, takenDid, didOf}
+use Rattle.steps.specs.Step.{loadedWith, lastTick, takenDid, didOf}
 use Rattle.steps.proofs.Steps.{reply-length}
 use Rattle.demands.specs.Demand3.{takenAsks, recAsks, asksAll}
 use Rattle.demands.proofs.Mix.{endFrom, gotFrom}
@@ -23,18 +25,29 @@ use Rattle.demands.proofs.Address.{Stays, taken-stays}
 
 -- One record
 
--- what a record does where there is room
+-- what a record does where there is room: what the tick decides is still asked
+abbrev pub timedDid : List ℕ → Taken → Gauge → Did Session
+timedDid p t g = takenDid (loadedWith g) p (timedOf (lastTick (loadedWith g)) t)
+
 abbrev pub freeOf : Gauge → Rec → Did Session
-freeOf g (whole kind p) = takenDid (loadedWith g) p (takenOf kind true p)
+freeOf g (whole kind p) = timedDid p (takenOf kind true p) g
 freeOf g cut = silently (loadedWith g) 2
 
 taken-room : (room : ℕ) (t : Taken) → takenAsks t ≤ room → fittedOf room t ≡ t
 taken-room room (Run e) h = rw (le-ltb room (asksOf e) h) refl
 taken-room room (Refused r) h = refl
 
+timed-asks : (last : Tick) (t : Taken) → takenAsks (timedOf last t) ≡ takenAsks t
+timed-asks last (Run Image) = refl
+timed-asks last (Run (Change c)) = picked (λ (t : Taken). takenAsks t ≡ 0) (changeTimely last c) _ _ (λ timely. refl) (λ other. refl)
+timed-asks last (Run (Transact t)) = refl
+timed-asks last (Refused r) = refl
+
 did-room : (g : Gauge) (room : ℕ) (r : Rec) → recAsks r ≤ room → didOf (loadedWith g) room r ≡ freeOf g r
 unfolding didOf
-did-room g room (whole kind p) h = ap (takenDid (loadedWith g) p) (taken-room room (takenOf kind true p) h)
+did-room g room (whole kind p) h =
+    let t = timedOf (lastTick (loadedWith g)) (takenOf kind true p) in
+    ap (takenDid (loadedWith g) p) (taken-room room t (rw (timed-asks (lastTick (loadedWith g)) (takenOf kind true p)) h))
 did-room g room cut h = refl
 
 taken-reply : (g : Gauge) (p : List ℕ) (t : Taken) → length (takenDid (loadedWith g) p t .reply) ≡ takenAsks t
@@ -44,12 +57,16 @@ taken-reply g p (Run (Transact t)) = reply-length g t (masterOf t p)
 taken-reply g p (Refused r) = refl
 
 free-reply : (g : Gauge) (r : Rec) → length (freeOf g r .reply) ≡ recAsks r
-free-reply g (whole kind p) = taken-reply g p (takenOf kind true p)
+free-reply g (whole kind p) =
+    let last = lastTick (loadedWith g) in
+    taken-reply g p (timedOf last (takenOf kind true p)) ∙ timed-asks last (takenOf kind true p)
 free-reply g cut = refl
 
 -- it leaves an image that was accepted, and the same address
 pub free-stays : (g : Gauge) (r : Rec) → Stays (g .common .address) (freeOf g r .state)
-free-stays g (whole kind p) = taken-stays g p (takenOf kind true p) (taking true p kind)
+free-stays g (whole kind p) =
+    let last = lastTick (loadedWith g) in
+    taken-stays g p (timedOf last (takenOf kind true p)) (timed-taking true p last kind)
 free-stays g cut = record { loaded = refl; owned = refl }
 
 -- A run of gauges

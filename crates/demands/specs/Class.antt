@@ -81,10 +81,11 @@ touchedClass command touched =
 
 -- ---- the class of a record
 
--- "Gauge event: a reading, a conversion, .."
+-- "Gauge event: a reading, a conversion, .."; a sample too, "refused with 11 too": by the tick, at which a class does not look
 abbrev pub changeClass : Change → Class
 changeClass (change.Reading volt temp) = gauging
 changeClass (change.Conversion raw) = gauging
+changeClass (change.Sample raw tick) = gauging
 changeClass change.PowerOn = fence
 
 abbrev pub eventClass : List ℕ → List ℕ → Event → Class

@@ -38,9 +38,9 @@ headersFrom zero (n ∷ m ∷ i ∷ j ∷ s) =
 abbrev pub headersOf : List ℕ → List Header
 headersOf s = headersFrom 0 s
 
--- "done", or one of 3 to 10, after which "the next record is taken"
+-- "done", or one of 3 to 11, after which "the next record is taken"
 abbrev pub Numbered : ℕ → Type 0
-Numbered answer = (answer ≡ 0) ⊎ ((3 ≤ answer) × (answer ≤ 10))
+Numbered answer = (answer ≡ 0) ⊎ ((3 ≤ answer) × (answer ≤ 11))
 
 -- one line for each header, in order. After 2 "the session stops"; 1 is the answer of no record; "an empty session has no answers"
 pub data Answered : List Header → List Line → Type 0 where

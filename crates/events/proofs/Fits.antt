@@ -1,6 +1,6 @@
--- What a record that is taken has: its time and a payload of its kind's size; and only a transaction asks room.
+-- What a record that is taken has: its time and a payload of its kind's size; and what the state decides of which kind.
 use mathlib.Core.Path.{_≡_, refl}
-use mathlib.Core.Bool.{Bool, true, false, not}
+use mathlib.Core.Bool.{Bool, true, false}
 use mathlib.Core.List.{List}
 use Prim.Native.Nat.{ℕ, _-_, _≤_, zero-le}
 use native.Mathlib.Omega.{arith}
@@ -9,18 +9,34 @@ use lib.Dec.{leb, eqb, ltb}
 use lib.ListN.{length, getD, drop}
 use Rattle.numbers.specs.Choice.{pick}
 use Rattle.numbers.proofs.Bounds.{picked, both-true}
+use Rattle.parts.specs.Parts.{pairAt}
+use Rattle.ticks.specs.declared.Tick.{Tick}
+use Rattle.ticks.specs.Ticks.{timelyOf}
 use Rattle.bus.specs.declared.Transaction.{Transaction}
 use Rattle.bus.specs.Ask.{askedOf}
 use Rattle.bus.proofs.Laws.{asked-placed}
 use Rattle.events.specs.declared.Kind.{Kind}
 use Rattle.events.specs.declared.Kind.the-variants as kind
+use Rattle.events.specs.declared.Refusal.{Refusal}
 use Rattle.events.specs.declared.Refusal.the-variants as refusal
 use Rattle.events.specs.declared.Event.{Event}
 use Rattle.events.specs.declared.Event.the-variants.{Image, Change, Transact}
 use Rattle.events.specs.declared.Taken.{Taken}
 use Rattle.events.specs.declared.Taken.the-variants.{Run, Refused}
 use Rattle.events.specs.Image.{imageSize, imageAddress, imageBreaks}
-use Rattle.events.specs.Record.{kindOf, sizedOf, addressedOf, lockableOf, orderedOf, judgedOf, transactionOf, takenBy, takenOf, fittedOf, Mastered}
+use Rattle.events.specs.Record.{kindOf, knownOf, sizedOf, dueOf, addressedOf, lockableOf, orderedOf, judgedOf, transactionOf, eventOf, takenBy, takenOf, eventTimely, timedOf, fittedOf, Mastered}
+
+-- ---- what is taken: refused, or the event of its kind's size at its time
+
+module _ (loaded : Bool) (p : List ℕ) (P : Taken → Type 0) where
+  taken-has : ((r : Refusal) → P (Refused r)) → (k : Kind) → (sizedOf k (length p) ≡ true → dueOf k loaded ≡ true → P (eventOf k p))
+      → P (takenBy k loaded p)
+  taken-has none k h =
+      picked P (knownOf k) _ _
+      (λ known. picked P (sizedOf k (length p)) _ _
+      (λ sized. picked P (dueOf k loaded) _ _ (λ due. h sized due) (λ other. none refusal.Order))
+      (λ other. none refusal.Size))
+      (λ other. none refusal.Kind)
 
 -- ---- an image is taken where none was accepted before, and only one that the judge accepts; any other event after one was
 
@@ -65,30 +81,27 @@ module _ (loaded : Bool) (p : List ℕ) where
   transaction-taking : 1 ≤ length p → loaded ≡ true → Taking loaded p (transactionOf p)
   transaction-taking h l = picked (Taking loaded p) (leb (getD p 0 0) 64) _ _ (λ few. (l, mastered h)) (λ many. tt)
 
-  by-taking : (k : Kind) → Taking loaded p (takenBy k loaded p)
-  by-taking kind.Image =
-      picked (Taking loaded p) (eqb (length p) imageSize) _ _
-      (λ sized. picked (Taking loaded p) (not loaded) _ _
-      (λ due. image-taking (judgedOf p) (verdict p) refl (not-true loaded due) (eqb-true (length p) imageSize sized))
-      (λ other. tt))
-      (λ other. tt)
-  by-taking kind.Reading =
-      picked (Taking loaded p) (eqb (length p) 8) _ _ (λ sized. picked (Taking loaded p) loaded _ _ (λ due. due) (λ other. tt)) (λ other. tt)
-  by-taking kind.Conversion =
-      picked (Taking loaded p) (eqb (length p) 4) _ _ (λ sized. picked (Taking loaded p) loaded _ _ (λ due. due) (λ other. tt)) (λ other. tt)
-  by-taking kind.Transaction =
-      picked (Taking loaded p) (sizedOf kind.Transaction (length p)) _ _
-      (λ sized. picked (Taking loaded p) loaded _ _
-      (λ due. transaction-taking (leb-true 1 (length p) (both-true (leb 1 (length p)) (leb (length p) 65) sized .0)) due)
-      (λ other. tt))
-      (λ other. tt)
-  by-taking kind.PowerOn =
-      picked (Taking loaded p) (eqb (length p) 0) _ _ (λ sized. picked (Taking loaded p) loaded _ _ (λ due. due) (λ other. tt)) (λ other. tt)
-  by-taking kind.Unknown = tt
+  event-taking : (k : Kind) → sizedOf k (length p) ≡ true → dueOf k loaded ≡ true → Taking loaded p (eventOf k p)
+  event-taking kind.Image sized due =
+      image-taking (judgedOf p) (verdict p) refl (not-true loaded due) (eqb-true (length p) imageSize sized)
+  event-taking kind.Reading sized due = due
+  event-taking kind.Conversion sized due = due
+  event-taking kind.Transaction sized due = transaction-taking (leb-true 1 (length p) (both-true (leb 1 (length p)) (leb (length p) 65) sized .0)) due
+  event-taking kind.PowerOn sized due = due
+  event-taking kind.Sample sized due = due
+  event-taking kind.Unknown sized due = tt
 
   pub taking : (n : ℕ) → Taking loaded p (takenOf n loaded p)
   unfolding takenOf
-  taking n = by-taking (kindOf n)
+  taking n = taken-has loaded p (Taking loaded p) (λ r. tt) (kindOf n) (event-taking (kindOf n))
+
+  -- and where the tick is asked too
+  pub timed-taking : (last : Tick) (n : ℕ) → Taking loaded p (timedOf last (takenOf n loaded p))
+  timed-taking last n = timed (takenOf n loaded p) (taking n)
+    where
+      timed : (t : Taken) → Taking loaded p t → Taking loaded p (timedOf last t)
+      timed (Run e) h = picked (Taking loaded p) (eventTimely last e) (Run e) _ (λ timely. h) (λ other. tt)
+      timed (Refused r) h = tt
 
 -- an image that the judge accepts has its size
 pub judged-sized : (p : List ℕ) {e : Event} → judgedOf p ≡ Run e → length p ≡ imageSize
@@ -99,49 +112,49 @@ judged-sized p {e} h = by (eqb (length p) imageSize) refl
     by true s = eqb-true (length p) imageSize s
     by false s = let z : _≡_ {A = ℕ} 0 1 = cc (rw s at h) in absurd (omega arith)
 
--- ---- only a transaction asks room
+-- ---- the state decides of a transaction by the room, of a sample by the tick, and of nothing else
 
-abbrev pub Silent : Kind → Type 0
-Silent kind.Image = Unit
-Silent kind.Reading = Unit
-Silent kind.Conversion = Unit
-Silent kind.Transaction = ⊥
-Silent kind.PowerOn = Unit
-Silent kind.Unknown = Unit
+abbrev pub Stateless : Kind → Type 0
+Stateless kind.Image = Unit
+Stateless kind.Reading = Unit
+Stateless kind.Conversion = Unit
+Stateless kind.Transaction = ⊥
+Stateless kind.PowerOn = Unit
+Stateless kind.Sample = ⊥
+Stateless kind.Unknown = Unit
 
-abbrev Still : Taken → Type 0
-Still (Run Image) = Unit
-Still (Run (Change c)) = Unit
-Still (Run (Transact t)) = ⊥
-Still (Refused r) = Unit
+module _ (last : Tick) (loaded : Bool) (p : List ℕ) where
+  pub transaction-timely : takenBy kind.Transaction loaded p ≡ timedOf last (takenBy kind.Transaction loaded p)
+  transaction-timely =
+      let Timely : Taken → Type 0 = λ t. t ≡ timedOf last t in
+      taken-has loaded p Timely (λ r. refl) kind.Transaction (λ sized due. picked Timely (leb (getD p 0 0) 64) _ _ (λ few. refl) (λ many. refl))
 
-module _ (room : ℕ) where
-  no-room : ltb room 0 ≡ false
-  no-room = le-ltb room 0 zero-le
+  module _ (room : ℕ) where
+    abbrev Passes : Taken → Type 0
+    Passes t = t ≡ fittedOf room (timedOf last t)
 
-  still-fits : (t : Taken) → Still t → t ≡ fittedOf room t
-  still-fits (Run Image) h = rw no-room refl
-  still-fits (Run (Change c)) h = rw no-room refl
-  still-fits (Run (Transact t)) h = absurd h
-  still-fits (Refused r) h = refl
+    no-room : ltb room 0 ≡ false
+    no-room = le-ltb room 0 zero-le
 
-  verdict-still : (t : Taken) → Verdict t → Still t
-  verdict-still (Run Image) v = tt
-  verdict-still (Run (Change c)) v = tt
-  verdict-still (Run (Transact t)) v = v
-  verdict-still (Refused r) v = tt
+    verdict-passes : (t : Taken) → Verdict t → Passes t
+    verdict-passes (Run Image) v = rw no-room refl
+    verdict-passes (Run (Change c)) v = absurd v
+    verdict-passes (Run (Transact t)) v = absurd v
+    verdict-passes (Refused r) v = refl
 
-  module _ (loaded : Bool) (p : List ℕ) where
-    -- what is taken at its size and its time, or refused
-    in-time : (sized due : Bool) (t : Taken) → Still t → Still (pick sized (pick due t (Refused refusal.Order)) (Refused refusal.Size))
-    in-time true true t h = h
-    in-time true false t h = tt
-    in-time false due t h = tt
+    event-passes : (k : Kind) → Stateless k → Passes (eventOf k p)
+    event-passes kind.Image h = verdict-passes (judgedOf p) (verdict p)
+    event-passes kind.Reading h = rw no-room refl
+    event-passes kind.Conversion h = rw no-room refl
+    event-passes kind.Transaction h = absurd h
+    event-passes kind.PowerOn h = rw no-room refl
+    event-passes kind.Sample h = absurd h
+    event-passes kind.Unknown h = refl
 
-    pub asks-nothing : (k : Kind) → Silent k → takenBy k loaded p ≡ fittedOf room (takenBy k loaded p)
-    asks-nothing kind.Image h = still-fits _ (in-time (sizedOf kind.Image (length p)) (not loaded) _ (verdict-still (judgedOf p) (verdict p)))
-    asks-nothing kind.Reading h = still-fits _ (in-time (sizedOf kind.Reading (length p)) loaded _ tt)
-    asks-nothing kind.Conversion h = still-fits _ (in-time (sizedOf kind.Conversion (length p)) loaded _ tt)
-    asks-nothing kind.Transaction h = absurd h
-    asks-nothing kind.PowerOn h = still-fits _ (in-time (sizedOf kind.PowerOn (length p)) loaded _ tt)
-    asks-nothing kind.Unknown h = refl
+    pub passes : (k : Kind) → Stateless k → Passes (takenBy k loaded p)
+    passes k h = taken-has loaded p Passes (λ r. refl) k (λ sized due. event-passes k h)
+
+    pub sample-fits : timedOf last (takenBy kind.Sample loaded p) ≡ fittedOf room (timedOf last (takenBy kind.Sample loaded p))
+    sample-fits =
+        taken-has loaded p (λ t. timedOf last t ≡ fittedOf room (timedOf last t)) (λ r. refl) kind.Sample
+        (λ sized due. picked (λ t. t ≡ fittedOf room t) (timelyOf last (pairAt p 4)) _ _ (λ few. rw no-room refl) (λ many. refl))

@@ -7,7 +7,9 @@ use lib.Dec.{ltb, leb, eqb}
 use lib.ListN.{length, getD, drop}
 use Rattle.numbers.specs.Choice.{pick, both}
 use Rattle.numbers.specs.Offset.{zeroAt, offset32Of}
-use Rattle.parts.specs.Parts.{part, quadAt}
+use Rattle.parts.specs.Parts.{part, pairAt, quadAt}
+use Rattle.ticks.specs.declared.Tick.{Tick}
+use Rattle.ticks.specs.Ticks.{timelyOf}
 use Rattle.crc.specs.Crc.{crcOf}
 use Rattle.params.specs.declared.Breaks.{Breaks}
 use Rattle.bus.specs.declared.Transaction.{Transaction}
@@ -16,6 +18,7 @@ use Rattle.events.specs.declared.Kind.{Kind}
 use Rattle.events.specs.declared.Kind.the-variants as kind
 use Rattle.events.specs.declared.Refusal.{Refusal}
 use Rattle.events.specs.declared.Refusal.the-variants as refusal
+use Rattle.events.specs.declared.Change.{Change as Changes}
 use Rattle.events.specs.declared.Change.the-variants as change
 use Rattle.events.specs.declared.Event.{Event}
 use Rattle.events.specs.declared.Event.the-variants.{Image, Change, Transact}
@@ -34,6 +37,7 @@ refusalNumber refusal.Locks = 7
 refusalNumber refusal.Count = 8
 refusalNumber refusal.Room = 9
 refusalNumber refusal.Breaks = 10
+refusalNumber refusal.Interval = 11
 
 abbrev pub numberOf : Taken → ℕ
 numberOf (Run e) = 0
@@ -47,24 +51,27 @@ kindOf n =
     (pick (eqb n 2) kind.Reading
     (pick (eqb n 3) kind.Conversion
     (pick (eqb n 4) kind.Transaction
-    (pick (eqb n 5) kind.PowerOn kind.Unknown))))
+    (pick (eqb n 5) kind.PowerOn
+    (pick (eqb n 6) kind.Sample kind.Unknown)))))
 
--- 3: kind not 1 to 5
+-- 3: kind not 1 to 6
 abbrev pub knownOf : Kind → Bool
 knownOf kind.Image = true
 knownOf kind.Reading = true
 knownOf kind.Conversion = true
 knownOf kind.Transaction = true
 knownOf kind.PowerOn = true
+knownOf kind.Sample = true
 knownOf kind.Unknown = false
 
--- 4: payload not 60, 8, 4, 1 to 65, 0 bytes for kinds 1 to 5
+-- 4: payload not 60, 8, 4, 1 to 65, 0, 6 bytes for kinds 1 to 6
 abbrev pub sizedOf : Kind → ℕ → Bool
 sizedOf kind.Image n = eqb n imageSize
 sizedOf kind.Reading n = eqb n 8
 sizedOf kind.Conversion n = eqb n 4
 sizedOf kind.Transaction n = both (leb 1 n) (leb n 65)
 sizedOf kind.PowerOn n = eqb n 0
+sizedOf kind.Sample n = eqb n 6
 sizedOf kind.Unknown n = false
 
 -- 5: an event before an image was accepted, or an image after one was
@@ -74,6 +81,7 @@ dueOf kind.Reading loaded = loaded
 dueOf kind.Conversion loaded = loaded
 dueOf kind.Transaction loaded = loaded
 dueOf kind.PowerOn loaded = loaded
+dueOf kind.Sample loaded = loaded
 dueOf kind.Unknown loaded = false
 
 -- ---- an image, judged by itself
@@ -122,6 +130,7 @@ eventOf kind.Reading p = Run (Change (change.Reading (countAt p 0) (countAt p 4)
 eventOf kind.Conversion p = Run (Change (change.Conversion (countAt p 0)))
 eventOf kind.Transaction p = transactionOf p
 eventOf kind.PowerOn p = Run (Change change.PowerOn)
+eventOf kind.Sample p = Run (Change (change.Sample (countAt p 0) (pairAt p 4)))
 eventOf kind.Unknown p = Refused refusal.Kind
 
 -- ---- the first refusal that applies, or the event
@@ -137,6 +146,25 @@ takenBy k loaded p =
 -- 3 to 8 and 10, by the record and whether an image was accepted
 unfoldable pub takenOf : ℕ → Bool → List ℕ → Taken
 takenOf n loaded p = takenBy (kindOf n) loaded p
+
+-- ---- the refusals that the state decides
+
+-- what comes at its time, by the tick that is remembered: a sample after 1 to 64 ticks, and anything else
+abbrev pub changeTimely : Tick → Changes → Bool
+changeTimely last (change.Reading volt temp) = true
+changeTimely last (change.Conversion raw) = true
+changeTimely last (change.Sample raw tick) = timelyOf last tick
+changeTimely last change.PowerOn = true
+
+abbrev pub eventTimely : Tick → Event → Bool
+eventTimely last Image = true
+eventTimely last (Change c) = changeTimely last c
+eventTimely last (Transact t) = true
+
+-- 11: the difference is 0 or above 64
+abbrev pub timedOf : Tick → Taken → Taken
+timedOf last (Run e) = pick (eventTimely last e) (Run e) (Refused refusal.Interval)
+timedOf last (Refused r) = Refused r
 
 -- how many bytes of the reply room an event asks
 abbrev pub asksOf : Event → ℕ

@@ -1,9 +1,10 @@
 // What a record asks: the event of a kind and a payload, or the first refusal that applies, and its number.
 use bus::Transaction;
 use params::Breaks;
+use ticks::Tick;
 ghost use mathlib.Core.Path.{_≡_};
 ghost use lib.ListN.{length};
-ghost use Rattle.events.specs.Record.{numberOf, kindOf, addressedOf, orderedOf, judgedOf, takenBy, takenOf, fittedOf};
+ghost use Rattle.events.specs.Record.{numberOf, kindOf, addressedOf, orderedOf, judgedOf, takenBy, takenOf, timedOf, fittedOf};
 
 // The pack image: its size, and where its parts stand.
 pub const IMAGE_SIZE: usize = 60;
@@ -27,6 +28,7 @@ pub enum Kind {
     Conversion,
     Transaction,
     PowerOn,
+    Sample,
     Unknown,
 }
 
@@ -40,12 +42,14 @@ pub enum Refusal {
     Count,
     Room,
     Breaks,
+    Interval,
 }
 
-// What changes a gauge and asks for no reply. Readings and conversions hold signed counts, as z + 2^31.
+// What changes a gauge and asks for no reply. Readings, conversions and samples hold signed counts, as z + 2^31; a sample its tick too.
 pub enum Change {
     Reading(u32, u32),
     Conversion(u32),
+    Sample(u32, u16),
     PowerOn,
 }
 
@@ -77,6 +81,7 @@ pub fn number(t: Taken) -> u8
             Refusal::Count => 8,
             Refusal::Room => 9,
             Refusal::Breaks => 10,
+            Refusal::Interval => 11,
         },
     }
 }
@@ -90,6 +95,7 @@ fn kind_of(n: u16) -> Kind
         3 => Kind::Conversion,
         4 => Kind::Transaction,
         5 => Kind::PowerOn,
+        6 => Kind::Sample,
         _ => Kind::Unknown,
     }
 }
@@ -210,9 +216,27 @@ fn power_on_taken(loaded: bool, p: &[u8]) -> Taken
     taken
 }
 
-// The event of a record, or the first refusal that applies, with so many bytes of reply room left.
-pub fn fitted(kind: u16, loaded: bool, room: usize, p: &[u8]) -> Taken
-    ensures { λ r. ⌜ r ≡ fittedOf room (takenOf kind loaded (now (p .entry))) ⌝ }
+// A sample, which comes 1 to 64 ticks after the one remembered.
+fn sample_taken(loaded: bool, last: Tick, p: &[u8]) -> Taken
+    ensures { λ r. ⌜ r ≡ timedOf last (takenBy Kind.Sample loaded (now (p .entry))) ⌝ }
+{
+    if p.len() != 6 {
+        return Taken::Refused(Refusal::Size);
+    }
+    if loaded {
+        let current = numbers::offset32(parts::quad(p, 0));
+        let tick = parts::pair(p, 4);
+        if last.timely(tick) {
+            return Taken::Run(Event::Change(Change::Sample(current, tick)));
+        }
+        return Taken::Refused(Refusal::Interval);
+    }
+    Taken::Refused(Refusal::Order)
+}
+
+// The event of a record, or the first refusal that applies, with a tick that is remembered and so many bytes of reply room left.
+pub fn fitted(kind: u16, loaded: bool, last: Tick, room: usize, p: &[u8]) -> Taken
+    ensures { λ r. ⌜ r ≡ fittedOf room (timedOf last (takenOf kind loaded (now (p .entry)))) ⌝ }
 {
     let k = kind_of(kind);
     match k {
@@ -221,6 +245,7 @@ pub fn fitted(kind: u16, loaded: bool, room: usize, p: &[u8]) -> Taken
         Kind::Conversion => conversion_taken(loaded, p),
         Kind::Transaction => transaction_taken(loaded, room, p),
         Kind::PowerOn => power_on_taken(loaded, p),
+        Kind::Sample => sample_taken(loaded, last, p),
         Kind::Unknown => Taken::Refused(Refusal::Kind),
     }
 }

@@ -2,7 +2,7 @@
 use mathlib.Core.Path.{_≡_, refl, ap, _∙_}
 use mathlib.Core.Bool.{true, false}
 use mathlib.Core.List.{List}
-use Prim.Native.Nat.{ℕ}
+use Prim.Native.Nat.{ℕ, zero, suc}
 use lib.ListN.{drop}
 use Rattle.numbers.proofs.Bounds.{picked}
 use Rattle.meter.specs.declared.Locks.{Locks}
@@ -10,6 +10,8 @@ use Rattle.meter.specs.declared.Block.{Block}
 use Rattle.meter.specs.State.{withCells, withLocks, poweredOf}
 use Rattle.meter.specs.Convert.{flowedOf, convertOf}
 use Rattle.meter.specs.Read.{readOf, drainedOf, shownOf}
+use Rattle.ticks.specs.Ticks.{elapsedOf}
+use Rattle.samples.specs.Samples.{sampledOf, tickedOf, sampleOf}
 use Rattle.label.specs.declared.Common.{Common}
 use Rattle.label.specs.declared.Label.{Label}
 use Rattle.label.specs.Label.{inLabel, inBlock, commonLockedOf}
@@ -21,9 +23,9 @@ use Rattle.bus.specs.declared.Command.the-variants.{Read, Write, Copy, Recall, 
 use Rattle.bus.specs.declared.Transaction.{Transaction}
 use Rattle.replies.specs.Reply.{selectedOf}
 use Rattle.gauge.specs.declared.Gauge.{Gauge}
-use Rattle.gauge.specs.Gauge.{Sized, conversionOf, readingOf, powerOnOf, writtenOf, copiedOf, recalledOf, lockedOf}
+use Rattle.gauge.specs.Gauge.{Sized, withMeter, conversionOf, samplingOf, readingOf, powerOnOf, writtenOf, copiedOf, recalledOf, lockedOf}
 use Rattle.events.specs.declared.Change.{Change}
-use Rattle.events.specs.declared.Change.the-variants.{Reading, Conversion, PowerOn}
+use Rattle.events.specs.declared.Change.the-variants.{Reading, Conversion, Sample, PowerOn}
 use Rattle.gauge.specs.Change.{changedOf}
 use Rattle.gauge.specs.Act.{ranBy, ranOf, actOf}
 use Rattle.gauge.specs.Kept.{Kept}
@@ -54,14 +56,29 @@ module _ (P : Gauge → Type 0) where
         (λ e. ran (t .command) g (t .address) (drop (t .from) master) p)
         (λ e. p)
 
--- ---- what a change keeps, where each of the three does
+-- ---- what a change keeps, where a conversion, a tick that is remembered, a reading and a power-on do
 
 module _ (P : Gauge → Type 0) where
-  pub changed : ((g : Gauge) (raw : ℕ) → P g → P (conversionOf g raw)) → ((g : Gauge) (volt temp : ℕ) → P g → P (readingOf g volt temp))
-      → ((g : Gauge) → P g → P (powerOnOf g)) → (g : Gauge) (c : Change) → P g → P (changedOf g c)
-  changed conversion reading power-on g (Reading volt temp) p = reading g volt temp p
-  changed conversion reading power-on g (Conversion raw) p = conversion g raw p
-  changed conversion reading power-on g PowerOn p = power-on g p
+  pub record Changes : Type 0 where
+    pub conversion : (g : Gauge) (raw : ℕ) → P g → P (conversionOf g raw)
+    pub tick : (g : Gauge) (tick : ℕ) → P g → P (withMeter g (tickedOf (g .meter) tick))
+    pub reading : (g : Gauge) (volt temp : ℕ) → P g → P (readingOf g volt temp)
+    pub power-on : (g : Gauge) → P g → P (powerOnOf g)
+
+  module _ (c : Changes) where
+    sampled : (g : Gauge) (raw n : ℕ) → P g → P (withMeter g (sampledOf (g .meter) raw n))
+    unfolding sampledOf conversionOf
+    sampled g raw zero p = p
+    sampled g raw (suc n) p = c .conversion (withMeter g (sampledOf (g .meter) raw n)) raw (sampled g raw n p)
+
+    pub changed : (g : Gauge) (x : Change) → P g → P (changedOf g x)
+    unfolding samplingOf sampleOf
+    changed g (Reading volt temp) p = c .reading g volt temp p
+    changed g (Conversion raw) p = c .conversion g raw p
+    changed g (Sample raw tick) p =
+        let n = elapsedOf (g .meter .flow .tick) tick in
+        c .tick (withMeter g (sampledOf (g .meter) raw n)) tick (sampled g raw n p)
+    changed g PowerOn p = c .power-on g p
 
 -- no transaction changes the saved cells
 pub saved-untouched : (g : Gauge) (t : Transaction) (master : List ℕ) → actOf g t master .meter .cells .saved ≡ g .meter .cells .saved
@@ -77,7 +94,7 @@ saved-untouched g t master =
 pub address-kept : (P : List ℕ → Type 0) → Kept (λ g. P (g .common .address))
 unfolding conversionOf readingOf powerOnOf writtenOf copiedOf recalledOf lockedOf commonLockedOf
 address-kept P = record {
-  change = changed _ (λ g raw p. p) (λ g volt temp p. p) (λ g p. p);
+  change = changed _ (record { conversion = λ g raw p. p; tick = λ g tick p. p; reading = λ g volt temp p. p; power-on = λ g p. p });
   act = acted _ (record { written = λ g a bytes p. p; copied = λ g a p. p; recalled = λ g a p. p; locked = λ g a p. p });
 }
 
@@ -85,7 +102,7 @@ address-kept P = record {
 pub locked-label-eeprom : (bytes : List ℕ) → Kept (λ g. (g .common .bl0 ≡ true) × (g .label .eeprom ≡ bytes))
 unfolding conversionOf readingOf powerOnOf writtenOf copiedOf recalledOf lockedOf commonLockedOf
 locked-label-eeprom bytes = record {
-  change = changed _ (λ g raw p. p) (λ g volt temp p. p) (λ g p. p);
+  change = changed _ (record { conversion = λ g raw p. p; tick = λ g tick p. p; reading = λ g volt temp p. p; power-on = λ g p. p });
   act = acted _ (record {
     written = λ g a bytes p. (p .0, label-written-eeprom (g .label) (g .common .bl0) a bytes ∙ p .1);
     copied = λ g a p. (p .0, ap (λ (l : Label). l .eeprom) (label-copied-locked (g .label) (g .common .bl0) a (p .0)) ∙ p .1);
@@ -98,7 +115,7 @@ locked-label-eeprom bytes = record {
 pub locked-block-eeprom : (bytes : List ℕ) → Kept (λ g. (g .meter .cells .locks .bl1 ≡ true) × (g .meter .cells .block .eeprom ≡ bytes))
 unfolding conversionOf readingOf powerOnOf convertOf flowedOf readOf shownOf poweredOf writtenOf copiedOf recalledOf lockedOf meterWrittenOf meterCopiedOf meterRecalledOf meterLockedOf
 locked-block-eeprom bytes = record {
-  change = changed _ (λ g raw p. p) (λ g volt temp p. p) (λ g p. p);
+  change = changed _ (record { conversion = λ g raw p. p; tick = λ g tick p. p; reading = λ g volt temp p. p; power-on = λ g p. p });
   act = acted _ (record {
     written = λ g a bytes p. (p .0, written-eeprom (g .meter .cells .block) (g .meter .cells .locks .bl1) a bytes ∙ p .1);
     copied = λ g a p. (p .0, ap (λ (b : Block). b .eeprom) (copied-locked (g .meter .cells .block) (g .meter .cells .locks .bl1) a (p .0)) ∙ p .1);
@@ -111,13 +128,16 @@ locked-block-eeprom bytes = record {
 pub sized-kept : Kept Sized
 unfolding conversionOf readingOf powerOnOf convertOf flowedOf readOf shownOf poweredOf writtenOf copiedOf recalledOf lockedOf commonLockedOf meterWrittenOf meterCopiedOf meterRecalledOf meterLockedOf
 sized-kept = record {
-  change = changed Sized (λ g raw z. record { address = z .address; label = z .label; block = z .block })
-      (λ g volt temp z. record { address = z .address; label = z .label; block = z .block })
-      (λ g z. record {
-        address = z .address;
-        label = record { shadow = z .label .eeprom; eeprom = z .label .eeprom };
-        block = record { shadow = z .block .eeprom; eeprom = z .block .eeprom };
-      });
+  change = changed Sized (record {
+    conversion = λ g raw z. record { address = z .address; label = z .label; block = z .block };
+    tick = λ g tick z. record { address = z .address; label = z .label; block = z .block };
+    reading = λ g volt temp z. record { address = z .address; label = z .label; block = z .block };
+    power-on = λ g z. record {
+      address = z .address;
+      label = record { shadow = z .label .eeprom; eeprom = z .label .eeprom };
+      block = record { shadow = z .block .eeprom; eeprom = z .block .eeprom };
+    };
+  });
   act = acted Sized (record {
     written = λ g a bytes z. record {
       address = z .address;

@@ -2,12 +2,16 @@
 use mathlib.Core.Path.{refl, sym, _∙_}
 use Rattle.once.specs.Once.{Once}
 use Rattle.gauge.proofs.Gauge.convert
+use Rattle.gauge.proofs.Gauge.sample
 use Rattle.gauge.proofs.Gauge.read
 use Rattle.gauge.proofs.Gauge.power_on
 use Rattle.gauge.proofs.Gauge.transact
 
 pub convert-once : Once convert.ended convert.Reads.Pre convert.Reads.Learnt
 convert-once κs a r r′ w w′ p h h′ = (h .0 ∙ sym (h′ .0), refl)
+
+pub sample-once : Once sample.ended sample.Reads.Pre sample.Reads.Learnt
+sample-once κs a r r′ w w′ p h h′ = (h .0 ∙ sym (h′ .0), refl)
 
 pub read-once : Once read.ended read.Reads.Pre read.Reads.Learnt
 read-once κs a r r′ w w′ p h h′ = (h .0 ∙ sym (h′ .0), refl)

@@ -7,6 +7,7 @@ use Rattle.meter.specs.declared.Meter.{Meter}
 use Rattle.meter.specs.State.{MeterWF, restartedOf}
 use Rattle.meter.specs.Convert.{convertOf}
 use Rattle.meter.specs.Read.{readOf}
+use Rattle.samples.specs.Samples.{sampleOf}
 use Rattle.label.specs.declared.Label.{Label}
 use Rattle.label.specs.Label.{LabelSized, labelWrittenOf, labelCopiedOf, labelPoweredOf, labelRecalledOf, commonLockedOf}
 use Rattle.stores.specs.Stores.{BlockSized, meterWrittenOf, meterCopiedOf, meterRecalledOf, meterLockedOf}
@@ -29,10 +30,14 @@ withParts g l m = record { common = g .common; label = l; meter = m }
 abbrev pub withMeter : Gauge → Meter → Gauge
 withMeter g m = withParts g (g .label) m
 
--- ---- conversion, reading, power-on
+-- ---- conversion, sample, reading, power-on
 
 unfoldable pub conversionOf : Gauge → ℕ → Gauge
 conversionOf g raw = withMeter g (convertOf (g .meter) raw)
+
+-- a sample that is taken: the conversions of its ticks
+unfoldable pub samplingOf : Gauge → ℕ → ℕ → Gauge
+samplingOf g raw tick = withMeter g (sampleOf (g .meter) raw tick)
 
 unfoldable pub readingOf : Gauge → ℕ → ℕ → Gauge
 readingOf g volt temp = withMeter g (readOf (g .meter) volt temp)

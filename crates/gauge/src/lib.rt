@@ -8,7 +8,7 @@ ghost use mathlib.Core.Path.{_≡_};
 ghost use mathlib.Core.List.{_++_};
 ghost use Prim.Native.Nat.{_≤_, _<_};
 ghost use lib.ListN.{length, drop};
-ghost use Rattle.gauge.specs.Gauge.{GaugeWF, conversionOf, readingOf, powerOnOf, writtenOf, copiedOf, recalledOf, lockedOf};
+ghost use Rattle.gauge.specs.Gauge.{GaugeWF, conversionOf, samplingOf, readingOf, powerOnOf, writtenOf, copiedOf, recalledOf, lockedOf};
 ghost use Rattle.gauge.specs.Act.{ranOf, actOf, replyOf};
 
 pub struct Gauge {
@@ -17,7 +17,7 @@ pub struct Gauge {
     pub meter: Meter,
 }
 
-// ---- conversion, reading, power-on
+// ---- conversion, sample, reading, power-on
 
 impl Gauge {
     // A conversion of a signed 32-bit raw current, which comes as z + 2^31.
@@ -28,6 +28,17 @@ impl Gauge {
     {
         let converted = self.meter.convert(raw);
         self.meter = converted;
+        self
+    }
+
+    // A sample of such a raw current, with its tick.
+    pub fn sample(mut self, raw: u32, tick: u16) -> Gauge
+        requires { ⌜ GaugeWF self ⌝ }
+        ensures { λ r. ⌜ r ≡ samplingOf self raw tick ⌝ }
+        ensures kept { λ r. ⌜ GaugeWF r ⌝ }
+    {
+        let sampled = samples::sample(self.meter, raw, tick);
+        self.meter = sampled;
         self
     }
 

@@ -26,6 +26,7 @@ flowedOf m p full40 c =
         trace = tracedOf (f .trace) c;
         average = averagedOf (f .average) c;
         since = renewedOf (f .since) (eighth (f .average));
+        tick = f .tick;
       };
       shown = withFlags (m .shown) (filledFlags (m .shown .flags) found);
     }

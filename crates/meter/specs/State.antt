@@ -2,6 +2,8 @@
 use mathlib.Core.Bool.{true, false}
 use Prim.Native.Nat.{ℕ, _*_, _^_, _≤_, _<_}
 use Rattle.numbers.specs.Offset.{zeroAt, movedInto}
+use Rattle.ticks.specs.declared.Tick.{Tick}
+use Rattle.ticks.specs.Ticks.{noTick}
 use Rattle.charge.specs.declared.Charge.{Charge}
 use Rattle.charge.specs.Charge.{ChargeWF}
 use Rattle.full.specs.declared.Since.{Since}
@@ -49,7 +51,10 @@ abbrev pub withSaved : Cells → Saved → Cells
 withSaved c saved = record { block = c .block; locks = c .locks; saved = saved }
 
 abbrev pub withSince : Flow → Since → Flow
-withSince f since = record { trace = f .trace; average = f .average; since = since }
+withSince f since = record { trace = f .trace; average = f .average; since = since; tick = f .tick }
+
+abbrev pub withTick : Flow → Tick → Flow
+withTick f tick = record { trace = f .trace; average = f .average; since = f .since; tick = tick }
 
 abbrev pub withFlags : Shown → Flags → Shown
 withFlags s flags = record { model = s .model; results = s .results; reading = s .reading; flags = flags }
@@ -71,12 +76,13 @@ asIn aging = movedInto 63 128 aging
 abbrev pub poweredCharge : Saved → Charge
 poweredCharge s = record { count = s .acr * 4096; age = 0; aging = asIn (s .aging); learnf = false }
 
--- no previous conversion or average, and the run of eight starts anew
+-- no previous conversion or average, the run of eight starts anew, and no tick is remembered
 abbrev pub noFlow : Flow
 noFlow = record {
   trace = record { last = zeroAt 15; before = zeroAt 15; any = false; two = false };
   average = record { run = 0; sum = 0; iavg = zeroAt 15; known = false };
   since = record { any = false; lowest = 0 };
+  tick = noTick;
 }
 
 -- no previous reading; PORF = 1, all else 0

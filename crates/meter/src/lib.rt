@@ -13,6 +13,7 @@ use reading::Reading;
 use reading::Results;
 use reading::Saved;
 use reading::Seen;
+use ticks::Tick;
 ghost use mathlib.Core.Path.{_≡_};
 ghost use Rattle.charge.specs.Charge.{ChargeWF};
 ghost use Rattle.reading.specs.Reading.{SeenWF};
@@ -39,11 +40,12 @@ pub struct Cells {
     pub block: Block,
 }
 
-// The flow of currents: the last two, the run of eight, and the readings since it began.
+// The flow of currents: the last two, the run of eight, the readings since it began, and the tick of the last sample.
 pub struct Flow {
     pub trace: Trace,
     pub average: Average,
     pub since: Since,
+    pub tick: Tick,
 }
 
 // What a reading shows, and the flags.
@@ -197,6 +199,10 @@ impl Meter {
                 since: Since {
                     any: false,
                     lowest: 0,
+                },
+                tick: Tick {
+                    any: false,
+                    last: 0,
                 },
             },
             shown: Shown {

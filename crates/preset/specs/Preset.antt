@@ -117,6 +117,7 @@ imageWords refusal.Kind = otherWords
 imageWords refusal.Order = otherWords
 imageWords refusal.Count = otherWords
 imageWords refusal.Room = otherWords
+imageWords refusal.Interval = otherWords
 
 abbrev pub whyWords : Why → List ℕ
 whyWords (Image r) = imageWords r

@@ -49,7 +49,7 @@ fn run_all(s: &[u8], room: &mut [u8], answers: &mut [u64]) -> Ran
     let mut lines = 0;
     while at < s.len() {
         let l = &s[at..];
-        let r = steps::front(l, loaded, room.len() - used);
+        let r = steps::front(l, loaded, gauge.meter.flow.tick, room.len() - used);
         let end = r.used;
         let mut line = runs::code(r.kind, r.answer, 0);
         let asked = r.event;
@@ -67,6 +67,9 @@ fn run_all(s: &[u8], room: &mut [u8], answers: &mut [u64]) -> Ran
                         }
                         Change::Conversion(raw) => {
                             gauge = gauge.convert(raw);
+                        }
+                        Change::Sample(raw, tick) => {
+                            gauge = gauge.sample(raw, tick);
                         }
                         Change::PowerOn => {
                             gauge = gauge.power_on();

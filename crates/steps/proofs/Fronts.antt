@@ -13,8 +13,8 @@ use Rattle.events.specs.declared.Event.the-variants.{Image, Change, Transact}
 use Rattle.events.specs.declared.Refusal.the-variants.{Room}
 use Rattle.events.specs.declared.Taken.{Taken}
 use Rattle.events.specs.declared.Taken.the-variants as taken
-use Rattle.events.specs.Record.{Fitting, takenOf, asksOf, fittedOf}
-use Rattle.events.proofs.Fits.{Taking, taking}
+use Rattle.events.specs.Record.{Fitting, takenOf, timedOf, asksOf, fittedOf}
+use Rattle.events.proofs.Fits.{Taking, timed-taking}
 use Rattle.runs.specs.Record.{wholeOf, recOf, sizeOf, kindIn}
 use Rattle.runs.specs.Run.{Did, silently}
 use Rattle.runs.proofs.Records.{rec-whole, size-whole, rec-cut, size-cut}
@@ -22,7 +22,7 @@ use Rattle.steps.specs.declared.Session.{Session}
 use Rattle.steps.specs.declared.Asked.{Asked}
 use Rattle.steps.specs.declared.Asked.the-variants as asked
 use Rattle.steps.specs.declared.Record.{Record}
-use Rattle.steps.specs.Step.{eventDid, takenDid, didOf, refusedOf, takenRead, frontOf}
+use Rattle.steps.specs.Step.{lastTick, eventDid, takenDid, didOf, refusedOf, takenRead, frontOf}
 use Rattle.steps.proofs.Steps.{read-whole, read-cut}
 
 -- the payload of a record that takes so many bytes
@@ -73,23 +73,26 @@ module _ (σ : Session) (room : ℕ) (l : List ℕ) where
     abbrev p : List ℕ
     p = payloadOf (4 + n) l
 
+    abbrev told : Taken
+    told = timedOf (lastTick σ) (takenOf kind (σ .loaded) p)
+
     kinds : kind ≡ kindIn (recOf l)
     kinds = sym (ap kindIn (rec-whole l n kind w refl refl))
 
     takes : 4 + n ≡ sizeOf l
     takes = sym (size-whole l n kind w refl refl)
 
-    does : didOf σ room (recOf l) ≡ takenDid σ p (fittedOf room (takenOf kind (σ .loaded) p))
+    does : didOf σ room (recOf l) ≡ takenDid σ p (fittedOf room told)
     unfolding didOf
     does = rw (rec-whole l n kind w refl refl) refl
 
-    front-event : (e : Event) → takenOf kind (σ .loaded) p ≡ taken.Run e → (b : Bool) → ltb room (asksOf e) ≡ b
+    front-event : (e : Event) → told ≡ taken.Run e → (b : Bool) → ltb room (asksOf e) ≡ b
         → Front σ room l (takenRead kind (4 + n) (fittedOf room (taken.Run e)))
     front-event e t true h =
-        let g : fittedOf room (takenOf kind (σ .loaded) p) ≡ taken.Refused Room = rw (t, h) refl in
+        let g : fittedOf room told ≡ taken.Refused Room = rw (t, h) refl in
         rw h (front-refused kind 9 (4 + n) kinds takes (does ∙ ap (takenDid σ p) g))
     front-event e t false h =
-        let g : fittedOf room (takenOf kind (σ .loaded) p) ≡ taken.Run e = rw (t, h) refl in
+        let g : fittedOf room told ≡ taken.Run e = rw (t, h) refl in
         let f : didOf σ room (recOf l) ≡ eventDid σ p e = does ∙ ap (takenDid σ p) g in
         rw h
         (record {
@@ -99,31 +102,31 @@ module _ (σ : Session) (room : ℕ) (l : List ℕ) where
           does = record {
             head = omega arith;
             held = ltb-false room (asksOf e) h;
-            sized = fitting (σ .loaded) p e (subst (Taking (σ .loaded) p) t (taking (σ .loaded) p kind));
+            sized = fitting (σ .loaded) p e (subst (Taking (σ .loaded) p) t (timed-taking (σ .loaded) p (lastTick σ) kind));
             did = f;
           };
         })
 
-    front-taken : (t : Taken) → takenOf kind (σ .loaded) p ≡ t → Front σ room l (takenRead kind (4 + n) (fittedOf room t))
+    front-taken : (t : Taken) → told ≡ t → Front σ room l (takenRead kind (4 + n) (fittedOf room t))
     front-taken (taken.Run e) t = front-event e t (ltb room (asksOf e)) refl
     front-taken (taken.Refused x) t =
-        let g : fittedOf room (takenOf kind (σ .loaded) p) ≡ taken.Refused x = rw t refl in
+        let g : fittedOf room told ≡ taken.Refused x = rw t refl in
         front-refused kind _ (4 + n) kinds takes (does ∙ ap (takenDid σ p) g)
 
-    front-whole : Front σ room l (frontOf (σ .loaded) room l)
-    front-whole = rw (read-whole l n kind w refl refl (σ .loaded) room) (front-taken (takenOf kind (σ .loaded) p) refl)
+    front-whole : Front σ room l (frontOf (σ .loaded) (lastTick σ) room l)
+    front-whole = rw (read-whole l n kind w refl refl (σ .loaded) (lastTick σ) room) (front-taken told refl)
 
-  front-cut : wholeOf l ≡ false → Front σ room l (frontOf (σ .loaded) room l)
+  front-cut : wholeOf l ≡ false → Front σ room l (frontOf (σ .loaded) (lastTick σ) room l)
   unfolding didOf
   front-cut w =
-      rw (read-cut (σ .loaded) room l w)
+      rw (read-cut (σ .loaded) (lastTick σ) room l w)
       (front-refused 0 2 (length l) (sym (ap kindIn (rec-cut l w))) (sym (size-cut l w)) (rw (rec-cut l w) refl))
 
-  front-cases : (b : Bool) → wholeOf l ≡ b → Front σ room l (frontOf (σ .loaded) room l)
+  front-cases : (b : Bool) → wholeOf l ≡ b → Front σ room l (frontOf (σ .loaded) (lastTick σ) room l)
   front-cases true w = front-whole w
   front-cases false w = front-cut w
 
-  pub front : {r : Record} → r ≡ frontOf (σ .loaded) room l → Front σ room l r
+  pub front : {r : Record} → r ≡ frontOf (σ .loaded) (lastTick σ) room l → Front σ room l r
   front e = rw e (front-cases (wholeOf l) refl)
 
 -- the event that was read

@@ -9,17 +9,18 @@ use lib.Dec.{ltb}
 use lib.ListN.{length}
 use Rattle.numbers.proofs.Bounds.{picked}
 use Rattle.parts.specs.Parts.{part, pairAt}
+use Rattle.ticks.specs.declared.Tick.{Tick}
 use Rattle.bus.specs.declared.Transaction.{Transaction}
 use Rattle.replies.proofs.Listed.{listed-length}
 use Rattle.gauge.specs.declared.Gauge.{Gauge}
 use Rattle.gauge.specs.Act.{replyOf}
 use Rattle.events.specs.declared.Refusal.{Refusal}
-use Rattle.events.specs.declared.Refusal.the-variants.{Kind, Size, Order, Address, Locks, Count, Room, Breaks}
+use Rattle.events.specs.declared.Refusal.the-variants.{Kind, Size, Order, Address, Locks, Count, Room, Breaks, Interval}
 use Rattle.events.specs.declared.Event.{Event}
 use Rattle.events.specs.declared.Event.the-variants.{Image, Change, Transact}
 use Rattle.events.specs.declared.Taken.{Taken}
 use Rattle.events.specs.declared.Taken.the-variants as taken
-use Rattle.events.specs.Record.{refusalNumber, numberOf, masterOf, takenOf, asksOf, fittedOf}
+use Rattle.events.specs.Record.{refusalNumber, numberOf, masterOf, takenOf, timedOf, asksOf, fittedOf}
 use Rattle.runs.specs.Record.{Rec, whole, cut, wholeOf}
 use Rattle.runs.specs.Run.{Did}
 use Rattle.runs.proofs.Records.{rec-whole, size-whole, rec-cut, size-cut}
@@ -27,20 +28,20 @@ use Rattle.runs.proofs.Lines.{Fits}
 use Rattle.steps.specs.declared.Session.{Session}
 use Rattle.steps.specs.declared.Asked.the-variants as asked
 use Rattle.steps.specs.declared.Record.{Record}
-use Rattle.steps.specs.Step.{eventDid, takenDid, didOf, refusedOf, takenRead, frontOf}
+use Rattle.steps.specs.Step.{lastTick, eventDid, takenDid, didOf, refusedOf, takenRead, frontOf}
 
 -- ---- what is read
 
 -- of a whole record, whose length says n
-pub read-whole : (l : List ℕ) (n kind : ℕ) → wholeOf l ≡ true → n ≡ pairAt l 0 → kind ≡ pairAt l 2 → (loaded : Bool) (room : ℕ)
-    → frontOf loaded room l ≡ takenRead kind (4 + n) (fittedOf room (takenOf kind loaded (part (4 + n - 4) l 4)))
+pub read-whole : (l : List ℕ) (n kind : ℕ) → wholeOf l ≡ true → n ≡ pairAt l 0 → kind ≡ pairAt l 2 → (loaded : Bool) (last : Tick) (room : ℕ)
+    → frontOf loaded last room l ≡ takenRead kind (4 + n) (fittedOf room (timedOf last (takenOf kind loaded (part (4 + n - 4) l 4))))
 unfolding frontOf
-read-whole l n kind w en ek loaded room = rw (rec-whole l n kind w en ek, size-whole l n kind w en ek) refl
+read-whole l n kind w en ek loaded last room = rw (rec-whole l n kind w en ek, size-whole l n kind w en ek) refl
 
 -- of a cut one
-pub read-cut : (loaded : Bool) (room : ℕ) (l : List ℕ) → wholeOf l ≡ false → frontOf loaded room l ≡ refusedOf 0 2 (length l)
+pub read-cut : (loaded : Bool) (last : Tick) (room : ℕ) (l : List ℕ) → wholeOf l ≡ false → frontOf loaded last room l ≡ refusedOf 0 2 (length l)
 unfolding frontOf
-read-cut loaded room l w = rw (rec-cut l w, size-cut l w) refl
+read-cut loaded last room l w = rw (rec-cut l w, size-cut l w) refl
 
 -- what is handed back: of a refused record, and of an event
 module _ {kind used : ℕ} {t : Taken} where
@@ -66,6 +67,7 @@ refusal-small Locks = omega arith
 refusal-small Count = omega arith
 refusal-small Room = omega arith
 refusal-small Breaks = omega arith
+refusal-small Interval = omega arith
 
 record Small (room : ℕ) (d : Did Session) : Type 0 where
   answer : d .answer < 256
@@ -86,7 +88,7 @@ module _ (σ : Session) (room : ℕ) where
 
   did-small : (r : Rec) → Small room (didOf σ room r)
   unfolding didOf
-  did-small (whole kind p) = taken-small p (takenOf kind (σ .loaded) p)
+  did-small (whole kind p) = taken-small p (timedOf (lastTick σ) (takenOf kind (σ .loaded) p))
   did-small cut = record { answer = omega arith; reply = zero-le }
 
 pub did-fits : Fits didOf

@@ -2,6 +2,7 @@
 use mathlib.Core.Bool.{Bool, true}
 use mathlib.Core.List.{List}
 use Prim.Native.Nat.{ℕ}
+use Rattle.ticks.specs.declared.Tick.{Tick}
 use Rattle.gauge.specs.declared.Gauge.{Gauge}
 use Rattle.gauge.specs.Gauge.{GaugeWF}
 use Rattle.gauge.specs.Change.{changedOf}
@@ -11,7 +12,7 @@ use Rattle.events.specs.declared.Event.{Event}
 use Rattle.events.specs.declared.Event.the-variants.{Image, Change, Transact}
 use Rattle.events.specs.declared.Taken.{Taken}
 use Rattle.events.specs.declared.Taken.the-variants as taken
-use Rattle.events.specs.Record.{refusalNumber, takenOf, fittedOf, masterOf}
+use Rattle.events.specs.Record.{refusalNumber, takenOf, timedOf, fittedOf, masterOf}
 use Rattle.runs.specs.Record.{Rec, whole, cut, recOf, sizeOf}
 use Rattle.runs.specs.Run.{Did, silently}
 use Rattle.steps.specs.declared.Session.{Session}
@@ -25,6 +26,10 @@ loadedWith g = record { loaded = true; gauge = g }
 
 pub record SessionWF (σ : Session) : Type 0 where
   pub gauge : GaugeWF (σ .gauge)
+
+-- the tick that is remembered
+abbrev pub lastTick : Session → Tick
+lastTick σ = σ .gauge .meter .flow .tick
 
 -- ---- what a record does
 
@@ -45,7 +50,7 @@ takenDid σ p (taken.Refused r) = silently σ (refusalNumber r)
 
 -- 2: a record that is cut
 abbrev pub recDid : Session → ℕ → Rec → Did Session
-recDid σ room (whole kind p) = takenDid σ p (fittedOf room (takenOf kind (σ .loaded) p))
+recDid σ room (whole kind p) = takenDid σ p (fittedOf room (timedOf (lastTick σ) (takenOf kind (σ .loaded) p)))
 recDid σ room cut = silently σ 2
 
 -- with so many bytes of reply room left
@@ -62,10 +67,10 @@ abbrev pub takenRead : ℕ → ℕ → Taken → Record
 takenRead kind used (taken.Run e) = record { event = asked.Run e; used = used; kind = kind; answer = 0 }
 takenRead kind used (taken.Refused r) = refusedOf kind (refusalNumber r) used
 
-abbrev pub recRead : Bool → ℕ → ℕ → Rec → Record
-recRead loaded room used (whole kind p) = takenRead kind used (fittedOf room (takenOf kind loaded p))
-recRead loaded room used cut = refusedOf 0 2 used
+abbrev pub recRead : Bool → Tick → ℕ → ℕ → Rec → Record
+recRead loaded last room used (whole kind p) = takenRead kind used (fittedOf room (timedOf last (takenOf kind loaded p)))
+recRead loaded last room used cut = refusedOf 0 2 used
 
--- the record at the front, with so many bytes of reply room left
-unfoldable pub frontOf : Bool → ℕ → List ℕ → Record
-frontOf loaded room l = recRead loaded room (sizeOf l) (recOf l)
+-- the record at the front, with a tick that is remembered and so many bytes of reply room left
+unfoldable pub frontOf : Bool → Tick → ℕ → List ℕ → Record
+frontOf loaded last room l = recRead loaded last room (sizeOf l) (recOf l)

@@ -2,6 +2,7 @@
 use events::Event;
 use events::Taken;
 use gauge::Gauge;
+use ticks::Tick;
 ghost use mathlib.Core.Path.{_≡_};
 ghost use Rattle.steps.specs.Step.{refusedOf, frontOf};
 
@@ -36,15 +37,15 @@ fn refused(kind: u16, answer: u8, used: usize) -> Record
     }
 }
 
-// The record at the front of l, with so many bytes of reply room left.
-pub fn front(l: &[u8], loaded: bool, room: usize) -> Record
-    ensures { λ r. ⌜ r ≡ frontOf loaded room (now (l .entry)) ⌝ }
+// The record at the front of l, with a tick that is remembered and so many bytes of reply room left.
+pub fn front(l: &[u8], loaded: bool, last: Tick, room: usize) -> Record
+    ensures { λ r. ⌜ r ≡ frontOf loaded last room (now (l .entry)) ⌝ }
 {
     if runs::whole(l) {
         let n = parts::pair(l, 0) as usize;
         let kind = parts::pair(l, 2);
         let end = 4 + n;
-        let t = events::fitted(kind, loaded, room, &l[4..end]);
+        let t = events::fitted(kind, loaded, last, room, &l[4..end]);
         let answer = events::number(t);
         let Taken::Run(e) = t else {
             return refused(kind, answer, end);

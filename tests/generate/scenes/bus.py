@@ -36,7 +36,8 @@ def any_event(session):
     some(chance,
          lambda: session.reading(chance.randint(-50, 1100), temperature(chance)),
          lambda: session.conversion(chance.randint(-33000, 33000)),
-         lambda: session.conversion(chance.randint(-33000, 33000)))
+         lambda: session.conversion(chance.randint(-33000, 33000)),
+         lambda: session.sample(chance.randint(-33000, 33000), chance.randint(1, 64)))
 
 
 def lock_dance(session):

@@ -21,6 +21,7 @@ def extremes(chance):
         some(chance,
              lambda: session.conversion(chance.choice(counts)),
              lambda: session.conversion(chance.choice(counts) + chance.randint(-3, 3)),
+             lambda: session.sample(chance.choice(counts), chance.choice([1, 2, 8, 64])),
              lambda: session.reading(chance.choice(voltages), chance.choice(temperatures)),
              lambda: session.reading(chance.choice(voltages), chance.choice(temperatures)),
              lambda: session.write_acr(chance.choice([0, 1, 0x7FFF, 0x8000, 0xFFFE, 0xFFFF])))

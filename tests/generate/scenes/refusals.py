@@ -1,6 +1,6 @@
 """Records that are refused, and a reply room that is used up."""
 from builder import (
-    CONVERSION, IMAGE, POWER_ON, READING, REPLY_ROOM, TRANSACTION, Session, crc, profile, record, some, unknown)
+    CONVERSION, IMAGE, POWER_ON, READING, REPLY_ROOM, SAMPLE, TRANSACTION, Session, crc, profile, record, some, unknown)
 from scenes.bus import any_event, any_transaction
 from scenes.pack import battery, start
 
@@ -31,7 +31,7 @@ def wrong_image(session):
 
 
 def wrong_record(session):
-    """A record that some number from 3 to 10 refuses, often for two reasons at once."""
+    """A record that some number from 3 to 11 refuses, often for two reasons at once."""
     chance = session.chance
     some(chance,
          lambda: session.add(unknown(chance), chance.randbytes(chance.choice([0, 1, 4, 8, 60, 70]))),
@@ -42,6 +42,8 @@ def wrong_record(session):
          lambda: session.add(TRANSACTION, chance.randbytes(chance.choice([66, 67, 100]))),
          lambda: session.add(TRANSACTION, bytes([200]) + bytes(65)),
          lambda: session.add(POWER_ON, chance.randbytes(chance.choice([1, 4, 60]))),
+         lambda: session.add(SAMPLE, chance.randbytes(chance.choice([0, 4, 5, 7, 7, 8, 60]))),
+         lambda: session.sample(chance.randint(-33000, 33000), chance.choice([0, 65, 66, 300, 32768, 65535])),
          lambda: wrong_image(session),
          lambda: wrong_image(session),
          lambda: session.transaction(chance.choice([65, 66, 100, 200, 255]),
@@ -54,6 +56,7 @@ def early_event(session):
     some(chance,
          lambda: session.reading(500, 200),
          lambda: session.conversion(-5000),
+         lambda: session.sample(-5000, 1),
          lambda: session.add(TRANSACTION, bytes([chance.choice([0, 8, 64, 65, 200])]) + b"\xCC\x69\x00"),
          lambda: session.power_on())
 

@@ -27,10 +27,16 @@ returns-7 c = rw (c .before .before .before .before .before .enum-told7 .given .
 returns-8 : tie.Need-returns-8
 returns-8 c = rw (c .before .before .before .before .before .enum-told8 .given .1) (c .before .before .put-refused8 .ensures)
 
+returns-9 : tie.Need-returns-9
+returns-9 c = rw (c .before .before .before .before .before .enum-told9 .given .1) (c .before .before .put-refused9 .ensures)
+
 pub put-judged-spec : {M : Type 1} → statement M
 put-judged-spec =
     tie.close
     (tie.spec
+    (λ c. search needs)
+    (λ c. search needs)
+    (λ c κs. search needs)
     (λ c. search needs)
     (λ c. search needs)
     (λ c κs. search needs)
@@ -70,4 +76,6 @@ put-judged-spec =
     (λ c. search needs)
     returns-7
     (λ c. search needs)
-    returns-8)
+    returns-8
+    (λ c. search needs)
+    returns-9)

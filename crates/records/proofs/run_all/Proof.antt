@@ -44,8 +44,9 @@ turned c =
     (⊎-elim (λ w. turn-silent f (w .6 .ensures .1) (w .8) (w .9) (ran f (w .1 .given .1 ∙ ap Run (w .4 .given .1))) (w .6 .ensures .0) refl (w .7) (w .10) (w .11 ∙ n))
     (⊎-elim (λ w. turn-silent f (w .9 .ensures .1) (w .11) (w .12) (ran f (w .1 .given .1 ∙ ap Run (w .4 .given .1 ∙ ap Change (w .7 .given .1)))) (w .9 .ensures .0) refl (w .10) (w .13) (w .14 ∙ n))
     (⊎-elim (λ w. turn-silent f (w .9 .ensures .1) (w .11) (w .12) (ran f (w .1 .given .1 ∙ ap Run (w .4 .given .1 ∙ ap Change (w .7 .given .1)))) (w .9 .ensures .0) refl (w .10) (w .13) (w .14 ∙ n))
+    (⊎-elim (λ w. turn-silent f (w .9 .ensures .1) (w .11) (w .12) (ran f (w .1 .given .1 ∙ ap Run (w .4 .given .1 ∙ ap Change (w .7 .given .1)))) (w .9 .ensures .0) refl (w .10) (w .13) (w .14 ∙ n))
     (⊎-elim (λ w. turn-silent f (w .8 .ensures .1) (w .10) (w .11) (ran f (w .1 .given .1 ∙ ap Run (w .4 .given .1 ∙ ap Change (w .7 .given .1)))) (w .8 .ensures .0) refl (w .9) (w .12) (w .13 ∙ n))
-    (λ w. turn-reply f (w .9 .ensures .1 .1) (w .15) (w .16) (ran f (w .1 .given .1 ∙ ap Run (w .4 .given .1))) (omega (arith, g .going .used-fits, g .going .same-room)) (w .9 .ensures .0) (w .9 .ensures .1 .0) (w .14) (w .17) (w .18 ∙ w .13 .ensures)))))) (c .match .came)
+    (λ w. turn-reply f (w .9 .ensures .1 .1) (w .15) (w .16) (ran f (w .1 .given .1 ∙ ap Run (w .4 .given .1))) (omega (arith, g .going .used-fits, g .going .same-room)) (w .9 .ensures .0) (w .9 .ensures .1 .0) (w .14) (w .17) (w .18 ∙ w .13 .ensures))))))) (c .match .came)
 
 loop-holds : tie.Need-loop-holds Inv-loop μ-loop
 loop-holds c = rw (c .before .empty .ensures .0) (record { going = going-start didOf emptyOf _ _ _; wf = (rw (c .before .empty .ensures .0) at (c .before .empty .ensures .1)) .gauge })
@@ -79,6 +80,9 @@ read-requires c κs = c .before .before .before .before .before .before .before 
 
 convert-requires : tie.Need-convert-requires Inv-loop μ-loop
 convert-requires c κs = c .before .before .before .before .before .before .before .before .before .before .before .before .before .loop .inv .wf
+
+sample-requires : tie.Need-sample-requires Inv-loop μ-loop
+sample-requires c κs = c .before .before .before .before .before .before .before .before .before .before .before .before .before .loop .inv .wf
 
 add-from : tie.Need-add-from Inv-loop μ-loop
 add-from c = omega (arith, ran (at-front (c .before .before .before .before .before .before .before .before)) (c .before .before .before .before .before .asked .given .1 ∙ ap Run (c .before .before .e2 .given .1)) .sized .near)
@@ -162,6 +166,8 @@ run-all-spec =
     read-requires
     (λ c. search needs)
     convert-requires
+    (λ c. search needs)
+    sample-requires
     (λ c. search needs)
     (λ c κs. search needs)
     (λ c. search needs)

@@ -10,10 +10,11 @@ use Rattle.steps.proofs.front.Statement.{statement}
 use Rattle.steps.proofs.front.Tie as tie
 
 -- where a whole record was read
-read : (c : tie.After-fitted) → frontOf (c .before .before .before .before .before .before .before .args .loaded) (c .before .before .before .before .before .before .before .args .room) (now (c .before .before .before .before .before .before .before .args .l)) ≡ takenRead (c .before .before .pair2 .result) (4 + c .before .before .before .pair .result) (c .fitted .result)
+read : (c : tie.After-fitted) → let a = c .before .before .before .before .before .before .before .args in
+    frontOf (a .loaded) (a .last) (a .room) (now (a .l)) ≡ takenRead (c .before .before .pair2 .result) (4 + c .before .before .before .pair .result) (c .fitted .result)
 read c =
     let a = c .before .before .before .before .before .before .before .args in
-    rw (c .fitted .ensures) (read-whole (now (a .l)) _ _ (sym (c .before .before .before .before .before .whole .ensures) ∙ c .before .before .before .before .if1 .taken) (c .before .before .before .pair .ensures) (c .before .before .pair2 .ensures) (a .loaded) (a .room))
+    rw (c .fitted .ensures) (read-whole (now (a .l)) _ _ (sym (c .before .before .before .before .before .whole .ensures) ∙ c .before .before .before .before .if1 .taken) (c .before .before .before .pair .ensures) (c .before .before .pair2 .ensures) (a .loaded) (a .last) (a .room))
 
 whole-requires : tie.Need-whole-requires
 whole-requires c κs = search needs
@@ -64,7 +65,9 @@ refused-requires-2 : tie.Need-refused-requires-2
 refused-requires-2 c κs = search needs
 
 returns-3 : tie.Need-returns-3
-returns-3 c = c .refused2 .ensures ∙ sym (read-cut (c .before .before .before .before .args .loaded) (c .before .before .before .before .args .room) (now (c .before .before .before .before .args .l)) (sym (c .before .before .whole .ensures) ∙ c .before .if1 .left))
+returns-3 c =
+    let a = c .before .before .before .before .args in
+    c .refused2 .ensures ∙ sym (read-cut (a .loaded) (a .last) (a .room) (now (a .l)) (sym (c .before .before .whole .ensures) ∙ c .before .if1 .left))
 
 pub front-spec : {M : Type 1} → statement M
 front-spec =

@@ -1,0 +1,83 @@
+-- What the program says: what both sampling engines make of the state at the end of a session.
+use mathlib.Core.Bool.{Bool}
+use mathlib.Core.List.{List, [], _∷_, _++_}
+use Prim.Native.Nat.{ℕ, _*_, _^_}
+use lib.Dec.{leb, ltb}
+use lib.ListN.{length, drop}
+use Rattle.numbers.specs.Choice.{pick, both}
+use Rattle.numbers.specs.Offset.{zeroAt, offset32Of}
+use Rattle.parts.specs.Parts.{pairAt, quadAt}
+use Rattle.digits.specs.Digits.{lower, hexText}
+use Rattle.streams.specs.Streams.{Speech, output, error, unreadText, refusedText}
+use Rattle.charge.specs.declared.Charge.{Charge}
+use Rattle.full.specs.declared.Average.{Average}
+use Rattle.meter.specs.declared.Meter.{Meter}
+use Rattle.samples.specs.Samples.{sampledOf}
+use Rattle.label.specs.declared.Common.{Common}
+use Rattle.map.specs.Registers.{registersOf}
+use Rattle.gauge.specs.declared.Gauge.{Gauge}
+use Rattle.runs.specs.Record.{recsOf}
+use Rattle.runs.specs.Run.{endAfter}
+use Rattle.steps.specs.Step.{didOf}
+use Rattle.records.specs.Run.{emptyOf}
+
+-- engines
+abbrev pub enginesName : List ℕ
+enginesName = 101 ∷ 110 ∷ 103 ∷ 105 ∷ 110 ∷ 101 ∷ 115 ∷ []
+
+-- the input is not 6 to 32,774 bytes
+abbrev pub sizeWords : List ℕ
+sizeWords =
+    116 ∷ 104 ∷ 101 ∷ 32
+    ∷ 105 ∷ 110 ∷ 112 ∷ 117 ∷ 116 ∷ 32
+    ∷ 105 ∷ 115 ∷ 32
+    ∷ 110 ∷ 111 ∷ 116 ∷ 32
+    ∷ 54 ∷ 32
+    ∷ 116 ∷ 111 ∷ 32
+    ∷ 51 ∷ 50 ∷ 44 ∷ 55 ∷ 55 ∷ 52 ∷ 32
+    ∷ 98 ∷ 121 ∷ 116 ∷ 101 ∷ 115 ∷ []
+
+-- ---- what an engine asks of a meter, as a test
+
+abbrev pub chargeSound : Charge → Bool
+chargeSound g = both (ltb (g .count) (2 ^ 28)) (both (ltb (g .age) (32 * 65535)) (both (leb 63 (g .aging)) (leb (g .aging) 128)))
+
+abbrev pub averageSound : Average → Bool
+averageSound a = both (ltb (a .run) 8) (leb (a .sum) (65535 * a .run))
+
+unfoldable pub soundOf : Meter → Bool
+soundOf m =
+    both (both (chargeSound (m .charge)) (averageSound (m .flow .average)))
+    (both (leb (m .shown .model .full) 16384) (both (leb (m .shown .reading .volt) 1023) (ltb (m .shown .reading .temp) (2 ^ 11))))
+
+-- ---- the lines
+
+abbrev pub registersText : Common → Meter → List ℕ
+registersText k m = hexText lower (registersOf k m)
+
+-- the registers of a meter, and those after 64 more conversions of no current: what no register shows, the run of eight and the age counter,
+-- comes to light there
+abbrev pub lineText : Common → Meter → List ℕ
+lineText k m = registersText k m ++ (registersText k (sampledOf m (zeroAt 31) 64) ++ (10 ∷ []))
+
+-- each engine takes n conversions of a raw current, and has a line; where none may be asked, there is no line
+unfoldable pub linesText : Gauge → ℕ → ℕ → List ℕ
+linesText g raw n =
+    let line = lineText (g .common) (sampledOf (g .meter) raw n) in
+    pick (soundOf (g .meter)) (line ++ line) []
+
+-- the gauge at the end of a session, with 65,536 bytes of reply room
+abbrev pub gaugeAfter : List ℕ → Gauge
+gaugeAfter s = endAfter didOf emptyOf 65536 (recsOf s) .gauge
+
+-- ---- what is said: the raw current in 4 bytes, n in 2, and then the session
+
+unfoldable pub comparedSpeech : List ℕ → Speech
+comparedSpeech s =
+    pick (both (leb 6 (length s)) (leb (length s) 32774))
+    (output (linesText (gaugeAfter (drop 6 s)) (offset32Of (quadAt s 0)) (pairAt s 4)))
+    (error (refusedText 4 sizeWords))
+
+-- what is said of standard input s, or where a read of it failed
+abbrev pub comparedOf : Bool → List ℕ → Speech
+comparedOf failed s = pick failed (error (unreadText enginesName)) (comparedSpeech s)

@@ -1,0 +1,235 @@
+-- The charge: a conversion is a stretch of one, and a stretch and one conversion more are a longer stretch.
+use mathlib.Core.Path.{_≡_, refl, ap, _∙_}
+use mathlib.Core.Bool.{Bool, true, false, not}
+use mathlib.Core.Logic.{_⊎_, inl, inr, ⊎-elim}
+use Prim.Native.Nat.{ℕ, zero, suc, _+_, _-_, _*_, _^_, _≤_, _<_, min, max}
+use native.Mathlib.Nat.{eq-zero-or-pos, div-zero, min-zero, zero-min, zero-mul}
+use native.Mathlib.Omega.{arith}
+use lib.Dec.{eqb}
+use borrow.Author.Tests.{lt-ltb, le-ltb, eq-eqb, ne-eqb, eqb-true}
+use Rattle.numbers.specs.Offset.{zeroAt}
+use Rattle.numbers.specs.Choice.{both, either, butNot}
+use Rattle.params.specs.declared.Counting.{Counting}
+use Rattle.charge.specs.declared.Charge.{Charge}
+use Rattle.charge.specs.Charge.{ChargeWF, acrOf, fallOf, grownOf, agedOf, turnedOf, negative, countedOf, blankedOf}
+use Rattle.charge.proofs.Laws.{fall-small, counted-wf}
+use Rattle.samples.specs.Stretch.{grownOver, dropsOver, ageOver, agingOver, countOver, fallenOver, emptyOver, chargeOver}
+use Rattle.samples.proofs.Numbers.{either-way, reached, clamped-more, rises, falls, rises-on, falls-on, lost, lost-fits, lost-due, lost-still}
+
+-- ---- step 3
+
+abbrev zeros : ℕ
+zeros = zeroAt 15 + zeroAt 7
+
+abbrev top : ℕ
+top = 2 ^ 28 - 1
+
+grown-joined : (y counted ab : ℕ) → grownOf y counted ab ≡ min (y + (counted + ab) - zeros) top
+grown-joined y counted ab = omega arith
+
+-- what ACR falls one way adds up
+fall-none : (x y z : ℕ) → (x ≤ y) × (y ≤ z) → fallOf x y + fallOf y z ≡ fallOf x z
+fall-none x y z w = omega arith
+
+fall-sum : (x y z : ℕ) → (y ≤ x) × (z ≤ y) → fallOf x y + fallOf y z ≡ fallOf x z
+fall-sum x y z w = omega arith
+
+module _ (x counted ab k : ℕ) (h : x < 2 ^ 28) where
+  grown-more : grownOf (grownOver x counted ab k) counted ab ≡ grownOver x counted ab (suc k)
+  grown-more = grown-joined (grownOver x counted ab k) counted ab ∙ clamped-more x (counted + ab) zeros top k (omega arith)
+
+  one-way :
+      ((x ≤ grownOver x counted ab k) × (grownOver x counted ab k ≤ grownOver x counted ab (suc k))) ⊎
+      ((grownOver x counted ab k ≤ x) × (grownOver x counted ab (suc k) ≤ grownOver x counted ab k))
+  one-way =
+      ⊎-elim (λ p. inl (rises x (counted + ab) zeros top k (omega arith) p))
+      (λ p. inr (falls x (counted + ab) zeros top k (omega arith) p))
+      (either-way zeros (counted + ab))
+
+  fall-few : fallOf (grownOver x counted ab k) (grownOver x counted ab (suc k)) ≤ 9
+  fall-few = rw (← grown-more) (fall-small (grownOver x counted ab k) counted ab (omega arith))
+
+  fall-more :
+      fallOf x (grownOver x counted ab k) + fallOf (grownOver x counted ab k) (grownOver x counted ab (suc k)) ≡
+      fallOf x (grownOver x counted ab (suc k))
+  fall-more = ⊎-elim (fall-none _ _ _) (fall-sum _ _ _) one-way
+
+-- from the first on
+from-one : (x counted ab j : ℕ) → x < 2 ^ 28 →
+    ((grownOver x counted ab 1 ≤ grownOver x counted ab (suc j)) × (grownOver x counted ab (suc j) ≤ grownOver x counted ab (suc (suc j)))) ⊎
+    ((grownOver x counted ab (suc j) ≤ grownOver x counted ab 1) × (grownOver x counted ab (suc (suc j)) ≤ grownOver x counted ab (suc j)))
+from-one x counted ab j h =
+    ⊎-elim
+    (λ p. inl (rises-on x (counted + ab) zeros top j p, rises x (counted + ab) zeros top (suc j) (omega arith) p .1))
+    (λ p. inr (falls-on x (counted + ab) zeros top j p, falls x (counted + ab) zeros top (suc j) (omega arith) p .1))
+    (either-way zeros (counted + ab))
+
+-- ---- step 4
+
+-- after k conversions; t is the age counter at the start with all that ACR fell
+abbrev ageAfter : ℕ → ℕ → ℕ → ℕ
+ageAfter ac t k = ageOver ac t (dropsOver ac t k)
+
+abbrev agingAfter : ℕ → ℕ → ℕ → ℕ → ℕ
+agingAfter ac t k aging = agingOver aging (dropsOver ac t k)
+
+aging-once : (aging n : ℕ) → max (max (aging - n) 63 - 1) 63 ≡ max (aging - suc n) 63
+aging-once aging n = omega arith
+
+module _ (ac t f k aging : ℕ) (few : f ≤ 9) where
+  abbrev AgedMore : Type 0
+  AgedMore =
+      let x = agedOf ac (ageAfter ac t k + f) (agingAfter ac t k aging) in
+      (x .age ≡ ageAfter ac (t + f) (suc k)) × (x .aging ≡ agingAfter ac (t + f) (suc k) aging)
+
+  aged-never : ac ≡ 0 → AgedMore
+  aged-never e = (simp e, simp (e, div-zero, min-zero))
+
+  module _ (pos : 0 < ac) where
+    abbrev l : ℕ
+    l = 32 * ac
+
+    not-zero : eqb ac 0 ≡ false
+    not-zero = ne-eqb ac 0 (omega arith)
+
+    aged-due : l ≤ t - lost l t k * l + f → AgedMore
+    aged-due d =
+        let e = lost-due l t (t + f) k (omega arith) (omega arith) (omega arith) (omega (arith, lost-fits l t k)) in
+        (simp (not-zero, le-ltb _ l d, e) (omega (arith, lost-fits l t k)), simp (not-zero, le-ltb _ l d, e) (aging-once aging (lost l t k)))
+
+    aged-still : t - lost l t k * l + f < l → AgedMore
+    aged-still d =
+        let e = lost-still l t (t + f) k (omega arith) (omega arith) (omega arith) (omega (arith, lost-fits l t k)) in
+        (simp (not-zero, lt-ltb _ l d, e) (omega (arith, lost-fits l t k)), simp (not-zero, lt-ltb _ l d, e))
+
+  aged-more : AgedMore
+  aged-more =
+      ⊎-elim aged-never
+      (λ pos. ⊎-elim (aged-due pos) (aged-still pos) (reached (32 * ac) (t - lost (32 * ac) t k * (32 * ac) + f)))
+      (eq-zero-or-pos ac)
+
+-- none before the first
+aged-one : (ac age f aging : ℕ) → f ≤ 9 → 63 ≤ aging →
+    let x = agedOf ac (age + f) aging in
+    (x .age ≡ ageAfter ac (age + f) 1) × (x .aging ≡ agingAfter ac (age + f) 1 aging)
+aged-one ac age f aging few low =
+    let still : agingAfter ac age 0 aging ≡ aging = omega arith in
+    ⊎-elim
+    (λ (e : ac ≡ 0). (simp e, simp (e, div-zero, min-zero) (omega arith)))
+    (λ (pos : 0 < ac).
+    let none : ageAfter ac age 0 ≡ age = simp (ne-eqb ac 0 (omega arith), zero-min, zero-mul) (omega arith) in
+    rw (none, still) at (aged-more ac age f 0 aging few))
+    (eq-zero-or-pos ac)
+
+-- ---- step 5
+
+turned-same : (c : ℕ) → turnedOf c c ≡ false
+turned-same c = never-both (negative c)
+  where
+    never-both : (n : Bool) → both n (not n) ≡ false
+    never-both true = refl
+    never-both false = refl
+
+either-same : (t : Bool) → t ≡ either t t
+either-same true = refl
+either-same false = refl
+
+learnf-more : (learnf first now after : Bool) → (now ≡ true → either first after ≡ true) →
+    butNot (butNot (butNot learnf (either first now)) false) after ≡ butNot learnf (either first after)
+learnf-more learnf true now true h = refl
+learnf-more learnf true now false h = refl
+learnf-more learnf false true after h = simp (h refl)
+learnf-more learnf false false after h = refl
+
+-- ---- the charge
+
+module _ (p : Counting) (g : Charge) (last c : ℕ) (w : ChargeWF g) where
+  abbrev counted : ℕ
+  counted = blankedOf (p .nben) c
+
+  -- what a conversion makes of a charge h, with y for the new count
+  abbrev next : Charge → ℕ → ℕ → Charge
+  next h before y = record {
+    count = y;
+    age = agedOf (p .ac) (h .age + fallOf (h .count) y) (h .aging) .age;
+    aging = agedOf (p .ac) (h .age + fallOf (h .count) y) (h .aging) .aging;
+    learnf = butNot (butNot (h .learnf) (turnedOf before c)) (eqb (acrOf y) 0);
+  }
+
+  pub charge-one : countedOf p g last c ≡ chargeOver p g last c 1
+  unfolding countedOf chargeOver
+  charge-one =
+      let x : grownOf (g .count) counted (p .ab) ≡ countOver p g c 1 = omega arith in
+      let few : fallOf (g .count) (countOver p g c 1) ≤ 9 = rw (← x) (fall-small (g .count) counted (p .ab) (w .count)) in
+      let a = aged-one (p .ac) (g .age) (fallOf (g .count) (countOver p g c 1)) (g .aging) few (w .low) in
+      ap (next g last) x ∙
+      (λ i. record {
+        count = countOver p g c 1;
+        age = a .0 i;
+        aging = a .1 i;
+        learnf = butNot (butNot (g .learnf) (turnedOf last c)) (either-same (eqb (acrOf (countOver p g c 1)) 0) i);
+      })
+
+  -- k conversions, at least one, and one more
+  module _ (j : ℕ) where
+    abbrev k : ℕ
+    k = suc j
+
+    abbrev x1 : ℕ
+    x1 = countOver p g c k
+
+    abbrev x2 : ℕ
+    x2 = countOver p g c (suc k)
+
+    -- an ACR of 0 stays, or was there after the first
+    empties : (first x y : ℕ) → ((first ≤ x) × (x ≤ y)) ⊎ ((x ≤ first) × (y ≤ x)) → eqb (acrOf x) 0 ≡ true
+        → either (eqb (acrOf first) 0) (eqb (acrOf y) 0) ≡ true
+    empties first x y o e =
+        let z = eqb-true (acrOf x) 0 e in
+        ⊎-elim
+        (λ r. simp (eq-eqb (acrOf first) 0 (omega arith)))
+        (λ r. simp (eq-eqb (acrOf y) 0 (omega arith)) (either-true (eqb (acrOf first) 0)))
+        o
+      where
+        either-true : (t : Bool) → either t true ≡ true
+        either-true true = refl
+        either-true false = refl
+
+    fallen-more : fallenOver p g c k + fallOf x1 x2 ≡ fallenOver p g c (suc k)
+    fallen-more = joined (g .age) _ _ _ (fall-more (g .count) counted (p .ab) k (w .count))
+      where
+        joined : (a b c d : ℕ) → b + c ≡ d → a + b + c ≡ a + d
+        joined a b c d e = omega arith
+
+    aged-both :
+        let x = agedOf (p .ac) (chargeOver p g last c k .age + fallOf x1 x2) (chargeOver p g last c k .aging) in
+        (x .age ≡ chargeOver p g last c (suc k) .age) × (x .aging ≡ chargeOver p g last c (suc k) .aging)
+    unfolding chargeOver
+    aged-both =
+        let a = aged-more (p .ac) (fallenOver p g c k) (fallOf x1 x2) k (g .aging) (fall-few (g .count) counted (p .ab) k (w .count)) in (
+          a .0 ∙ ap (λ (t : ℕ). ageAfter (p .ac) t (suc k)) fallen-more,
+          a .1 ∙ ap (λ (t : ℕ). agingAfter (p .ac) t (suc k) (g .aging)) fallen-more,
+        )
+
+    learnf-both :
+        butNot (butNot (chargeOver p g last c k .learnf) (turnedOf c c)) (eqb (acrOf x2) 0) ≡ chargeOver p g last c (suc k) .learnf
+    unfolding chargeOver
+    learnf-both =
+        let l = butNot (g .learnf) (turnedOf last c) in
+        ap (λ (t : Bool). butNot (butNot (butNot l (emptyOver p g c k)) t) (eqb (acrOf x2) 0)) (turned-same c) ∙
+        learnf-more l (eqb (acrOf (countOver p g c 1)) 0) (eqb (acrOf x1) 0) (eqb (acrOf x2) 0)
+        (empties (countOver p g c 1) x1 x2 (from-one (g .count) counted (p .ab) j (w .count)))
+
+    pub charge-more : countedOf p (chargeOver p g last c k) c c ≡ chargeOver p g last c (suc k)
+    unfolding countedOf chargeOver
+    charge-more =
+        ap (next (chargeOver p g last c k) c) (grown-more (g .count) counted (p .ab) k (w .count)) ∙
+        (λ i. record { count = x2; age = aged-both .0 i; aging = aged-both .1 i; learnf = learnf-both i })
+
+  -- ---- what is kept
+
+  pub charge-wf : p .ac ≤ 65535 → (k : ℕ) → 1 ≤ k → ChargeWF (chargeOver p g last c k)
+  charge-wf h zero some = absurd (omega arith)
+  charge-wf h (suc zero) some = rw (← charge-one) (counted-wf p g last c h w)
+  charge-wf h (suc (suc j)) some =
+      rw (← charge-more j) (counted-wf p (chargeOver p g last c (suc j)) c c h (charge-wf h (suc j) (omega arith)))

@@ -1,0 +1,6 @@
+pub mod Numbers
+pub mod Charge
+pub mod Run
+pub mod Laws
+pub mod Engines
+pub mod Unique

@@ -1,0 +1,26 @@
+use native.Mathlib.Omega.{arith}
+use Rattle.meter.proofs.Laws.{with-charge-wf}
+use Rattle.samples.specs.Stretch.{stretchedOf}
+use Rattle.samples.proofs.Charge.{charge-wf}
+use borrow.Author.Needs.{needs}
+use Rattle.samples.proofs.stretch.Statement.{statement}
+use Rattle.samples.proofs.stretch.Tie as tie
+
+flowed-over-requires : tie.Need-flowed-over-requires
+flowed-over-requires c κs =
+    let c9 = c .before .before .before .before .before .before .before .before .before in
+    let c12 = c9 .before .before .before in
+    with-charge-wf _ _ (rw (c .charge-over .ensures) (charge-wf _ _ _ _ (c12 .pre .0 .charge) (omega (arith, c9 .of .ok)) (c12 .args .k) (c12 .pre .1))) (c12 .pre .0)
+
+returns : tie.Need-returns
+unfolding stretchedOf
+returns c =
+    let c1 = c .before in
+    let c3 = c1 .before .before in
+    let c4 = c3 .before in
+    let c7 = c4 .before .before .before in
+    let c10 = c7 .before .before .before in
+    (simp (c .flowed-over .ensures .0, c1 .charge-over .ensures, c3 .current .ensures, c4 .of3 .ensures, c7 .of2 .ensures, c10 .of .ensures), c .flowed-over .ensures .1)
+
+pub stretch-spec : {M : Type 1} → statement M
+stretch-spec = tie.close (tie.spec (λ c κs. search needs) (λ c κs. search needs) (λ c κs. search needs) (λ c κs. search needs) (λ c κs. search needs) flowed-over-requires returns)

@@ -1,0 +1,3 @@
+pub mod Samples
+pub mod Stretch
+pub mod Engines

@@ -1,0 +1,124 @@
+-- What a stretch comes to: k conversions of the same c, k at least 1, of which none but the last may find full. Currents are kept as z + 2^15.
+use mathlib.Core.Path.{_≡_}
+use mathlib.Core.Bool.{Bool, true, false}
+use mathlib.Core.Logic.{_⊎_}
+use Prim.Native.Nat.{ℕ, _+_, _-_, _*_, _/_, _%_, _^_, _≤_, min, max}
+use lib.Dec.{ltb, leb, eqb}
+use Rattle.numbers.specs.Offset.{zeroAt}
+use Rattle.numbers.specs.Choice.{pick, both, either, butNot}
+use Rattle.params.specs.declared.Counting.{Counting}
+use Rattle.params.specs.declared.Limits.{Limits}
+use Rattle.params.specs.Params.{countingOf, limitsOf, capacityOf}
+use Rattle.charge.specs.declared.Charge.{Charge}
+use Rattle.charge.specs.declared.Trace.{Trace}
+use Rattle.charge.specs.Charge.{acrOf, currentOf, turnedOf, blankedOf, fallOf}
+use Rattle.full.specs.declared.Average.{Average}
+use Rattle.full.specs.Full.{renewedOf, foundOf, settledOf}
+use Rattle.meter.specs.declared.Flow.{Flow}
+use Rattle.meter.specs.declared.Meter.{Meter}
+use Rattle.meter.specs.State.{withCharge, withFlags}
+use Rattle.meter.specs.Convert.{filledFlags}
+
+-- ---- steps 1 to 5
+
+-- step 3: what is added has one sign, so that one clamp does
+abbrev pub grownOver : ℕ → ℕ → ℕ → ℕ → ℕ
+grownOver count counted ab k = min (count + k * (counted + ab) - k * (zeroAt 15 + zeroAt 7)) (2 ^ 28 - 1)
+
+-- step 4: how often AS falls, by the age counter with all that ACR fell. ACR falls by less than 32 × AC at a time, so that AS falls at
+-- each conversion, or as often as 32 × AC goes into the counter; with AC = 0 never
+abbrev pub dropsOver : ℕ → ℕ → ℕ → ℕ
+dropsOver ac age k = min k (age / (32 * ac))
+
+-- the age counter and AS after so many falls of AS
+abbrev pub ageOver : ℕ → ℕ → ℕ → ℕ
+ageOver ac age drops = pick (eqb ac 0) 0 (age - drops * (32 * ac))
+
+abbrev pub agingOver : ℕ → ℕ → ℕ
+agingOver aging drops = max (aging - drops) 63
+
+abbrev pub countOver : Counting → Charge → ℕ → ℕ → ℕ
+countOver p g c k = grownOver (g .count) (blankedOf (p .nben) c) (p .ab) k
+
+-- the age counter with all that ACR fell, before anything is taken off
+abbrev pub fallenOver : Counting → Charge → ℕ → ℕ → ℕ
+fallenOver p g c k = g .age + fallOf (g .count) (countOver p g c k)
+
+-- step 5: ACR is 0 after some conversion where it is after the first or the last, since it goes one way
+abbrev pub emptyOver : Counting → Charge → ℕ → ℕ → Bool
+emptyOver p g c k = either (eqb (acrOf (countOver p g c 1)) 0) (eqb (acrOf (countOver p g c k)) 0)
+
+unfoldable pub chargeOver : Counting → Charge → ℕ → ℕ → ℕ → Charge
+chargeOver p g last c k =
+    let age = fallenOver p g c k in
+    let drops = dropsOver (p .ac) age k in
+    record {
+      count = countOver p g c k;
+      age = ageOver (p .ac) age drops;
+      aging = agingOver (g .aging) drops;
+      learnf = butNot (butNot (g .learnf) (turnedOf last c)) (emptyOver p g c k);
+    }
+
+-- ---- CURRENT, and the c before it
+
+unfoldable pub traceOver : Trace → ℕ → ℕ → Trace
+traceOver t c k = record { last = c; before = pick (eqb k 1) (t .last) c; any = true; two = either (ltb 1 k) (t .any) }
+
+-- ---- step 6
+
+-- a run of eight ends in the stretch
+abbrev pub endsOver : Average → ℕ → Bool
+endsOver a k = leb 8 (a .run + k)
+
+-- the run as its eighth conversion finds it
+abbrev pub seventhOf : Average → ℕ → Average
+seventhOf a c = record { run = 7; sum = a .sum + (7 - a .run) * c; iavg = a .iavg; known = a .known }
+
+-- the average of the run that ends first, of which the stretch has the last; any that ends later has c alone, and c is its average
+abbrev pub meanOver : Average → ℕ → ℕ → ℕ
+meanOver a c k = pick (ltb (a .run + k) 16) ((a .sum + (8 - a .run) * c) / 8) c
+
+unfoldable pub averageOver : Average → ℕ → ℕ → Average
+averageOver a c k =
+    pick (endsOver a k) (record { run = (a .run + k) % 8; sum = (a .run + k) % 8 * c; iavg = meanOver a c k; known = true })
+    (record { run = a .run + k; sum = a .sum + k * c; iavg = a .iavg; known = a .known })
+
+-- full is found, where a run ends first
+abbrev pub foundOver : Flow → Limits → ℕ → ℕ → Bool
+foundOver f p c k = both (endsOver (f .average) k) (foundOf (seventhOf (f .average) c) (f .since) p c)
+
+unfoldable pub flowOver : Flow → ℕ → ℕ → Flow
+flowOver f c k = record {
+  trace = traceOver (f .trace) c k;
+  average = averageOver (f .average) c k;
+  since = renewedOf (f .since) (endsOver (f .average) k);
+  tick = f .tick;
+}
+
+unfoldable pub flowedOver : Meter → Limits → ℕ → ℕ → ℕ → Meter
+flowedOver m p full40 c k =
+    let found = foundOver (m .flow) p c k in
+    record {
+      cells = m .cells;
+      charge = settledOf (m .charge) found (m .shown .model .full) full40;
+      flow = flowOver (m .flow) c k;
+      shown = withFlags (m .shown) (filledFlags (m .shown .flags) found);
+    }
+
+-- ---- the meter, as after k times `convertOf`
+
+unfoldable pub stretchedOf : Meter → ℕ → ℕ → Meter
+stretchedOf m raw k =
+    let block = m .cells .block .shadow in
+    let p = countingOf block in
+    let c = currentOf raw (p .cob) in
+    let counted = withCharge m (chargeOver p (m .charge) (m .flow .trace .last) c k) in
+    flowedOver counted (limitsOf block) (capacityOf block .full40) c k
+
+-- it is that where no run of eight ends before the last conversion, or no reading came since the last average: no full is found then
+abbrev pub Quiet : Flow → ℕ → Type 0
+Quiet f k = (f .average .run + k ≤ 8) ⊎ (f .since .any ≡ false)
+
+-- how many of those that are left a stretch takes
+unfoldable pub reachOf : ℕ → Bool → ℕ → ℕ
+reachOf run any left = pick any (min (8 - run) left) left

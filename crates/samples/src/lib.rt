@@ -1,0 +1,215 @@
+// Slow sampling: n conversions of one raw current, one by one or in stretches.
+use charge::Charge;
+use charge::Trace;
+use full::Average;
+use meter::Meter;
+use params::Capacity;
+use params::Counting;
+use params::Limits;
+ghost use mathlib.Core.Path.{_≡_};
+ghost use Prim.Native.Nat.{_≤_, _<_};
+ghost use Rattle.charge.specs.Charge.{ChargeWF};
+ghost use Rattle.full.specs.Full.{AverageWF};
+ghost use Rattle.meter.specs.State.{MeterWF};
+ghost use Rattle.samples.specs.Samples.{sampledOf, sampleOf};
+ghost use Rattle.samples.specs.Stretch.{grownOver, dropsOver, ageOver, agingOver, chargeOver, traceOver, seventhOf, averageOver, flowedOver, stretchedOf, reachOf};
+
+// ---- a stretch: k conversions of the same c, of which none but the last may find full
+
+// Step 3.
+fn grown_over(count: u32, counted: u16, ab: u8, k: u16) -> u32
+    ensures { λ r. ⌜ r ≡ grownOver count counted ab k ⌝ }
+{
+    let each = (counted as u64) + (ab as u64);
+    let zero = (numbers::ZERO15 as u64) + (numbers::ZERO7 as u64);
+    let sum = (count as u64) + (k as u64) * each;
+    numbers::at_most(268435455, numbers::less(sum, (k as u64) * zero)) as u32
+}
+
+// Step 4: how often AS falls.
+fn drops_over(ac: u16, age: u32, k: u16) -> u16
+    ensures { λ r. ⌜ r ≡ dropsOver ac age k ⌝ }
+{
+    let limit = 32 * (ac as u64);
+    numbers::at_most(numbers::quotient(age as u64, limit), k as u64) as u16
+}
+
+// Step 4: the age counter after so many falls of AS.
+fn age_over(ac: u16, age: u32, drops: u16) -> u32
+    ensures { λ r. ⌜ r ≡ ageOver ac age drops ⌝ }
+{
+    let limit = 32 * (ac as u64);
+    let left = numbers::less(age as u64, (drops as u64) * limit) as u32;
+    if ac == 0 { 0 } else { left }
+}
+
+// Step 4: AS after them.
+fn aging_over(aging: u8, drops: u16) -> u8
+    ensures { λ r. ⌜ r ≡ agingOver aging drops ⌝ }
+{
+    numbers::at_least(63, numbers::less(aging as u64, drops as u64)) as u8
+}
+
+// Steps 1 to 5.
+fn charge_over(p: Counting, g: Charge, last: u16, c: u16, k: u16) -> Charge
+    requires { ⌜ ChargeWF g ⌝ }
+    ensures { λ r. ⌜ r ≡ chargeOver p g last c k ⌝ }
+{
+    let counted = charge::blanked(p.nben, c);
+    let first = grown_over(g.count, counted, p.ab, 1);
+    let count = grown_over(g.count, counted, p.ab, k);
+    let fall = numbers::less((g.count / 4096) as u64, (count / 4096) as u64) as u32;
+    let age = g.age + fall;
+    let drops = drops_over(p.ac, age, k);
+    let was = last < numbers::ZERO15;
+    let turned = numbers::and(c < numbers::ZERO15, !was);
+    let learnf = numbers::and_not(g.learnf, turned);
+    Charge {
+        count: count,
+        age: age_over(p.ac, age, drops),
+        aging: aging_over(g.aging, drops),
+        learnf: numbers::and_not(learnf, numbers::or(first / 4096 == 0, count / 4096 == 0)),
+    }
+}
+
+// Step 1: CURRENT, and the c before it.
+fn trace_over(t: Trace, c: u16, k: u16) -> Trace
+    ensures { λ r. ⌜ r ≡ traceOver t c k ⌝ }
+{
+    Trace {
+        last: c,
+        before: numbers::choose16(k == 1, t.last, c),
+        any: true,
+        two: numbers::or(1 < k, t.any),
+    }
+}
+
+// Step 6: the run as its eighth conversion finds it.
+fn seventh(a: Average, c: u16) -> Average
+    requires { ⌜ AverageWF a ⌝ }
+    ensures { λ r. ⌜ r ≡ seventhOf a c ⌝ }
+    ensures kept { λ r. ⌜ AverageWF r ⌝ }
+{
+    Average {
+        run: 7,
+        sum: a.sum + (7 - (a.run as u32)) * (c as u32),
+        iavg: a.iavg,
+        known: a.known,
+    }
+}
+
+// Step 6: the run of eight goes on, or ends with IAVG.
+fn average_over(a: Average, c: u16, k: u16) -> Average
+    requires { ⌜ AverageWF a ⌝ }
+    ensures { λ r. ⌜ r ≡ averageOver a c k ⌝ }
+{
+    let run = (a.run as u32) + (k as u32);
+    if 8 <= run {
+        let mean = ((a.sum + (8 - (a.run as u32)) * (c as u32)) / 8) as u16;
+        Average {
+            run: (run % 8) as u8,
+            sum: run % 8 * (c as u32),
+            iavg: numbers::choose16(run < 16, mean, c),
+            known: true,
+        }
+    } else {
+        Average {
+            run: run as u8,
+            sum: a.sum + (k as u32) * (c as u32),
+            iavg: a.iavg,
+            known: a.known,
+        }
+    }
+}
+
+// Step 6, and CURRENT.
+fn flowed_over(mut m: Meter, p: Limits, full40: u16, c: u16, k: u16) -> Meter
+    requires { ⌜ MeterWF m ⌝ }
+    ensures { λ r. ⌜ r ≡ flowedOver m p full40 c k ⌝ }
+    ensures kept { λ r. ⌜ MeterWF r ⌝ }
+{
+    let mut flow = m.flow;
+    flow.trace = trace_over(flow.trace, c, k);
+    if 8 <= (flow.average.run as u32) + (k as u32) {
+        let seven = seventh(flow.average, c);
+        let found = seven.found(flow.since, p, c);
+        m.charge = full::settled(m.charge, found, m.shown.model.full, full40);
+        let chgtf = numbers::or(found, m.shown.flags.chgtf);
+        m.shown.flags.chgtf = chgtf;
+        flow.since.any = false;
+        flow.since.lowest = 0;
+    }
+    flow.average = average_over(flow.average, c, k);
+    m.flow = flow;
+    m
+}
+
+fn stretch(mut m: Meter, raw: u32, k: u16) -> Meter
+    requires { ⌜ MeterWF m ⌝ }
+    requires { ⌜ 1 ≤ k ⌝ }
+    ensures { λ r. ⌜ r ≡ stretchedOf m raw k ⌝ }
+    ensures kept { λ r. ⌜ MeterWF r ⌝ }
+{
+    let p = Counting::of(&m.cells.block.shadow);
+    let limits = Limits::of(&m.cells.block.shadow);
+    let full = Capacity::of(&m.cells.block.shadow);
+    let c = charge::current(raw, p.cob);
+    m.charge = charge_over(p, m.charge, m.flow.trace.last, c, k);
+    flowed_over(m, limits, full.full40, c, k)
+}
+
+// How many of the conversions that are left a stretch takes: up to the end of the run of eight, where full may be found, or all.
+fn reach(run: u8, any: bool, left: u16) -> u16
+    requires { ⌜ run < 8 ⌝ }
+    requires { ⌜ 1 ≤ left ⌝ }
+    ensures { λ r. ⌜ r ≡ reachOf run any left ⌝ }
+    ensures fits { λ r. ⌜ r ≤ left ⌝ }
+    ensures some { λ r. ⌜ 1 ≤ r ⌝ }
+{
+    let gap = numbers::at_most(left as u64, 8 - (run as u64)) as u16;
+    numbers::choose16(any, gap, left)
+}
+
+// ---- the two engines
+
+// The plain engine: one conversion after the other.
+pub fn plain(mut m: Meter, raw: u32, n: u16) -> Meter
+    requires { ⌜ MeterWF m ⌝ }
+    ensures { λ r. ⌜ r ≡ sampledOf m raw n ⌝ }
+    ensures kept { λ r. ⌜ MeterWF r ⌝ }
+{
+    let mut i: u16 = 0;
+    while i < n {
+        m = m.convert(raw);
+        i += 1;
+    }
+    m
+}
+
+// The quick engine: stretches. Full may be found at the end of the run of eight that stands, and at none after it, since no reading comes
+// within a sample: there are two stretches at most.
+pub fn quick(mut m: Meter, raw: u32, mut left: u16) -> Meter
+    requires { ⌜ MeterWF m ⌝ }
+    ensures { λ r. ⌜ r ≡ sampledOf m raw left ⌝ }
+    ensures kept { λ r. ⌜ MeterWF r ⌝ }
+{
+    while 0 < left {
+        let k = reach(m.flow.average.run, m.flow.since.any, left);
+        m = stretch(m, raw, k);
+        left = left - k;
+    }
+    m
+}
+
+// A sample of any signed 32-bit raw current, which comes as z + 2^31, with its tick: as many conversions as ticks have elapsed.
+pub fn sample(mut m: Meter, raw: u32, tick: u16) -> Meter
+    requires { ⌜ MeterWF m ⌝ }
+    ensures { λ r. ⌜ r ≡ sampleOf m raw tick ⌝ }
+    ensures kept { λ r. ⌜ MeterWF r ⌝ }
+{
+    let n = m.flow.tick.elapsed(tick);
+    m = quick(m, raw, n);
+    m.flow.tick.any = true;
+    m.flow.tick.last = tick;
+    m
+}
