@@ -289,7 +289,7 @@ static void reading(Gauge *g, int32_t voltage, int32_t temperature)
 {
     byte *m = g->memory;
     int32_t volt = clamped(voltage, 0, 1023), temp = clamped(temperature, -1024, 1023);
-    Lines lines = model_lines(m, temp >> 3);
+    Lines lines = model_lines(m, (temp + 4) >> 3);
     put_big_16(m + VOLT, volt * 32);
     put_big_16(m + TEMP, temp * 32);
     put_big_16(m + FULL, lines.full);

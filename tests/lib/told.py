@@ -4,7 +4,7 @@
   for all that are named, or one for each. What follows is claimed of the state after the last of them; before the first, of record 1.
 - `RARC 4`, `ACR 0269h = 617`, `FULL = 16,384 - 22 × 10 = 16,164`: a register or parameter, and sums, which are all equal. Quotients are rounded
   down; hexadecimal is two's complement of 16 bits.
-- `AEF and SEF are set`, `LEARNF is cleared`: flags. `at -5 °C`: whole degrees.
+- `AEF and SEF are set`, `LEARNF is cleared`: flags. `at -5 °C`: the nearest degree.
 - "0417" in double quotes: the reply as ASCII.
 - `Records 9 and 11 have the bytes of records 2 and 3`, or `the currents` of them. `tick 24`: that of a sample.
 - A row `| 1, 3 | 5 | why |` of a table: the answers of records; every refusal of the story has one. `Answer 1 is missing here`.
@@ -64,7 +64,7 @@ def states(dumped):
         for name, (at, size, signed) in PARAMETERS.items():
             values[name] = int.from_bytes(block[at - 0x60:at - 0x60 + size], "big", signed=signed)
         values |= {"ACR": acr, "fraction": fraction, "ACRL": 16 * fraction, "saved ACR": saved_acr, "saved AS": saved_as}
-        values |= {"AF": values["FULL"] * values["AS"] // 128, "E": values["AE"] * values["Full40"] // 16384, "T": values["TEMP"] // 8}
+        values |= {"AF": values["FULL"] * values["AS"] // 128, "E": values["AE"] * values["Full40"] // 16384, "T": (values["TEMP"] + 4) // 8}
         values |= {"N": 16384 * acr - values["AE"] * values["Full40"], "D": (values["AF"] - values["AE"]) * values["Full40"]}
         values |= {"STATUS": sum(weight for flag, weight in FLAGS.items() if flag in flags), "flags": flags}
         values |= {"TEMP": 32 * values["TEMP"], "VOLT": 32 * values["VOLT"]}

@@ -45,7 +45,7 @@ static int32_t wide_parameter(const Gauge *g, int32_t address);
 static int32_t age_scaled_full(const Gauge *g);
 static int32_t counted(const Gauge *g, int32_t c);
 static int32_t segment(const Gauge *g, int32_t t);
-static int32_t whole_degrees(int32_t temperature);
+static int32_t nearest_degree(int32_t temperature);
 static bool in_block_0(int32_t address);
 static bool in_block_1(int32_t address);
 static int32_t signed_byte(int32_t value);
@@ -379,12 +379,17 @@ static void saw_sample(const Gauge *was, const Gauge *is, int32_t raw)
 
 static void saw_lines(const Gauge *is)
 {
-    int32_t degrees = whole_degrees(is->temperature);
+    int32_t degrees = nearest_degree(is->temperature);
     int32_t high = signed_parameter(is, TBP34), middle = signed_parameter(is, TBP23), low = signed_parameter(is, TBP12);
     bool crossed = high < middle || middle < low;
     SAW(degrees >= 40, "model: no step, at 40 degrees or above");
     SAW(degrees == 39, "model: one step");
-    SAW(is->temperature < 0 && is->temperature % 8 != 0, "model: degrees rounded down below 0");
+    int32_t eighths = is->temperature - 8 * degrees;
+    SAW(eighths < 0, "model: a degree rounded up");
+    SAW(eighths > 0, "model: a degree rounded down");
+    SAW(eighths == -4, "model: half a degree rounded up");
+    SAW(is->temperature < 0 && eighths == -4, "model: half a degree below 0 rounded up");
+    SAW(degrees == 128, "model: 128 degrees");
     for (int32_t t = 39; t >= degrees; t--) {
         SAW(segment(is, t) == 4, "model: a step of segment 4");
         SAW(segment(is, t) == 3, "model: a step of segment 3");

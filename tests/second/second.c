@@ -296,9 +296,10 @@ static void sample(Gauge *g, int32_t raw, int32_t tick)
 
 /* ---- Reading ---- */
 
-static int32_t whole_degrees(int32_t temperature)
+/* R5: halves go upward. */
+static int32_t nearest_degree(int32_t temperature)
 {
-    return (int32_t)divided_down(temperature, 8);
+    return (int32_t)divided_down(temperature + 4, 8);
 }
 
 /* R7 to R11. */
@@ -366,7 +367,7 @@ static void reading(Gauge *g, int32_t voltage, int32_t temperature)
 
     g->voltage = (int32_t)clamped(voltage, 0, 1023);
     g->temperature = (int32_t)clamped(temperature, -1024, 1023);
-    model_lines(g, whole_degrees(g->temperature));
+    model_lines(g, nearest_degree(g->temperature));
 
     bool below = g->voltage < empty_voltage;
     if (below)
@@ -725,10 +726,16 @@ static void hold_model_lines(void)
     }
     Gauge g = model_m();
     reading(&g, 500, -1);
-    hold("count -1 in degrees", -1, whole_degrees(-1));
-    hold("count -1, FULL", 15774, g.full);
-    hold("count 319 in degrees", 39, whole_degrees(319));
-    hold("count 320 in degrees", 40, whole_degrees(320));
+    hold("count -1, FULL", 15804, g.full);
+    reading(&g, 500, 319);
+    hold("count 319, FULL", 16384, g.full);
+    static const int32_t degrees[9][2] = {
+        {-1, 0}, {319, 40}, {320, 40}, {4, 1}, {3, 0}, {-4, 0}, {-5, -1}, {31, 4}, {1023, 128}};
+    for (int32_t i = 0; i < 9; i++) {
+        char name[40];
+        snprintf(name, sizeof name, "count %d in degrees", (int)degrees[i][0]);
+        hold(name, degrees[i][1], nearest_degree(degrees[i][0]));
+    }
 }
 
 static void hold_results(void)

@@ -113,6 +113,12 @@ temperatures = plus (8 * 40) ∷ plus (8 * 18) ∷ plus (8 * 0) ∷ minus (8 * 1
 abbrev readM : ℕ → Meter
 readM t = readAt t (powered M 5000 128)
 
+abbrev fullAt : ℕ → ℕ
+fullAt t = readM t .shown .model .full
+
+abbrev degreesAt : ℕ → ℕ
+degreesAt t = degrees (readM t)
+
 abbrev warm : Meter
 warm = readM (plus (8 * 40))
 
@@ -142,12 +148,15 @@ worn = readAt (plus (8 * 0)) (powered steep 9000 63)
 abbrev pub figures : List Figure
 figures =
     -- F3 to F7. M at 40, 18, 0, -12, -20 °C: FULL, AE, SE
-    (map (λ t. readM t .shown .model .full) temperatures is 16384 ∷ 16164 ∷ 15804 ∷ 15444 ∷ 15124 ∷ []) ∷
+    (map fullAt temperatures is 16384 ∷ 16164 ∷ 15804 ∷ 15444 ∷ 15124 ∷ []) ∷
     (map (λ t. readM t .shown .model .ae) temperatures is 64 ∷ 174 ∷ 354 ∷ 594 ∷ 834 ∷ []) ∷
     (map (λ t. readM t .shown .model .se) temperatures is 0 ∷ 22 ∷ 58 ∷ 94 ∷ 126 ∷ []) ∷
-    -- F8 to F10. Temperature count -1 is -1 °C: FULL 15774. Count 319 is 39 °C, 320 is 40
-    (degrees (readM (minus 1)) ∷ readM (minus 1) .shown .model .full ∷ [] is (zeroAt 7 - 1) ∷ 15774 ∷ []) ∷
-    (degrees (readM (plus 319)) ∷ degrees (readM (plus 320)) ∷ [] is (zeroAt 7 + 39) ∷ (zeroAt 7 + 40) ∷ []) ∷
+    -- F8 to F10. Temperature count -1 is 0 °C: FULL 15804. Counts 319 and 320 are 40 °C: FULL 16384
+    (map degreesAt (minus 1 ∷ plus 319 ∷ plus 320 ∷ []) is zeroAt 7 ∷ (zeroAt 7 + 40) ∷ (zeroAt 7 + 40) ∷ []) ∷
+    (map fullAt (minus 1 ∷ plus 319 ∷ plus 320 ∷ []) is 15804 ∷ 16384 ∷ 16384 ∷ []) ∷
+    -- W6.2. Count 4 is 1 °C, 3 and -4 are 0, -5 is -1, 31 is 4; the ends are -128 and 128
+    (map degreesAt (plus 4 ∷ plus 3 ∷ minus 4 ∷ minus 5 ∷ plus 31 ∷ []) is (zeroAt 7 + 1) ∷ zeroAt 7 ∷ zeroAt 7 ∷ (zeroAt 7 - 1) ∷ (zeroAt 7 + 4) ∷ []) ∷
+    (map degreesAt (minus 1024 ∷ plus 1023 ∷ []) is (zeroAt 7 - 128) ∷ (zeroAt 7 + 128) ∷ []) ∷
     -- F11. M, 40 °C, ACR 5,000: RARC 49, RSRC 50, RAAC 968, RSAC 976
     (warm .shown .results .rarc ∷ warm .shown .results .rsrc ∷ warm .shown .results .raac ∷ warm .shown .results .rsac ∷ [] is 49 ∷ 50 ∷ 968 ∷ 976 ∷ []) ∷
     -- F12. M, 0 °C, AS 122, LEARNF 0, full found: AF 15063, ACR 9194, then RARC 100
@@ -169,4 +178,4 @@ figures =
 
 pub figures-hold : Hold figures
 unfolding poweredOf countedOf averagedOf renewedOf foundOf learntOf agedFullOf shareOf shareUpOf filledOf settledOf flowedOf convertOf slopesOver linesOf drainingOf pointOf emptiedOf leftOf usableOf percentOf amountOf resultsOf ratedOf flaggedOf keptOf loweredOf seenOf drainedOf shownOf readOf
-figures-hold = (refl, (refl, (refl, (refl, (refl, (refl, (refl, (refl, (refl, (refl, (refl, (refl, (refl, (refl, tt))))))))))))))
+figures-hold = (refl, (refl, (refl, (refl, (refl, (refl, (refl, (refl, (refl, (refl, (refl, (refl, (refl, (refl, (refl, (refl, tt))))))))))))))))

@@ -140,7 +140,9 @@ temp-means raw =
     sym (offset.clamped raw (2 ^ 31) 1023 ∙ ap (λ (x : ℕ). value 10 (min x 2047)) e)
 
 pub degrees-means : (temp : ℕ) → value 7 (degreesOf temp) ≡ degreesZ (value 10 temp)
-degrees-means temp = offset.divided temp (2 ^ 7) 8 (omega arith)
+degrees-means temp =
+    offset.divided (temp + 4) (2 ^ 7) 8 (omega arith)
+    ∙ ap (λ (z : ℤ). divZ z 8) (sym (ap (λ (z : ℤ). value 10 temp +ℤ z) (sub-none 4) ∙ sub-add temp (2 ^ 10) 4 0))
 
 pub slope-means : (b : Breaks) (s : Slopes) (t : ℕ) → slopeOf b s t ≡ slopeZ b s (value 7 t)
 slope-means b s t = λ i.

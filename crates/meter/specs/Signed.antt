@@ -83,9 +83,9 @@ voltZ raw = clampZ (pos 0) (pos 1023) raw
 abbrev pub tempZ : ℤ → ℤ
 tempZ raw = clampZ (minus 1024) (pos 1023) raw
 
--- whole degrees, rounded down
+-- the nearest degree, halves upward
 abbrev pub degreesZ : ℤ → ℤ
-degreesZ temp = divZ temp 8
+degreesZ temp = divZ (temp +ℤ pos 4) 8
 
 -- segment 4 if t ≥ TBP34, else 3 if t ≥ TBP23, else 2 if t ≥ TBP12, else 1
 abbrev pub slopeZ : Breaks → Slopes → ℤ → ℕ

@@ -33,7 +33,7 @@ fn end(lowest: u8, top: u8, b: u8) -> u8
 }
 
 // Step 2: from 40 degrees, which stand as 168, down to t each segment starts where the one before it ends.
-fn segments(b: Breaks, t: u8) -> Degrees
+fn segments(b: Breaks, t: u16) -> Degrees
     ensures { λ r. ⌜ r ≡ segmentsOf b t ⌝ }
 {
     let end1 = numbers::at_most(168, t as u64) as u8;
@@ -77,7 +77,7 @@ fn empty_line(start: u8, slopes: u32) -> u16
 }
 
 // Step 2: the three lines at t degrees.
-pub fn lines(curves: Curves, t: u8) -> Model
+pub fn lines(curves: Curves, t: u16) -> Model
     ensures { λ r. ⌜ r ≡ linesOf curves t ⌝ }
     ensures small { λ r. ⌜ (r .full ≤ 16384) × (r .ae ≤ 8191) ⌝ }
 {

@@ -1,5 +1,5 @@
 -- Reading, step by step: 1 and 3 to 6. Voltage and temperature come as z + 2^31, currents are kept as z + 2^15.
-use Prim.Native.Nat.{ℕ, _-_, _*_, _/_, _^_, _≤_, _<_, min}
+use Prim.Native.Nat.{ℕ, _+_, _-_, _*_, _/_, _^_, _≤_, _<_, min}
 use mathlib.Core.Bool.{Bool, true}
 use lib.Dec.{ltb, leb, eqb}
 use Rattle.numbers.specs.Choice.{pick, both, either, butNot}
@@ -28,9 +28,9 @@ voltOf raw = min (raw - zeroAt 31) 1023
 abbrev pub tempOf : ℕ → ℕ
 tempOf raw = min (raw - (zeroAt 31 - zeroAt 10)) (2 ^ 11 - 1)
 
--- T = whole degrees, rounded down, kept as z + 2^7
+-- T = the temperature rounded to the nearest degree, halves upward, kept as z + 2^7: -128 to 128
 abbrev pub degreesOf : ℕ → ℕ
-degreesOf temp = temp / 8
+degreesOf temp = (temp + 4) / 8
 
 -- ---- step 3
 

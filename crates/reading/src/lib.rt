@@ -67,7 +67,7 @@ impl Seen {
     {
         let volt = volt(v);
         let temp = temp(t);
-        let lines = model::lines(curves, (temp / 8) as u8);
+        let lines = model::lines(curves, (temp + 4) / 8);
         Seen {
             volt: volt,
             temp: temp,
