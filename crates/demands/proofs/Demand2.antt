@@ -30,7 +30,7 @@ use Rattle.demands.specs.Demand2.{Carried, PoweredOn, eepromBreaks, Cros
 use Rattle.demands.proofs.Choice.{contrary}
 use Rattle.demands.proofs.Headers.{recs-image}
 use Rattle.demands.proofs.Reached.{end-reached}
-use Rattle.demands.proofs.Moments.{leftOf, end-append, running}
+use Rattle.demands.proofs.Moments.{leftOf, end-append, running, tells}
 use Rattle.demands.proofs.Every.{run-exact}
 
 -- An image that is accepted first, or refused for its breakpoints, and a power-on
@@ -119,6 +119,7 @@ module _ {d : Call Session} {room : List ℕ} {answer : ℕ} {after : List ℕ} 
   read-back : ReadBack d answer e
   read-back = record {
     taken = k .out .number ∙ rw (k .loaded, fits) refl;
+    told = tells didOf emptyOf (k .fresh);
     declined = λ h. record { refused = declines h .0; state = declines h .1 };
     crossed = only _ refl;
     restored = restored _ refl;

@@ -90,9 +90,10 @@ pub record Restored (d e : Call Session) : Type 0 where
   pub state : e .ran .state ≡ loadedWith (powerOnOf (d .ran .state .gauge))
   pub there : (f : Call Session) → PoweredOn d f → e .ran .state ≡ f .ran .state
 
--- the answer is 10 exactly where the breakpoints are crossed
+-- the answer is 10 exactly where the breakpoints are crossed, and it is what the fresh gauge tells
 pub record ReadBack (d : Call Session) (answer : ℕ) (e : Call Session) : Type 0 where
   pub taken : answer ≡ 0
+  pub told : Told didOf emptyOf e
   pub declined : Crossed d → Declined e
   pub crossed : AnswersImage e 10 → Crossed d
   pub restored : (Crossed d → ⊥) → Restored d e
