@@ -17,6 +17,11 @@ pub pick-of : {A : Type 0} (P : A → Type 0) (t : Bool) (x y : A) → P x → P
 pick-of P true x y h k = h
 pick-of P false x y h k = k
 
+-- a test that is asked twice
+pub pick-twice : {A : Type 0} (t : Bool) (x y : A) → pick t (pick t x y) y ≡ pick t x y
+pick-twice true x y = refl
+pick-twice false x y = refl
+
 pub pick-ap : {A B : Type 0} (f : A → B) (t : Bool) (x y : A) → pick t (f x) (f y) ≡ f (pick t x y)
 pick-ap f true x y = refl
 pick-ap f false x y = refl

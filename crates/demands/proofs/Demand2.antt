@@ -6,8 +6,8 @@ use Prim.Native.Nat.{ℕ, zero-le}
 use native.Mathlib.Omega.{arith}
 use lib.ListN.{length, getD, take, drop}
 use lib.Seq.{take-at}
-use lib.Dec.{leb}
-use borrow.Author.Tests.{le-leb, le-ltb, eq-eqb}
+use lib.Dec.{eqb, leb}
+use borrow.Author.Tests.{le-leb, le-ltb}
 use Rattle.numbers.specs.Choice.{pick}
 use Rattle.gauge.specs.declared.Gauge.{Gauge}
 use Rattle.gauge.specs.Gauge.{powerOnOf}
@@ -27,7 +27,7 @@ use Rattle.steps.specs.Step.{loadedWith, didOf}
 use Rattle.records.specs.Run.{emptyOf}
 use Rattle.demands.specs.Call.{Call}
 use Rattle.demands.specs.Demand2.{Carried, PoweredOn, eepromBreaks, Crossed, AnswersImage, Restored, ReadBack, Demand2}
-use Rattle.demands.proofs.Choice.{contrary}
+use Rattle.demands.proofs.Choice.{contrary, pick-twice}
 use Rattle.demands.proofs.Headers.{recs-image}
 use Rattle.demands.proofs.Reached.{end-reached}
 use Rattle.demands.proofs.Moments.{leftOf, end-append, running, tells}
@@ -53,9 +53,10 @@ did-power-on σ room loaded = rw (loaded, le-ltb room 0 zero-le) refl
 never-both : {ls : List Line} → ls ≡ record { kind = 1; answer = 10; reply = [] } ∷ [] → ls ≡ record { kind = 1; answer = 0; reply = [] } ∷ [] → ⊥
 never-both a b = let z : _≡_ {A = ℕ} 10 0 = ap (λ (ls : List Line). getD (map (λ l. l .answer) ls) 0 0) (sym a ∙ b) in omega arith
 
-pub taken-image : (p : List ℕ) → length p ≡ imageSize → takenOf 1 false p ≡ judgedOf p
-unfolding takenOf kindOf
-taken-image p e = rw (eq-eqb (length p) imageSize e) refl
+-- what an image record gets is what the judge says, of any size
+pub taken-image : (p : List ℕ) → takenOf 1 false p ≡ judgedOf p
+unfolding takenOf kindOf judgedOf
+taken-image p = pick-twice (eqb (length p) imageSize) _ _
 
 module _ {d : Call Session} {room : List ℕ} {answer : ℕ} {after : List ℕ} {e : Call Session} (k : Carried d room answer after e) where
   abbrev σ : Session
@@ -82,7 +83,7 @@ module _ {d : Call Session} {room : List ℕ} {answer : ℕ} {after : List ℕ} 
   records = ap recsOf (k .image ∙ ap (λ (l : List ℕ). imageSize ∷ 0 ∷ 1 ∷ 0 ∷ l) written) ∙ recs-image p sized
 
   judged : {t : Bool} → orderedOf (eepromBreaks d) ≡ t → takenOf 1 false p ≡ pick t (Run Image) (Refused Breaks)
-  judged h = taken-image p sized ∙ out-judged (σ .gauge) reached ∙ rw h refl
+  judged h = taken-image p ∙ out-judged (σ .gauge) reached ∙ rw h refl
 
   -- what the image does is what the fresh session does
   gives : {τ : Session} {n : ℕ} → didOf emptyOf (length (e .room)) (whole 1 p) ≡ silently τ n → AnswersImage e n × (e .ran .state ≡ τ)

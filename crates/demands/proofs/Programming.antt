@@ -181,7 +181,7 @@ module _ {image wanted room : List ℕ} {said : Written} {after : List ℕ} {c :
 
   module _ (n : ℕ) where
     images : didOf emptyOf n (whole 1 image) ≡ silently (loadedWith g₁) 0
-    images = did-image image n (taken-image image size ∙ b .accepted)
+    images = did-image image n (taken-image image ∙ b .accepted)
 
     writes : didOf (loadedWith g₁) n (whole 4 (writePayload wanted)) ≡ silently (loadedWith g₂) 0
     unfolding commandOf
