@@ -21,7 +21,7 @@ use Rattle.pack.specs.Image.{imageOf}
 use Rattle.events.specs.Image.{imageSize}
 use Rattle.events.specs.Record.{kindOf, addressedOf, orderedOf, judgedOf, takenOf}
 use Rattle.programming.specs.declared.Written.the-variants as Written
-use Rattle.programming.specs.Programming.{programmingOf, answerOf}
+use Rattle.programming.specs.Programming.{programmingOf, answerOf, Granted}
 use Rattle.runs.specs.declared.Outcome.the-variants.{Done}
 use Rattle.runs.specs.Record.{Rec, whole, cut, wholeOf, recOf, sizeOf, recsOf, recordOf}
 use Rattle.runs.specs.Run.{Line, linesAfter, endAfter, repliesOf, codesOf}
@@ -225,14 +225,14 @@ wanted = replicate 31 0x28 ++ (0x5a ∷ [])
 abbrev programmed : Call Session
 programmed = called (programmingOf image wanted) (replicate 32 0) (replicate 30 0)
 
--- THE HYPOTHESIS OF THE THEOREM ON PROGRAMMING CAN BE MET
+-- THE HYPOTHESES OF THE THEOREM ON PROGRAMMING CAN BE MET
+pub granted-met : Granted image wanted 120
+unfolding judgedOf addressedOf orderedOf crc.bitOf crc.eightOf crc.nextOf
+granted-met = record { accepted = refl; all = refl; unlocked = refl; fits = omega arith }
+
 pub bench-met : Bench image wanted (replicate 120 0) Written.Done (programmingOf image wanted) programmed
 unfolding answerOf judgedOf addressedOf orderedOf crc.bitOf crc.eightOf crc.nextOf
 bench-met = record {
-  accepted = refl;
-  unlocked = refl;
-  all = refl;
-  fits = omega arith;
   wrote = record { number = refl; answer = refl; written = refl };
   session = refl;
   run = called-within (programmingOf image wanted) (replicate 32 0) (replicate 30 0) (omega arith) (omega arith) .allowed;

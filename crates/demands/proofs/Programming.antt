@@ -36,15 +36,15 @@ use Rattle.runs.specs.Run.{Did, silently, lineOf, linesAfter, endAfter}
 use Rattle.runs.proofs.Records.{recs-record}
 use Rattle.programming.specs.declared.Written.{Written}
 use Rattle.programming.specs.declared.Written.the-variants.{Done}
-use Rattle.programming.specs.Programming.{writePayload, copyPayload, readPayload, programmingOf, programmingSize, answerOf}
-use Rattle.programming.proofs.Laws.{done, programming-length}
+use Rattle.programming.specs.Programming.{writePayload, copyPayload, readPayload, programmingOf, programmingSize, answerOf, Granted}
+use Rattle.programming.proofs.Laws.{granted, done, programming-length}
 use Rattle.steps.specs.declared.Session.{Session}
 use Rattle.steps.specs.Step.{loadedWith, didOf}
 use Rattle.records.specs.Run.{emptyOf}
 use Rattle.demands.specs.Call.{Call, Within, linesIn}
 use Rattle.demands.proofs.Moments.{running, tells}
 use Rattle.demands.proofs.Demand2.{did-image, taken-image}
-use Rattle.demands.specs.Programming.{Bench, Set, benchLines, Answers, BenchHolds, BenchTheorem}
+use Rattle.demands.specs.Programming.{Bench, Set, benchLines, Answers, BenchHolds, BenchTheorem, DoneTheorem}
 
 -- ---- a transaction after CCh: a read count, a command, an address byte, and bytes
 
@@ -141,21 +141,22 @@ module _ (room : ℕ) where
 
 -- ---- the four records
 
-module _ {image wanted room : List ℕ} {said : Written} {after : List ℕ} {c : Call Session} (b : Bench image wanted room said after c) where
-  granted : answerOf image wanted (length room) ≡ Done
-  granted = done image wanted (length room) (b .accepted) (b .all) (b .unlocked) (b .fits)
+module _ {image wanted room : List ℕ} {said : Written} {after : List ℕ} {c : Call Session} (g : Granted image wanted (length room))
+    (b : Bench image wanted room said after c) where
+  writes-all : answerOf image wanted (length room) ≡ Done
+  writes-all = done image wanted (length room) g
 
   size : length image ≡ imageSize
-  size = accepted-length image (b .accepted)
+  size = accepted-length image (g .accepted)
 
   bytes : c .bytes ≡ programmingOf image wanted
   bytes =
       b .session ∙ ap (take programmingSize) (b .wrote .written)
-      ∙ rw granted (take-at (programmingOf image wanted) (drop programmingSize room) programmingSize (programming-length image wanted size (b .all)))
+      ∙ rw writes-all (take-at (programmingOf image wanted) (drop programmingSize room) programmingSize (programming-length image wanted size (g .all)))
 
   within : Within didOf emptyOf c
   within =
-      let e = ap length bytes ∙ programming-length image wanted size (b .all) in
+      let e = ap length bytes ∙ programming-length image wanted size (g .all) in
       record { allowed = b .run; short = omega arith; lent = omega (arith, b .lent) }
 
   records : recsOf (c .bytes) ≡ whole 1 image ∷ whole 4 (writePayload wanted) ∷ whole 4 copyPayload ∷ whole 4 readPayload ∷ []
@@ -177,17 +178,17 @@ module _ {image wanted room : List ℕ} {said : Written} {after : List ℕ} {c :
 
   writable : g₁ .meter .cells .locks .bl1 ≡ false
   unfolding imageOf poweredOf
-  writable = b .unlocked
+  writable = g .unlocked
 
   module _ (n : ℕ) where
     images : didOf emptyOf n (whole 1 image) ≡ silently (loadedWith g₁) 0
-    images = did-image image n (taken-image image ∙ b .accepted)
+    images = did-image image n (taken-image image ∙ g .accepted)
 
     writes : didOf (loadedWith g₁) n (whole 4 (writePayload wanted)) ≡ silently (loadedWith g₂) 0
     unfolding commandOf
     writes =
-        did g₁ 0 0x6c 0x60 wanted n (omega arith) (omega (arith, b .all)) zero-le
-        ∙ ap (λ (g : Gauge). silently (loadedWith g) 0) (written g₁ writable wanted (b .all) (image-sized image size .block .shadow))
+        did g₁ 0 0x6c 0x60 wanted n (omega arith) (omega (arith, g .all)) zero-le
+        ∙ ap (λ (g : Gauge). silently (loadedWith g) 0) (written g₁ writable wanted (g .all) (image-sized image size .block .shadow))
 
     copies : didOf (loadedWith g₂) n (whole 4 copyPayload) ≡ silently (loadedWith g₃) 0
     unfolding commandOf
@@ -197,7 +198,7 @@ module _ {image wanted room : List ℕ} {said : Written} {after : List ℕ} {c :
     unfolding commandOf sourceByte
     reads fits =
         did g₃ 32 0x69 0x60 [] n (omega arith) (omega arith) fits
-        ∙ ap (λ (l : List ℕ). record { state = loadedWith g₃; answer = 0; reply = l }) (read g₃ writable (b .all))
+        ∙ ap (λ (l : List ℕ). record { state = loadedWith g₃; answer = 0; reply = l }) (read g₃ writable (g .all))
 
     refuses : n < 32 → didOf (loadedWith g₃) n (whole 4 readPayload) ≡ silently (loadedWith g₃) 9
     refuses over = undone g₃ 32 0x69 0x60 [] n (omega arith) (omega arith) over
@@ -243,7 +244,10 @@ module _ {image wanted room : List ℕ} {said : Written} {after : List ℕ} {c :
   }
 
   holds : BenchHolds image wanted said c
-  holds = record { done = rw (b .wrote .answer, granted) refl; loaded = rw state refl; set = rw state set; answers = answers }
+  holds = record { done = rw (b .wrote .answer, writes-all) refl; loaded = rw state refl; set = rw state set; answers = answers }
 
 pub bench : BenchTheorem
-bench image wanted room said after c b = holds b
+bench image wanted room said after c g b = holds g b
+
+pub bench-done : DoneTheorem
+bench-done image wanted room after c b = let g = granted image wanted (length room) (sym (b .wrote .answer)) in (g, holds g b)

@@ -13,25 +13,19 @@ use Rattle.gauge.specs.declared.Gauge.{Gauge}
 use Rattle.gauge.specs.Gauge.{withMeter}
 use Rattle.stores.specs.Stores.{reblockedOf}
 use Rattle.pack.specs.Image.{imageOf}
-use Rattle.events.specs.declared.Event.the-variants.{Image}
-use Rattle.events.specs.declared.Taken.the-variants.{Run}
 use Rattle.events.specs.Image.{imageAddress, imageLabel, imageAcr, imageAging, imageBl0, imageBl1}
-use Rattle.events.specs.Record.{judgedOf}
 use Rattle.programming.specs.declared.Written.{Written}
-use Rattle.programming.specs.Programming.{programmingSize, writtenNumber, Programming}
+use Rattle.programming.specs.declared.Written.the-variants.{Done}
+use Rattle.programming.specs.Programming.{programmingSize, writtenNumber, Granted, Programming}
 use Rattle.runs.specs.Run.{Line}
 use Rattle.steps.specs.declared.Session.{Session}
 use Rattle.steps.specs.Step.{didOf, loadedWith}
 use Rattle.records.specs.Run.{emptyOf}
 use Rattle.demands.specs.Call.{Call, Allowed, linesIn, Told}
 
--- an image that a record of it would be accepted with, block 1 not locked in it; 32 wanted bytes; a room of 120 bytes or more, what `write` says
--- of them and what the room then holds. Its first 120 bytes are the session of c, with answers lent for as many records as they may hold
+-- what `write` says of an image, wanted bytes and a room, and what the room then holds. Its first 120 bytes are the session of c, with answers lent
+-- for as many records as they may hold
 pub record Bench (image wanted room : List ℕ) (said : Written) (after : List ℕ) (c : Call Session) : Type 0 where
-  pub accepted : judgedOf image ≡ Run Image
-  pub unlocked : imageBl1 image ≡ false
-  pub all : length wanted ≡ 32
-  pub fits : programmingSize ≤ length room
   pub wrote : Programming image wanted room said after
   pub session : c .bytes ≡ take programmingSize after
   pub run : Allowed didOf emptyOf c
@@ -74,7 +68,14 @@ pub record BenchHolds (image wanted : List ℕ) (said : Written) (c : Call Sessi
   pub set : Set image wanted (c .ran .state .gauge)
   pub answers : Answers wanted c
 
+-- of an image that a record of it would be accepted with, block 1 not locked in it; 32 wanted bytes; a room of 120 bytes or more
 abbrev pub BenchTheorem : Type 0
 BenchTheorem =
-    (image wanted room : List ℕ) (said : Written) (after : List ℕ) (c : Call Session) → Bench image wanted room said after c
-    → BenchHolds image wanted said c
+    (image wanted room : List ℕ) (said : Written) (after : List ℕ) (c : Call Session) → Granted image wanted (length room)
+    → Bench image wanted room said after c → BenchHolds image wanted said c
+
+-- and so of every call of `write` that says `Done`, whatever it was given: it was such then
+abbrev pub DoneTheorem : Type 0
+DoneTheorem =
+    (image wanted room after : List ℕ) (c : Call Session) → Bench image wanted room Done after c
+    → Granted image wanted (length room) × BenchHolds image wanted Done c

@@ -1,5 +1,5 @@
 -- What a record that is taken has: its time and a payload of its kind's size; and what the state decides of which kind.
-use mathlib.Core.Path.{_≡_, refl}
+use mathlib.Core.Path.{_≡_, refl, _∙_}
 use mathlib.Core.Bool.{Bool, true, false}
 use mathlib.Core.List.{List}
 use Prim.Native.Nat.{ℕ, _-_, _≤_, zero-le}
@@ -7,7 +7,6 @@ use native.Mathlib.Omega.{arith}
 use borrow.Author.Tests.{le-ltb, leb-true, eqb-true, not-true}
 use lib.Dec.{leb, eqb, ltb}
 use lib.ListN.{length, getD, drop}
-use Rattle.numbers.specs.Choice.{pick}
 use Rattle.numbers.proofs.Bounds.{picked, both-true}
 use Rattle.parts.specs.Parts.{pairAt}
 use Rattle.ticks.specs.declared.Tick.{Tick}
@@ -103,7 +102,16 @@ module _ (loaded : Bool) (p : List ℕ) where
       timed (Run e) h = picked (Taking loaded p) (eventTimely last e) (Run e) _ (λ timely. h) (λ other. tt)
       timed (Refused r) h = tt
 
--- an image that the judge accepts has its size
+-- what the judge accepts is an image
+pub judged-image : (p : List ℕ) {e : Event} → judgedOf p ≡ Run e → judgedOf p ≡ Run Image
+judged-image p {e} h = h ∙ by e (rw h at (verdict p))
+  where
+    by : (e : Event) → Verdict (Run e) → Run e ≡ Run Image
+    by Image v = refl
+    by (Change c) v = absurd v
+    by (Transact t) v = absurd v
+
+-- and it has an image's size
 pub judged-sized : (p : List ℕ) {e : Event} → judgedOf p ≡ Run e → length p ≡ imageSize
 unfolding judgedOf
 judged-sized p {e} h = by (eqb (length p) imageSize) refl

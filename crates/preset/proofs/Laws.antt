@@ -15,6 +15,7 @@ use Rattle.events.specs.declared.Taken.{Taken}
 use Rattle.events.specs.declared.Taken.the-variants as taken
 use Rattle.events.specs.Image.{imageSize}
 use Rattle.events.specs.Record.{judgedOf}
+use Rattle.events.proofs.Fits.{judged-sized}
 use Rattle.programming.specs.declared.Why.{Why}
 use Rattle.programming.specs.declared.Why.the-variants.{Image}
 use Rattle.programming.specs.declared.Written.{Written}
@@ -38,7 +39,7 @@ module _ {image wanted room after : List ℕ} {answer : Written} (w : Programmin
   unfolding presetSpeech
   session-said is kept =
       let g = granted image wanted programmingSize (answered ∙ is) in
-      let long : length (programmingOf image wanted) ≡ programmingSize = programming-length image wanted (g .sized) (g .all) in
+      let long : length (programmingOf image wanted) ≡ programmingSize = programming-length image wanted (judged-sized image (g .accepted)) (g .all) in
       let front = put-front room (programmingOf image wanted) (omega arith) ∙ ap (λ (n : ℕ). programmingOf image wanted ++ drop n room) long in
       rw (answered ∙ is)
       (record {

@@ -10,48 +10,44 @@ use lib.ListN.{length, take, drop, length-append}
 use Rattle.numbers.specs.Choice.{pick}
 use Rattle.parts.specs.Parts.{put}
 use Rattle.parts.proofs.Laws.{put-next, put-front, put-whole}
-use Rattle.events.specs.declared.Event.{Event}
 use Rattle.events.specs.declared.Taken.{Taken}
 use Rattle.events.specs.declared.Taken.the-variants as taken
 use Rattle.events.specs.Image.{imageSize, imageBl1}
 use Rattle.events.specs.Record.{judgedOf}
-use Rattle.events.proofs.Fits.{judged-sized}
+use Rattle.events.proofs.Fits.{judged-image}
 use Rattle.runs.specs.Record.{recordOf, Recorded}
 use Rattle.runs.proofs.Records.{record-then}
 use Rattle.programming.specs.declared.Why.the-variants.{Parameters, Locked, Room}
 use Rattle.programming.specs.declared.Written.the-variants.{Done, Refused}
-use Rattle.programming.specs.Programming.{writePayload, copyPayload, readPayload, programmingOf, programmingSize, answerBy, answerOf}
+use Rattle.programming.specs.Programming.{writePayload, copyPayload, readPayload, programmingOf, programmingSize, answerBy, answerOf, Granted}
 
 -- ---- the answer
 
--- where a session is written
-pub record Granted (image wanted : List ℕ) (room : ℕ) : Type 0 where
-  pub sized : length image ≡ imageSize
-  pub all : length wanted ≡ 32
-  pub fits : programmingSize ≤ room
-
 module _ (image wanted : List ℕ) (room : ℕ) where
-  tests : (a b c : Bool) → pick a (pick b (Refused Locked) (pick c (Refused Room) Done)) (Refused Parameters) ≡ Done → (a ≡ true) × (c ≡ false)
+  tests : (a b c : Bool) → pick a (pick b (Refused Locked) (pick c (Refused Room) Done)) (Refused Parameters) ≡ Done → (a ≡ true) × (b ≡ false) × (c ≡ false)
   tests true true c e = let z : _≡_ {A = ℕ} 0 1 = cc in absurd (omega arith)
   tests true false true e = let z : _≡_ {A = ℕ} 0 1 = cc in absurd (omega arith)
-  tests true false false e = (refl, refl)
+  tests true false false e = (refl, refl, refl)
   tests false b c e = let z : _≡_ {A = ℕ} 0 1 = cc in absurd (omega arith)
 
   granted-by : (t : Taken) → judgedOf image ≡ t → answerBy t image wanted room ≡ Done → Granted image wanted room
   granted-by (taken.Run e) judged done =
       let held = tests (eqb (length wanted) 32) (imageBl1 image) (ltb room programmingSize) done in
-      record { sized = judged-sized image judged; all = eqb-true (length wanted) 32 (held .0); fits = ltb-false room programmingSize (held .1) }
+      record {
+        accepted = judged-image image judged;
+        all = eqb-true (length wanted) 32 (held .0);
+        unlocked = held .1;
+        fits = ltb-false room programmingSize (held .2);
+      }
   granted-by (taken.Refused r) judged done = let z : _≡_ {A = ℕ} 0 1 = cc in absurd (omega arith)
 
   pub granted : answerOf image wanted room ≡ Done → Granted image wanted room
   unfolding answerOf
   granted done = granted-by (judgedOf image) refl done
 
-  -- an image that is accepted, in which block 1 is not locked
-  pub done : {e : Event} → judgedOf image ≡ taken.Run e → length wanted ≡ 32 → imageBl1 image ≡ false → programmingSize ≤ room
-      → answerOf image wanted room ≡ Done
+  pub done : Granted image wanted room → answerOf image wanted room ≡ Done
   unfolding answerOf
-  done judged sized unlocked fits = rw (judged, eq-eqb (length wanted) 32 sized, unlocked, le-ltb room programmingSize fits) refl
+  done g = rw (g .accepted, eq-eqb (length wanted) 32 (g .all), g .unlocked, le-ltb room programmingSize (g .fits)) refl
 
 -- ---- the session
 

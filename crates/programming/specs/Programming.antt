@@ -1,10 +1,12 @@
 -- Programming packs at the bench: the session that sets block 1 of a pack to wanted bytes, and when it is not written.
 use mathlib.Core.Path.{_≡_}
+use mathlib.Core.Bool.{false}
 use mathlib.Core.List.{List, [], _∷_, _++_}
-use Prim.Native.Nat.{ℕ}
+use Prim.Native.Nat.{ℕ, _≤_}
 use lib.Dec.{eqb, ltb}
 use lib.ListN.{length, drop}
 use Rattle.numbers.specs.Choice.{pick}
+use Rattle.events.specs.declared.Event.the-variants as event
 use Rattle.events.specs.declared.Taken.{Taken}
 use Rattle.events.specs.declared.Taken.the-variants as taken
 use Rattle.events.specs.Image.{imageBl1}
@@ -62,6 +64,13 @@ answerBy (taken.Refused r) image wanted room = Refused (Image r)
 
 unfoldable pub answerOf : List ℕ → List ℕ → ℕ → Written
 answerOf image wanted room = answerBy (judgedOf image) image wanted room
+
+-- a session is written where none of these applies
+pub record Granted (image wanted : List ℕ) (room : ℕ) : Type 0 where
+  pub accepted : judgedOf image ≡ taken.Run event.Image
+  pub all : length wanted ≡ 32
+  pub unlocked : imageBl1 image ≡ false
+  pub fits : programmingSize ≤ room
 
 -- ---- "the session room is lent; what is beyond the written session stays"; "nothing is written then"
 
