@@ -12,7 +12,7 @@
 
 typedef unsigned char byte;
 
-enum { SESSION_LIMIT = 32768, REPLY_ROOM = 65536, READ_LIMIT = 64, LONGEST_SAMPLE = 64, HEADER = 4, LONGEST_LINE = 32 };
+enum { SESSION_LIMIT = 32768, REPLY_ROOM = 65536, READ_LIMIT = 64, LONGEST_SAMPLE = 64, HEADER = 4, LONGEST_LINE = 32, OFFSET_EVERY = 1024 };
 enum { TEXT_ROOM = (SESSION_LIMIT / HEADER + 2) * LONGEST_LINE + 2 * REPLY_ROOM };
 
 enum { IMAGE = 1, READING, CONVERSION, TRANSACTION, POWER_ON, SAMPLE }; /* kinds */
@@ -41,7 +41,9 @@ typedef struct {
     bool accepted;
     int32_t previous_current; /* 0 where there is none, which no rule tells from one that is 0; so with CURRENT and IAVG */
     int32_t age_counter;
-    int32_t run, run_sum; /* conversions since the last average, and the sum of their c */
+    int32_t conversions;  /* since power-on, modulo OFFSET_EVERY; modulo 8 those since the last average */
+    int32_t run_sum;      /* of the c since the last average */
+    bool acr_written;     /* and no conversion came since */
     int32_t last_volt;    /* of the last reading, or NONE_YET since power-on */
     int32_t lowest_volt;  /* of the readings since the last average, or NONE_SINCE */
     int32_t last_tick;    /* of the last sample, or NONE_YET since power-on */
@@ -116,7 +118,8 @@ static void power_on(Gauge *g)
     m[AS] = as_from(g->pack[SAVED_AS]);
     memcpy(m + LABEL, g->pack + LABEL_CELLS, LABEL_END - LABEL);
     memcpy(m + PARAMETERS, g->pack + PARAMETER_CELLS, PARAMETERS_END - PARAMETERS);
-    g->previous_current = g->age_counter = g->run = g->run_sum = 0;
+    g->previous_current = g->age_counter = g->conversions = g->run_sum = 0;
+    g->acr_written = false;
     g->last_volt = g->last_tick = NONE_YET;
     g->lowest_volt = NONE_SINCE;
 }
@@ -147,7 +150,7 @@ static void average_formed(Gauge *g)
     int32_t average = g->run_sum >> 3, previous = (int16_t)big_16(m + IAVG), limit = 32 * m[IMIN];
     int32_t lowest_volt = g->lowest_volt;
     put_big_16(m + IAVG, average);
-    g->run = g->run_sum = 0;
+    g->run_sum = 0;
     g->lowest_volt = NONE_SINCE;
     if (0 < average && average < limit && 0 < previous && previous < limit && lowest_volt != NONE_SINCE && lowest_volt > 4 * m[VCHG])
         full_found(m);
@@ -179,33 +182,36 @@ static int32_t counted(const byte *m, int32_t c)
 static inline __attribute__((always_inline)) void conversion(Gauge *g, int32_t raw)
 {
     byte *m = g->memory;
-    int32_t c = clamped_wide((int64_t)raw + (int8_t)m[COB], -32768, 32767);
-    int32_t previous = (int16_t)big_16(m + CURRENT);
+    int32_t previous = (int16_t)big_16(m + CURRENT), conversions = (g->conversions + 1) & (OFFSET_EVERY - 1);
+    int32_t c = conversions == 0 ? previous : clamped_wide((int64_t)raw + (int8_t)m[COB], -32768, 32767);
     if (c < 0 && previous >= 0)
         m[STATUS] &= (byte)~LEARNF;
     g->previous_current = previous;
     put_big_16(m + CURRENT, c);
 
     int32_t before = charge_count(m);
-    int32_t after = clamped(before + counted(m, c), 0, (1 << 28) - 1);
+    int32_t after = g->acr_written ? before : clamped(before + counted(m, c), 0, (1 << 28) - 1);
+    g->acr_written = false;
     set_charge_count(m, after);
     age(g, (before >> 12) - (after >> 12), 1);
     if (after >> 12 == 0)
         m[STATUS] &= (byte)~LEARNF;
 
     g->run_sum += c;
-    if (++g->run == 8)
+    g->conversions = conversions;
+    if ((conversions & 7) == 0)
         average_formed(g);
 }
 
 /* ---- Sample */
 
-/* So many conversions of the c that the last one had. Each adds the same, so that the count is clamped once, at the end. An average is formed
- * only where the run is empty at the start: then it is c, and no reading has come for it, so that full is not found. */
+/* So many conversions of the c that the last one had; an offset among them has it too. Each adds the same, so that the count is clamped once, at
+ * the end. An average is formed only where the run is empty at the start: then it is c, and no reading has come for it, so that full is not
+ * found. */
 static void stretch(Gauge *g, int32_t c, int32_t count)
 {
     byte *m = g->memory;
-    int32_t before = charge_count(m), run = g->run + count;
+    int32_t before = charge_count(m), run = (g->conversions & 7) + count;
     int32_t after = clamped(before + count * counted(m, c), 0, (1 << 28) - 1);
     set_charge_count(m, after);
     age(g, (before >> 12) - (after >> 12), count);
@@ -217,17 +223,22 @@ static void stretch(Gauge *g, int32_t c, int32_t count)
         put_big_16(m + IAVG, c);
         g->run_sum = (run & 7) * c;
     }
-    g->run = run & 7;
+    g->conversions = (g->conversions + count) & (OFFSET_EVERY - 1);
 }
 
 /* A conversion, and what of the rest can be taken at once after it: all of it where an average was just formed, since full is found at one
- * only with a reading before it; else up to the conversion that forms the next. Two turns at most. */
+ * only with a reading before it; else up to the conversion that forms the next. Two turns at most. An offset conversion that comes first is taken
+ * for itself, since its c is not that of the rest. */
 static void sample(Gauge *g, int32_t raw, int32_t left)
 {
+    if (g->conversions == OFFSET_EVERY - 1) {
+        conversion(g, raw);
+        left--;
+    }
     while (left > 0) {
         conversion(g, raw);
         left--;
-        int32_t reach = g->run == 0 ? left : clamped(left, 0, 7 - g->run);
+        int32_t run = g->conversions & 7, reach = run == 0 ? left : clamped(left, 0, 7 - run);
         if (reach > 0)
             stretch(g, (int16_t)big_16(g->memory + CURRENT), reach);
         left -= reach;
@@ -352,8 +363,9 @@ static const byte *written_at(Write w, int32_t address)
     return w.from <= address && address < w.end ? w.data + (address - w.from) : NULL;
 }
 
-static void write_registers(byte *m, Write w)
+static void write_registers(Gauge *g, Write w)
 {
+    byte *m = g->memory;
     const byte *status = written_at(w, STATUS), *acr_high = written_at(w, ACR), *acr_low = written_at(w, ACR + 1);
     const byte *as = written_at(w, AS), *locks = written_at(w, LOCKS);
     if (status && (*status & PORF) == 0)
@@ -361,6 +373,7 @@ static void write_registers(byte *m, Write w)
     if (acr_high && acr_low) {
         set_acr(m, big_16(acr_high));
         m[STATUS] &= (byte)~LEARNF;
+        g->acr_written = true;
     }
     if (as)
         m[AS] = as_from(*as);
@@ -375,10 +388,11 @@ static void write_block(byte *m, int32_t first, int32_t block_end, Write w)
         memcpy(m + from, w.data + (from - w.from), (size_t)(end - from));
 }
 
-static void write_memory(byte *m, Write w)
+static void write_memory(Gauge *g, Write w)
 {
+    byte *m = g->memory;
     if (w.from <= LOCKS)
-        write_registers(m, w);
+        write_registers(g, w);
     if ((m[LOCKS] & BL0) == 0)
         write_block(m, LABEL, LABEL_END, w);
     if ((m[LOCKS] & BL1) == 0)
@@ -405,7 +419,7 @@ static char *function_command(Gauge *g, const byte *master, int32_t masters, cha
     if (command == 0x69)
         return put_hex(out, m + address, count);
     if (command == 0x6C)
-        write_memory(m, (Write){master + 2, address, address + masters - 2});
+        write_memory(g, (Write){master + 2, address, address + masters - 2});
     else if (LABEL <= address && address < LABEL_END)
         block_command(m, command, m + LABEL, g->pack + LABEL_CELLS, LABEL_END - LABEL, BL0);
     else if (PARAMETERS <= address && address < PARAMETERS_END)

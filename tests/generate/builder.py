@@ -57,7 +57,7 @@ class Session:
         self.address = self.new_address()
         self.block_0 = bytearray(chance.randbytes(16))
         self.block_1 = bytearray(32)
-        self.run = 0  # conversions since power-on, modulo eight
+        self.conversions = 0  # since power-on
         self.tick = None  # of the last sample since power-on
 
     def new_address(self):
@@ -70,6 +70,16 @@ class Session:
     def set_parameter(self, address, value, size=1):
         self.block_1[address - 0x60:address - 0x60 + size] = value.to_bytes(size, "big")
 
+    @property
+    def run(self):
+        """Conversions since the last average."""
+        return self.conversions % 8
+
+    @property
+    def to_offset(self):
+        """Conversions up to the next 1024th, that one too."""
+        return 1024 - self.conversions % 1024
+
     def room_for(self, size):
         return len(self.records) + size <= SESSION_LIMIT
 
@@ -81,18 +91,18 @@ class Session:
     def image(self, saved_acr=0, saved_as=128, locks=0, address=None):
         cells = little(saved_acr, 2) + bytes([saved_as, locks])
         self.add(IMAGE, (address or self.address) + self.block_0 + self.block_1 + cells)
-        self.run, self.tick = 0, None
+        self.conversions, self.tick = 0, None
 
     def power_on(self):
         self.add(POWER_ON)
-        self.run, self.tick = 0, None
+        self.conversions, self.tick = 0, None
 
     def reading(self, voltage, temperature):
         self.add(READING, little(voltage, 4) + little(temperature, 4))
 
     def conversion(self, raw):
         self.add(CONVERSION, little(raw, 4))
-        self.run = (self.run + 1) % 8
+        self.conversions += 1
 
     def current(self, c):
         """A conversion whose c is the one wanted."""
@@ -104,7 +114,7 @@ class Session:
         tick = self.chance.choice([0, 65535, 65500, self.chance.randrange(65536)]) if first else (self.tick + ticks) % 65536
         self.add(SAMPLE, little(raw, 4) + little(tick, 2))
         if first or 1 <= ticks % 65536 <= 64:
-            self.run = (self.run + (1 if first else ticks)) % 8
+            self.conversions += 1 if first else ticks
             self.tick = tick
 
     def sampled(self, c, ticks):

@@ -39,6 +39,7 @@ static int32_t crc(const byte *from, int32_t count);
 static int32_t tick_of(const byte *payload);
 static int32_t elapsed(const Gauge *g, int32_t tick);
 static bool tick_fits(const Gauge *g, int32_t tick);
+static int32_t signed_byte(int32_t value);
 static int32_t parameter(const Gauge *g, int32_t address);
 static int32_t signed_parameter(const Gauge *g, int32_t address);
 static int32_t wide_parameter(const Gauge *g, int32_t address);
@@ -172,6 +173,7 @@ static void saw_flags(const Gauge *was, const Gauge *is)
 /* ---- Power-on ---- */
 
 static int32_t tick_before_power_on = -1; /* where power-ons came since the last sample, -1 if there was none */
+static int32_t offsets;                   /* how many 1024ths came since power-on */
 
 static void saw_power_on(const Gauge *was, const Gauge *is)
 {
@@ -189,8 +191,11 @@ static void saw_power_on(const Gauge *was, const Gauge *is)
     SAW(again && was->run > 0, "power-on: a run of conversions is cut");
     SAW(again && was->learnf, "power-on: LEARNF cleared");
     SAW(again && was->had_sample, "power-on: a tick is lost");
+    SAW(again && was->acr_written, "power-on: a mark is lost");
+    SAW(again && was->conversions > 1000, "power-on: a count near the 1024th is lost");
     if (was->had_sample)
         tick_before_power_on = was->last_tick;
+    offsets = 0;
     SAW(again && was->lock, "power-on: LOCK cleared");
     SAW(again && crossed(is->eeprom), "power-on: crossed breakpoints in the EEPROM");
     SAW(again && memcmp(was->shadow + 0x20, is->shadow + 0x20, 16) != 0, "power-on: a label that was not copied is lost");
@@ -206,6 +211,16 @@ typedef struct {
 
 static Within within;
 
+/* Step 3: what a conversion of this c adds to the count. */
+static int32_t added(const Gauge *was, int32_t c)
+{
+    return was->acr_written ? 0 : counted(was, c) + signed_parameter(was, AB);
+}
+
+static bool offset_due(const Gauge *was) { return was->conversions == 1023; }
+
+static bool full_now; /* by the conversion that is run */
+
 /* C29 to C35 and W1.1, as full is found. */
 static void saw_full(const Gauge *g)
 {
@@ -213,6 +228,7 @@ static void saw_full(const Gauge *g)
     int64_t learnt = whole > 0 ? (int64_t)g->acr * 2097152 / whole : 0;
     bool learns = g->learnf && full_40 > 0;
     within.fulls++;
+    full_now = true;
     SAW(true, "full: found");
     SAW(g->chgtf, "full: found again, CHGTF is set");
     SAW(!g->learnf, "full: nothing is learnt, LEARNF is 0");
@@ -246,20 +262,22 @@ static void saw_average(const Gauge *was, int32_t sum)
 static void saw_conversion(const Gauge *was, const Gauge *is, int32_t raw)
 {
     int64_t sum = (int64_t)raw + signed_parameter(was, COB);
-    int32_t c = is->current, bias = signed_parameter(was, AB), step = 32 * wide_parameter(was, AC);
-    int64_t count = (int64_t)was->acr * 4096 + was->fraction + counted(was, c) + bias;
-    bool negative_blanking = (parameter(was, CONTROL) & NBEN) != 0, blanked = counted(was, c) != c;
+    int32_t c = is->current, step = 32 * wide_parameter(was, AC);
+    int64_t count = (int64_t)was->acr * 4096 + was->fraction + added(was, c);
+    bool measured = !offset_due(was), adds = !was->acr_written;
+    bool blanked = adds && counted(was, c) != c, whole = adds && !blanked;
+    bool negative_blanking = (parameter(was, CONTROL) & NBEN) != 0;
     bool turned = c < 0 && !(was->currents > 0 && was->current < 0), emptied = count < 4096;
 
-    SAW(sum > 32767, "conversion: c clamped to 32,767");
-    SAW(sum < -32768, "conversion: c clamped to -32,768");
-    SAW(sum > 2147483647 || sum < -2147483648LL, "conversion: raw and COB leave 32 bits");
+    SAW(measured && sum > 32767, "conversion: c clamped to 32,767");
+    SAW(measured && sum < -32768, "conversion: c clamped to -32,768");
+    SAW(measured && (sum > 2147483647 || sum < -2147483648LL), "conversion: raw and COB leave 32 bits");
     SAW(blanked && c == 63, "conversion: 63 is blanked");
-    SAW(!blanked && c == 64, "conversion: 64 is counted");
+    SAW(whole && c == 64, "conversion: 64 is counted");
     SAW(blanked && c == -15, "conversion: -15 is blanked with NBEN");
-    SAW(!blanked && c == -16 && negative_blanking, "conversion: -16 is counted with NBEN");
-    SAW(!blanked && c < 0 && c > -16, "conversion: a small negative c is counted without NBEN");
-    SAW(blanked && bias != 0, "conversion: AB is counted though c is blanked");
+    SAW(whole && c == -16 && negative_blanking, "conversion: -16 is counted with NBEN");
+    SAW(whole && c < 0 && c > -16, "conversion: a small negative c is counted without NBEN");
+    SAW(blanked && signed_parameter(was, AB) != 0, "conversion: AB is counted though c is blanked");
     SAW(count < 0, "conversion: the count clamped to 0");
     SAW(count > 268435455, "conversion: the count clamped to 2^28 - 1");
 
@@ -277,6 +295,104 @@ static void saw_conversion(const Gauge *was, const Gauge *is, int32_t raw)
         saw_average(was, was->run_sum + c);
 }
 
+/* ---- The offset conversion ---- */
+
+static Gauge at_last_conversion;                     /* as it was before it */
+static int32_t last_measured;                        /* its raw value and COB, clamped */
+static int32_t since_write = -1;                     /* conversions since the last write of ACR, -1 before the first */
+static bool full_last, point_last, cut_last;         /* ACR was corrected since the conversion before */
+
+/* Whether an average of this sum would find full. */
+static bool would_be_full(const Gauge *was, int32_t sum)
+{
+    int32_t limit = 32 * parameter(was, IMIN) - 1;
+    bool small = 8 <= sum && sum < 8 * (limit + 1), was_small = was->had_average && 1 <= was->iavg && was->iavg <= limit;
+    return small && was_small && was->read_since_average && was->lowest_voltage > 4 * parameter(was, VCHG);
+}
+
+/* W7.1, W7.5 and W7.6, of a conversion, or of one of a sample's: place is from 1, and ticks is 0 for a conversion. */
+static void saw_offset(const Gauge *was, const Gauge *is, int32_t measured, int32_t place, int32_t ticks)
+{
+    const Gauge *last = &at_last_conversion;
+    int32_t c = is->current, cob = parameter(was, COB), bias = parameter(was, AB);
+    bool differs = measured != c, adds = !was->acr_written;
+    offsets++;
+    SAW(ticks == 0, "offset: a 1024th, a conversion");
+    SAW(ticks == 1, "offset: a 1024th, a sample of 1 tick");
+    SAW(ticks > 1 && place == 1, "offset: a 1024th, the first of a sample");
+    SAW(place > 1 && place < ticks, "offset: a 1024th, within a sample");
+    SAW(ticks > 1 && place == ticks, "offset: a 1024th, the last of a sample");
+    SAW(offsets == 2 && differs, "offset: the 2048th since power-on");
+    SAW(offsets == 3 && differs, "offset: the 3072nd since power-on");
+    SAW(differs && ticks == 0, "offset: the raw value of a conversion is another");
+    SAW(differs && ticks > 1, "offset: the raw value of a sample is another");
+    SAW(differs && measured == was->current + signed_byte(cob) && cob != 0, "offset: the raw value is c, before COB is added");
+    SAW(differs && cob != 0 && parameter(last, COB) != cob, "offset: COB was written since the c before it");
+    SAW(adds && bias != parameter(last, AB), "offset: AB was written since the c before it");
+    SAW(adds && bias != 0, "offset: AB is added");
+    SAW(adds && counted(was, c) != c && counted(was, measured) == measured, "offset: c is blanked, the raw value would not be");
+    SAW(adds && counted(was, c) == c && counted(was, measured) != measured, "offset: c is counted, the raw value would be blanked");
+    SAW(adds && counted(was, c) != counted(last, c), "offset: NBEN was written since the c before it");
+    SAW(full_now && !would_be_full(was, was->run_sum + measured), "offset: full is found, the raw value would not fit");
+    SAW(!full_now && would_be_full(was, was->run_sum + measured), "offset: full is not found, the raw value would fit");
+    SAW(was->learnf && is->learnf && c >= 0 && measured < 0, "offset: LEARNF stays, the raw value is below 0");
+}
+
+/* W7.2 and W7.7 to W7.11. */
+static void saw_mark(const Gauge *was, const Gauge *is, int32_t measured, int32_t place, int32_t ticks)
+{
+    bool both = offset_due(was), c_and_bias = counted(was, is->current) != 0 && parameter(was, AB) != 0;
+    SAW(ticks == 0 && c_and_bias, "mark: a conversion adds nothing");
+    SAW(ticks == 1 && c_and_bias, "mark: a sample of 1 tick adds nothing");
+    SAW(ticks > 1 && place == 1 && c_and_bias, "mark: the first of a sample adds nothing");
+    SAW(was->conversions == 1022, "mark: on a 1023rd");
+    SAW(both && ticks == 0 && measured != is->current, "mark: on a 1024th, a conversion");
+    SAW(both && ticks > 1 && measured != is->current, "mark: on a 1024th, the first of a sample");
+    SAW(was->conversions == 0 && was->currents > 0, "mark: on a 1025th");
+    SAW(is->as < was->as && !full_now, "mark: AS falls");
+    SAW(wide_parameter(was, AC) == 0 && was->age_counter > 0, "mark: AC = 0 zeroes the counter");
+    SAW(is->run == 0, "mark: an average is formed");
+    SAW(full_now, "mark: full is found");
+}
+
+/* Each conversion, those of samples too. */
+static void saw_each(const Gauge *was, const Gauge *is, int32_t raw, int32_t place, int32_t ticks)
+{
+    int64_t sum = (int64_t)raw + signed_parameter(was, COB);
+    int32_t measured = (int32_t)(sum < -32768 ? -32768 : sum > 32767 ? 32767 : sum);
+    bool adds = added(was, is->current) != 0;
+    if (offset_due(was))
+        saw_offset(was, is, measured, place, ticks);
+    if (was->acr_written)
+        saw_mark(was, is, measured, place, ticks);
+    SAW(since_write == 1 && adds && ticks == 0, "mark: the second conversion after a write adds");
+    SAW(since_write == 1 && adds && place == 2, "mark: the second of a sample adds");
+    SAW(full_last && adds, "mark: none after full, a conversion adds");
+    SAW(point_last && adds, "mark: none after the empty point, a conversion adds");
+    SAW(cut_last && adds, "mark: none after ACR was cut to E, a conversion adds");
+    since_write += since_write >= 0;
+    full_last = full_now;
+    full_now = point_last = cut_last = false;
+    at_last_conversion = *was;
+    last_measured = measured;
+}
+
+/* W7.3 and W7.12: what leaves the count and the mark, of a record that is refused or no conversion. */
+static void saw_left(const Gauge *was, int32_t kind, const byte *payload, int32_t length, int32_t answer)
+{
+    static const byte acr_write[3] = {0xCC, 0x6C, 0x10};
+    bool asks_acr = kind == 4 && length >= 6 && memcmp(payload + 1, acr_write, 3) == 0, refused = answer != 0;
+    SAW(refused && asks_acr && !was->acr_written && answer == 4, "mark: not set, the write is refused with 4");
+    SAW(refused && asks_acr && !was->acr_written && answer == 8, "mark: not set, the write is refused with 8");
+    SAW(refused && asks_acr && !was->acr_written && answer == 9, "mark: not set, the write is refused with 9");
+    SAW(answer == 4 && kind == 3 && was->acr_written, "mark: stays, a conversion is refused");
+    SAW(answer == 11 && was->acr_written, "mark: stays, a sample is refused");
+    SAW(!refused && kind == 2 && was->acr_written, "mark: stays at a reading");
+    SAW(!refused && kind == 4 && was->acr_written, "mark: stays at a transaction");
+    SAW(answer == 4 && kind == 3 && offset_due(was), "offset: a conversion is refused where a 1024th is due");
+    SAW(answer == 11 && offset_due(was), "offset: a sample is refused where a 1024th is due");
+}
+
 /* ---- Sample ---- */
 
 static Gauge at_interval;
@@ -285,10 +401,10 @@ static bool refused_since;
 
 static void before_interval(const Gauge *g) { at_interval = *g; }
 
-static void after_interval(const Gauge *is)
+static void after_interval(const Gauge *is, int32_t raw, int32_t ticks)
 {
     const Gauge *was = &at_interval;
-    int64_t count = (int64_t)was->acr * 4096 + was->fraction + counted(was, is->current) + signed_parameter(was, AB);
+    int64_t count = (int64_t)was->acr * 4096 + was->fraction + added(was, is->current);
     int32_t limit = 32 * parameter(is, IMIN) - 1;
     within.intervals++;
     within.averages += is->run == 0;
@@ -297,6 +413,7 @@ static void after_interval(const Gauge *is)
     within.bottoms += count < 0;
     within.tops += count > 268435455;
     within.emptied += within.intervals > 1 && was->learnf && !is->learnf && count < 4096;
+    saw_each(was, is, raw, within.intervals, ticks);
 }
 
 /* Answer 11, W5.5. */
@@ -344,7 +461,7 @@ static void saw_sample(const Gauge *was, const Gauge *is, int32_t raw)
     bool blanked = counted(was, c) != c, turned = c < 0 && !(was->currents > 0 && was->current < 0);
     bool aged = n > 1 && within.ageing_steps > 0, learns = was->learnf && !turned;
 
-    SAW(sum != c, "sample: c clamped");
+    SAW(n > 1 && sum != c, "sample: c clamped");
     SAW(n > 1 && blanked, "sample: c is blanked");
     SAW(n > 1 && within.bottoms > 0 && within.bottoms < n, "sample: the count clamped to 0 on the way");
     SAW(n > 1 && within.tops > 0 && within.tops < n, "sample: the count clamped to 2^28 - 1 on the way");
@@ -412,6 +529,9 @@ static void saw_point(const Gauge *g, int32_t e)
     SAW(e == 0, "empty: the point, E = 0");
     SAW(e == 0 && g->learnf, "empty: the point, E = 0 clears LEARNF");
     SAW(g->acr < e, "empty: the point raises ACR");
+    SAW(g->acr_written, "mark: stays at the empty point");
+    SAW(g->conversions == 0 && last_measured >= -128 * parameter(g, IAE), "offset: the empty point, the raw value would not fit");
+    point_last = true;
     SAW(g->had_sample && conversions_since == 0 && g->current == g->previous_current, "empty: the point, after a sample");
 }
 
@@ -431,6 +551,8 @@ static void saw_below(const Gauge *was, const Gauge *is, int32_t e)
         "empty: no point, CURRENT is at the threshold");
     SAW(!(before && both) && !was->learnf && was->acr == e && was->fraction > 0, "empty: ACR is E already, the fraction stays");
     SAW(!(before && both) && was->learnf && was->acr > e, "empty: LEARNF leaves ACR above E");
+    cut_last = !(before && both) && !was->learnf && was->acr > e;
+    SAW(cut_last && was->acr_written, "mark: stays as ACR is cut to E");
     SAW(is->rarc > 5, "empty: AEF stays below 4 x VAE whatever RARC");
 }
 
@@ -509,6 +631,11 @@ static void saw_write(const Gauge *was, const Gauge *is, int32_t address, const 
     }
     SAW(address + count > 0x100, "write: past FFh");
     SAW(count == 0, "write: no byte");
+    bool acr = address <= 0x10 && address + count > 0x11;
+    SAW(acr && was->acr == is->acr, "write: ACR, to an equal value");
+    SAW(acr && was->acr_written, "write: ACR, again before a conversion");
+    SAW(acr && address < 0x10, "write: ACR, from below 10h");
+    since_write = acr ? 0 : since_write;
     SAW(address == 0x10 && count == 1, "write: 10h alone");
     SAW(count > 0 && step > 0 && was->age_counter >= 2 * step && 32 * wide_parameter(was, AC) > was->age_counter,
         "write: AC lowered far below the counter");
@@ -630,13 +757,18 @@ static void after_record(const Gauge *is, int32_t kind, const byte *payload, int
     if (was->accepted && (answer != 0 || kind != 4))
         saw_class(kind, answer, 1, 0, false);
     saw_late(was, kind, payload, length, answer);
+    saw_left(was, kind, payload, length, answer);
     refused_since = refused_since || answer == 11;
     if (answer != 0)
         return;
     switch (kind) {
     case 1: saw_power_on(was, is); break;
     case 2: saw_reading(was, is, little_endian_signed_32(payload), little_endian_signed_32(payload + 4)); break;
-    case 3: saw_conversion(was, is, little_endian_signed_32(payload)); conversions_since++; break;
+    case 3:
+        saw_conversion(was, is, little_endian_signed_32(payload));
+        saw_each(was, is, little_endian_signed_32(payload), 1, 0);
+        conversions_since++;
+        break;
     case 4: saw_transaction(was, is, payload + 1, length - 1, payload[0]); break;
     case 6: saw_tick(was, tick_of(payload)); saw_sample(was, is, little_endian_signed_32(payload)); break;
     default: saw_power_on(was, is); break;

@@ -48,6 +48,8 @@ typedef struct {
     int32_t run, run_sum;                             /* conversions since the last average, and the sum of their c */
     bool read_since_average; int32_t lowest_voltage;  /* of the readings since the last average */
     bool had_sample; int32_t last_tick;               /* of the last accepted sample since power-on */
+    int32_t conversions;                              /* since power-on, modulo 1,024 (W7.1) */
+    bool acr_written;                                 /* the mark: by the bus, and no conversion came since (W7.2) */
 } Gauge;
 
 #ifdef REACHED
@@ -140,6 +142,8 @@ static void power_on(Gauge *g)
     g->porf = true;
     g->had_sample = false;
     g->last_tick = 0;
+    g->conversions = 0;
+    g->acr_written = false;
     g->had_reading = g->had_average = g->read_since_average = false;
     g->currents = g->previous_current = g->run = g->run_sum = g->lowest_voltage = 0;
 }
@@ -187,12 +191,14 @@ static int32_t counted(const Gauge *g, int32_t c)
     return c;
 }
 
-/* Steps 3 and 4, C12 to C21. */
+/* Steps 3 and 4, C12 to C21. The first conversion after a write of ACR adds nothing and uses up the mark (W7.7, W7.9). */
 static void accumulate_and_age(Gauge *g, int32_t c)
 {
     int32_t acr_before = g->acr;
     int64_t count = (int64_t)g->acr * 4096 + g->fraction;
-    count = clamped(count + counted(g, c) + signed_parameter(g, AB), 0, 268435455);
+    if (!g->acr_written)
+        count = clamped(count + counted(g, c) + signed_parameter(g, AB), 0, 268435455);
+    g->acr_written = false;
     g->acr = (int32_t)(count / 4096);
     g->fraction = (int32_t)(count % 4096);
 
@@ -236,9 +242,13 @@ static void average_formed(Gauge *g)
         full_found(g);
 }
 
+/* Every 1024th conversion since power-on measures the offset, and the c before it stands in (W7.5). */
 static void conversion(Gauge *g, int32_t raw)
 {
     int32_t c = (int32_t)clamped((int64_t)raw + signed_parameter(g, COB), -32768, 32767);
+    g->conversions = (g->conversions + 1) % 1024;
+    if (g->conversions == 0)
+        c = g->current;
     bool previous_negative = g->currents > 0 && g->current < 0;
     if (c < 0 && !previous_negative)
         g->learnf = false;
@@ -288,7 +298,7 @@ static void sample(Gauge *g, int32_t raw, int32_t tick)
     for (int32_t i = 0; i < intervals; i++) {
         WATCH(before_interval(g));
         conversion(g, raw);
-        WATCH(after_interval(g));
+        WATCH(after_interval(g, raw, intervals));
     }
     g->had_sample = true;
     g->last_tick = tick;
@@ -456,6 +466,7 @@ static void write_from(Gauge *g, int32_t address, const byte *data, int32_t coun
             g->acr = 256 * held + value;
             g->fraction = 0;
             g->learnf = false;
+            g->acr_written = true;
         }
         if (at == 0x14)
             g->as = moved_into_as_range(value);
@@ -568,9 +579,11 @@ static void dump(const Gauge *g)
            (int)g->temperature, (int)g->voltage, (int)g->current, g->chgtf ? "CHGTF " : "", g->aef ? "AEF " : "",
            g->sef ? "SEF " : "", g->learnf ? "LEARNF " : "", g->porf ? "PORF " : "", g->lock ? "LOCK " : "",
            g->bl1 ? "BL1 " : "", g->bl0 ? "BL0 " : "");
-    printf(" reading %d average %d currents %d previous %d run %d sum %d since %d lowest %d tick %d | shadow ", g->had_reading,
+    printf(" reading %d average %d currents %d previous %d run %d sum %d since %d lowest %d tick %d conversions %d%s | shadow ",
+           g->had_reading,
            g->had_average, (int)g->currents, (int)g->previous_current, (int)g->run, (int)g->run_sum,
-           g->read_since_average, (int)g->lowest_voltage, g->had_sample ? (int)g->last_tick : -1);
+           g->read_since_average, (int)g->lowest_voltage, g->had_sample ? (int)g->last_tick : -1, (int)g->conversions,
+           g->acr_written ? " acr written" : "");
     for (int32_t i = 0x20; i <= 0x7F; i++)
         if (in_block_0(i) || in_block_1(i))
             printf("%02x", g->shadow[i]);
@@ -823,6 +836,59 @@ static void hold_conversions(void)
     hold("one c of -1 and seven of 0, IAVG", -1, g.iavg);
 }
 
+static void write_acr(Gauge *g, byte high, byte low)
+{
+    byte data[2] = {high, low};
+    write_from(g, 0x10, data, 2);
+}
+
+static void hold_charge(const char *moment, const Gauge *g, int32_t current, int32_t acr, int32_t fraction)
+{
+    char name[60];
+    snprintf(name, sizeof name, "%s, CURRENT", moment);
+    hold(name, current, g->current);
+    snprintf(name, sizeof name, "%s, ACR", moment);
+    hold(name, acr, g->acr);
+    snprintf(name, sizeof name, "%s, fraction", moment);
+    hold(name, fraction, g->fraction);
+}
+
+/* W7.5 to W7.10, with COB 3 and AB 5. */
+static void hold_offset(void)
+{
+    Gauge start = model_m();
+    for (int32_t i = 0; i < 1022; i++)
+        conversion(&start, 0);
+    start.acr = 100;
+    start.shadow[COB] = 3;
+    start.shadow[AB] = 5;
+
+    Gauge g = start;
+    conversion(&g, 997);
+    hold_charge("the 1023rd", &g, 1000, 100, 1005);
+    conversion(&g, -30000);
+    hold_charge("the 1024th", &g, 1000, 100, 2010);
+    hold("the 1024th, IAVG of six 0 and two 1000", 250, g.iavg);
+    conversion(&g, -103);
+    hold_charge("the 1025th", &g, -100, 100, 1915);
+
+    g = start;
+    write_acr(&g, 0, 200);
+    hold_charge("a write of ACR", &g, 0, 200, 0);
+    conversion(&g, 997);
+    hold_charge("the conversion after it", &g, 1000, 200, 0);
+    conversion(&g, -30000);
+    hold_charge("the one after that, the 1024th", &g, 1000, 200, 1005);
+
+    g = start;
+    conversion(&g, 997);
+    write_acr(&g, 0, 200);
+    conversion(&g, -30000);
+    hold_charge("both at once", &g, 1000, 200, 0);
+    conversion(&g, -103);
+    hold_charge("the conversion after both", &g, -100, 199, 4001);
+}
+
 /* At 40 degrees M gives RARC 51, 48, 47 for ACR 5120, 4821, 4820. */
 static void hold_saves(void)
 {
@@ -853,6 +919,7 @@ static int hold_figures(void)
     hold_results();
     hold_full_and_learn();
     hold_conversions();
+    hold_offset();
     hold_saves();
     hold_crc();
     return failures == 0 ? 0 : 1;

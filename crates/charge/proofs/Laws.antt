@@ -1,5 +1,6 @@
 -- What the definitions keep: a charge is well-formed after steps 1 to 5, and bounds of AF and of a share.
-use mathlib.Core.Bool.{Bool}
+use mathlib.Core.Path.{_≡_, ap}
+use mathlib.Core.Bool.{Bool, true}
 use Prim.Native.Nat.{ℕ, _+_, _*_, _^_, _≤_, _<_}
 use native.Mathlib.Omega.{arith}
 use lib.Dec.{eqb, ltb}
@@ -8,7 +9,7 @@ use Rattle.numbers.proofs.Bounds.{times, picked}
 use Rattle.params.specs.declared.Counting.{Counting}
 use Rattle.charge.specs.declared.Charge.{Charge}
 use Rattle.charge.specs.declared.Age.{Age}
-use Rattle.charge.specs.Charge.{ChargeWF, setOf, withAs, blankedOf, grownOf, fallOf, agedOf, countedOf, agedFullOf, shareOf, shareUpOf}
+use Rattle.charge.specs.Charge.{ChargeWF, setOf, withAs, markedOf, blankedOf, grownOf, addedOf, fallOf, agedOf, newAge, countedOf, agedFullOf, shareOf, shareUpOf}
 
 pub set-wf : (g : Charge) (acr : ℕ) (learnf : Bool) → acr ≤ 65535 → ChargeWF g → ChargeWF (setOf g acr learnf)
 set-wf g acr learnf h w = record { count = omega arith; age = w .age; low = w .low; high = w .high }
@@ -16,9 +17,16 @@ set-wf g acr learnf h w = record { count = omega arith; age = w .age; low = w .l
 pub with-as-wf : (g : Charge) (aging : ℕ) → 63 ≤ aging → aging ≤ 128 → ChargeWF g → ChargeWF (withAs g aging)
 with-as-wf g aging p q w = record { count = w .count; age = w .age; low = p; high = q }
 
--- one conversion takes at most 9 steps off ACR
-pub fall-small : (count counted ab : ℕ) → count < 2 ^ 28 → fallOf count (grownOf count counted ab) ≤ 9
-fall-small count counted ab h = omega arith
+pub marked-wf : (g : Charge) → ChargeWF g → ChargeWF (markedOf g)
+marked-wf g w = record { count = w .count; age = w .age; low = w .low; high = w .high }
+
+-- the count stays in its range, and one conversion takes at most 9 steps off ACR
+abbrev Near : ℕ → ℕ → Type 0
+Near count new = (new < 2 ^ 28) × (fallOf count new ≤ 9)
+
+added-near : (mark : Bool) (count counted ab : ℕ) → count < 2 ^ 28 → Near count (addedOf mark count counted ab)
+added-near mark count counted ab h =
+    picked (Near count) mark count (grownOf count counted ab) (λ e. (h, omega arith)) (λ e. (omega arith, omega arith))
 
 -- what holds of the age counter and AS
 abbrev AgeWF : Age → Type 0
@@ -35,9 +43,20 @@ aged-wf ac age fall aging p q h low high =
 pub counted-wf : (p : Counting) (g : Charge) (last c : ℕ) → p .ac ≤ 65535 → ChargeWF g → ChargeWF (countedOf p g last c)
 unfolding countedOf
 counted-wf p g last c h w =
-    let fall = fall-small (g .count) (blankedOf (p .nben) c) (p .ab) (w .count) in
-    let aged = aged-wf (p .ac) (g .age) _ (g .aging) h (w .age) fall (w .low) (w .high) in
-    record { count = omega arith; age = aged .0; low = aged .1; high = aged .2 }
+    let near = added-near (g .mark) (g .count) (blankedOf (p .nben) c) (p .ab) (w .count) in
+    let aged = aged-wf (p .ac) (g .age) _ (g .aging) h (w .age) (near .1) (w .low) (w .high) in
+    record { count = near .0; age = aged .0; low = aged .1; high = aged .2 }
+
+-- a conversion that finds the mark adds nothing, and ageing is looked at as ever, with no fall
+module _ (p : Counting) (g : Charge) (last c : ℕ) (e : g .mark ≡ true) where
+  pub marked-count : countedOf p g last c .count ≡ g .count
+  unfolding countedOf
+  marked-count = simp e
+
+  pub marked-age : newAge p g c ≡ agedOf (p .ac) (g .age) (g .aging)
+  marked-age =
+      let none : g .age + fallOf (g .count) (g .count) ≡ g .age = omega arith in
+      simp e (ap (λ (x : ℕ). agedOf (p .ac) x (g .aging)) none)
 
 pub aged-full-high : (full aging : ℕ) → full ≤ 16384 → aging ≤ 128 → agedFullOf full aging ≤ 16384
 unfolding agedFullOf

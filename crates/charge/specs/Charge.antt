@@ -1,5 +1,5 @@
 -- The charge count: steps 1 to 5 of a conversion, and the count set outright; AF, and a share of Full40 as ACR. Currents are kept as z + 2^15.
-use mathlib.Core.Bool.{Bool, true, not}
+use mathlib.Core.Bool.{Bool, true, false, not}
 use Prim.Native.Nat.{ℕ, _+_, _-_, _*_, _/_, _%_, _^_, _≤_, _<_, min, max}
 use lib.Dec.{ltb, eqb}
 use Rattle.numbers.specs.Offset.{zeroAt}
@@ -25,13 +25,17 @@ pub record ChargeWF (g : Charge) : Type 0 where
 
 -- ---- the count set outright, by a correction (full found, the empty point, an ACR that is above E) or over the bus
 
--- ACR = acr, fraction 0, LEARNF = learnf; AS and the age counter stay
+-- ACR = acr, fraction 0, LEARNF = learnf; AS, the age counter and the mark stay
 abbrev pub setOf : Charge → ℕ → Bool → Charge
-setOf g acr learnf = record { count = acr * 4096; age = g .age; aging = g .aging; learnf = learnf }
+setOf g acr learnf = record { count = acr * 4096; age = g .age; aging = g .aging; learnf = learnf; mark = g .mark }
 
 -- AS alone
 abbrev pub withAs : Charge → ℕ → Charge
-withAs g aging = record { count = g .count; age = g .age; aging = aging; learnf = g .learnf }
+withAs g aging = record { count = g .count; age = g .age; aging = aging; learnf = g .learnf; mark = g .mark }
+
+-- "a mark after an ACR write", which the bus alone sets
+abbrev pub markedOf : Charge → Charge
+markedOf g = record { count = g .count; age = g .age; aging = g .aging; learnf = g .learnf; mark = true }
 
 -- ---- step 1
 
@@ -63,6 +67,10 @@ blankedOf nben c =
 abbrev pub grownOf : ℕ → ℕ → ℕ → ℕ
 grownOf count counted ab = min (count + counted + ab - (zeroAt 15 + zeroAt 7)) (2 ^ 28 - 1)
 
+-- "The first conversion after an ACR write .. adds nothing to the count, AB included."
+abbrev pub addedOf : Bool → ℕ → ℕ → ℕ → ℕ
+addedOf mark count counted ab = pick mark count (grownOf count counted ab)
+
 -- ---- step 4
 
 -- how far ACR fell
@@ -78,19 +86,20 @@ agedOf ac age aging =
 -- ---- steps 1 to 5, of the charge
 
 abbrev pub newCount : Counting → Charge → ℕ → ℕ
-newCount p g c = grownOf (g .count) (blankedOf (p .nben) c) (p .ab)
+newCount p g c = addedOf (g .mark) (g .count) (blankedOf (p .nben) c) (p .ab)
 
 -- the age counter with a fall of ACR added, and AS
 abbrev pub newAge : Counting → Charge → ℕ → Age
 newAge p g c = agedOf (p .ac) (g .age + fallOf (g .count) (newCount p g c)) (g .aging)
 
--- step 5: ACR = 0 clears LEARNF
+-- step 5: ACR = 0 clears LEARNF. Any conversion uses up the mark
 unfoldable pub countedOf : Counting → Charge → ℕ → ℕ → Charge
 countedOf p g last c = record {
   count = newCount p g c;
   age = newAge p g c .age;
   aging = newAge p g c .aging;
   learnf = butNot (butNot (g .learnf) (turnedOf last c)) (eqb (acrOf (newCount p g c)) 0);
+  mark = false;
 }
 
 -- ---- what full detection and a reading take of FULL

@@ -2,13 +2,15 @@
 use params::Counting;
 ghost use mathlib.Core.Path.{_≡_};
 ghost use Prim.Native.Nat.{_*_, _≤_};
-ghost use Rattle.charge.specs.Charge.{ChargeWF, currentOf, tracedOf, blankedOf, grownOf, agedOf, countedOf, setOf, agedFullOf, shareOf, shareUpOf};
+ghost use Rattle.charge.specs.Charge.{ChargeWF, currentOf, tracedOf, blankedOf, grownOf, addedOf, agedOf, countedOf, setOf, agedFullOf, shareOf, shareUpOf};
 
-// ACR × 4,096 + fraction, AS, LEARNF and the age counter. (Side by side, count and age would be passed as one number of eight bytes.)
+// ACR × 4,096 + fraction, AS, LEARNF, the mark after an ACR write and the age counter. (Side by side, count and age would be passed as one
+// number of eight bytes.)
 pub struct Charge {
     pub count: u32,
     pub aging: u8,
     pub learnf: bool,
+    pub mark: bool,
     pub age: u32,
 }
 
@@ -54,6 +56,14 @@ fn grown(count: u32, counted: u16, ab: u8) -> u32
     numbers::at_most(268435455, numbers::less(sum, offset)) as u32
 }
 
+// Step 3: where the mark is set nothing is added.
+fn added(mark: bool, count: u32, counted: u16, ab: u8) -> u32
+    ensures { λ r. ⌜ r ≡ addedOf mark count counted ab ⌝ }
+{
+    let sum = grown(count, counted, ab);
+    if mark { count } else { sum }
+}
+
 // Step 4.
 fn aged(ac: u16, age: u32, aging: u8) -> Age
     ensures { λ r. ⌜ r ≡ agedOf ac age aging ⌝ }
@@ -97,7 +107,7 @@ impl Charge {
         requires { ⌜ ChargeWF self ⌝ }
         ensures { λ r. ⌜ r ≡ countedOf p self last c ⌝ }
     {
-        let count = grown(self.count, blanked(p.nben, c), p.ab);
+        let count = added(self.mark, self.count, blanked(p.nben, c), p.ab);
         let fall = numbers::less((self.count / 4096) as u64, (count / 4096) as u64) as u32;
         let a = aged(p.ac, self.age + fall, self.aging);
         let was = last < numbers::ZERO15;
@@ -108,6 +118,7 @@ impl Charge {
             age: a.age,
             aging: a.aging,
             learnf: numbers::and_not(learnf, count / 4096 == 0),
+            mark: false,
         }
     }
 

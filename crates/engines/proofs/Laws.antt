@@ -43,8 +43,8 @@ charge-wf g e =
 
 average-wf : (a : Average) → averageSound a ≡ true → AverageWF a
 average-wf a e =
-    let b = both-true (ltb (a .run) 8) _ e in
-    record { run = ltb-true _ _ (b .0); sum = leb-true _ _ (b .1) }
+    let b = both-true (ltb (a .made) 1024) _ e in
+    record { made = ltb-true _ _ (b .0); sum = leb-true _ _ (b .1) }
 
 pub sound-wf : (m : Meter) → soundOf m ≡ true → MeterWF m
 unfolding soundOf

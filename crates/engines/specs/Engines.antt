@@ -11,6 +11,7 @@ use Rattle.digits.specs.Digits.{lower, hexText}
 use Rattle.streams.specs.Streams.{Speech, output, error, unreadText, refusedText}
 use Rattle.charge.specs.declared.Charge.{Charge}
 use Rattle.full.specs.declared.Average.{Average}
+use Rattle.full.specs.Full.{runOf}
 use Rattle.meter.specs.declared.Meter.{Meter}
 use Rattle.samples.specs.Samples.{sampledOf}
 use Rattle.label.specs.declared.Common.{Common}
@@ -43,7 +44,7 @@ abbrev pub chargeSound : Charge → Bool
 chargeSound g = both (ltb (g .count) (2 ^ 28)) (both (ltb (g .age) (32 * 65535)) (both (leb 63 (g .aging)) (leb (g .aging) 128)))
 
 abbrev pub averageSound : Average → Bool
-averageSound a = both (ltb (a .run) 8) (leb (a .sum) (65535 * a .run))
+averageSound a = both (ltb (a .made) 1024) (leb (a .sum) (65535 * runOf a))
 
 unfoldable pub soundOf : Meter → Bool
 soundOf m =
@@ -55,8 +56,8 @@ soundOf m =
 abbrev pub registersText : Common → Meter → List ℕ
 registersText k m = hexText lower (registersOf k m)
 
--- the registers of a meter, and those after 64 more conversions of no current: what no register shows, the run of eight and the age counter,
--- comes to light there
+-- the registers of a meter, and those after 64 more conversions of no current: the run of eight and the age counter, which no register shows,
+-- come to light there
 abbrev pub lineText : Common → Meter → List ℕ
 lineText k m = registersText k m ++ (registersText k (sampledOf m (zeroAt 31) 64) ++ (10 ∷ []))
 

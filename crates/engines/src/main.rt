@@ -15,11 +15,14 @@ ghost use Rattle.digits.specs.Digits.{Writing};
 ghost use Rattle.streams.specs.Streams.{Front, Saying};
 ghost use Rattle.engines.specs.Engines.{averageSound, soundOf, registersText, lineText, linesText, comparedSpeech, comparedOf};
 
-// What an engine asks of the run of eight.
+// What an engine asks of the count of conversions and of the run of eight.
 fn average_sound(a: Average) -> bool
     ensures { λ r. ⌜ r ≡ averageSound a ⌝ }
 {
-    numbers::and(a.run < 8, (a.sum as u64) <= 65535 * (a.run as u64))
+    numbers::and(
+        a.made < 1024,
+        (a.sum as u64) <= 65535 * ((a.made % 8) as u64),
+    )
 }
 
 // What it asks of a meter. Each event keeps it, but `run` does not say so of the state at its end.

@@ -1,17 +1,17 @@
 -- What the definitions keep: bounds of what they give; charge and average are well-formed after step 6.
-use mathlib.Core.Path.{_≡_}
+use mathlib.Core.Path.{_≡_, refl}
 use mathlib.Core.Bool.{Bool}
-use Prim.Native.Nat.{ℕ, _≤_}
+use Prim.Native.Nat.{ℕ, _+_, _%_, _≤_}
 use native.Mathlib.Omega.{arith}
 use lib.Dec.{ltb}
-use borrow.Author.Tests.{eqb-false}
-use Rattle.numbers.specs.Choice.{both}
+use borrow.Author.Tests.{eqb-true, eqb-false}
+use Rattle.numbers.specs.Choice.{pick, both}
 use Rattle.numbers.proofs.Bounds.{picked}
 use Rattle.charge.specs.declared.Charge.{Charge}
 use Rattle.charge.specs.Charge.{ChargeWF, acrOf, agedFullOf, shareUpOf}
 use Rattle.charge.proofs.Laws.{set-wf, with-as-wf, aged-full-high, share-up-high}
 use Rattle.full.specs.declared.Average.{Average}
-use Rattle.full.specs.Full.{AverageWF, eighth, averagedOf, learntOf, taughtOf, filledOf, settledOf}
+use Rattle.full.specs.Full.{AverageWF, nextOf, runOf, eighth, averagedOf, learntOf, taughtOf, filledOf, settledOf}
 
 -- ACR at full: AF × Full40 / 16,384 rounded up
 pub filled-acr : (g : Charge) (full full40 : ℕ)
@@ -40,8 +40,20 @@ module _ (g : Charge) (full full40 : ℕ) (w : ChargeWF g) where
   unfolding settledOf
   settled-wf found p q = picked ChargeWF found _ _ (λ e. filled-wf p q) (λ e. w)
 
+-- every conversion is counted
+pub averaged-made : (a : Average) (c : ℕ) → averagedOf a c .made ≡ nextOf (a .made)
+unfolding averagedOf
+averaged-made a c = picked (λ (x : Average). x .made ≡ nextOf (a .made)) (eighth a) _ _ (λ e. refl) (λ e. refl)
+
+-- the run of eight, read off that count, goes on by one, and starts anew after the eighth
+pub run-goes-on : (a : Average) (c : ℕ) → runOf (averagedOf a c) ≡ pick (eighth a) 0 (runOf a + 1)
+run-goes-on a c =
+    rw (averaged-made a c)
+    (picked (λ (x : ℕ). nextOf (a .made) % 8 ≡ x) (eighth a) 0 (runOf a + 1)
+    (λ e. omega (arith, eqb-true (runOf a) 7 e)) (λ e. omega (arith, eqb-false (runOf a) 7 e)))
+
 pub averaged-wf : (a : Average) (c : ℕ) → c ≤ 65535 → AverageWF a → AverageWF (averagedOf a c)
 unfolding averagedOf
 averaged-wf a c h w =
-    picked AverageWF (eighth a) _ _ (λ e. record { run = omega arith; sum = omega arith })
-    (λ e. let d = eqb-false (a .run) 7 e in record { run = omega (arith, w .run); sum = omega (arith, w .sum) })
+    picked AverageWF (eighth a) _ _ (λ e. record { made = omega arith; sum = omega arith })
+    (λ e. let d = eqb-false (runOf a) 7 e in record { made = omega arith; sum = omega (arith, w .sum) })

@@ -1,6 +1,6 @@
 -- Full detection: step 6 of a conversion. Currents are kept as z + 2^15.
 use mathlib.Core.Bool.{Bool, true, false}
-use Prim.Native.Nat.{ℕ, _+_, _*_, _/_, _^_, _≤_, _<_, min}
+use Prim.Native.Nat.{ℕ, _+_, _*_, _/_, _%_, _^_, _≤_, _<_, min}
 use lib.Dec.{ltb, eqb}
 use Rattle.numbers.specs.Offset.{zeroAt, movedInto}
 use Rattle.numbers.specs.Choice.{pick, both}
@@ -10,14 +10,30 @@ use Rattle.charge.specs.Charge.{acrOf, setOf, withAs, agedFullOf, shareUpOf}
 use Rattle.full.specs.declared.Average.{Average}
 use Rattle.full.specs.declared.Since.{Since}
 
--- what holds of every average
-pub record AverageWF (a : Average) : Type 0 where
-  pub run : a .run < 8
-  pub sum : a .sum ≤ 65535 * a .run
+-- ---- conversions since power-on, modulo 1,024
+
+-- one more
+abbrev pub nextOf : ℕ → ℕ
+nextOf made = (made + 1) % 1024
+
+-- "every 1024th conversion measures the offset": the one that comes next
+abbrev pub offsetTurn : Average → Bool
+offsetTurn a = eqb (a .made) 1023
+
+-- how many the run of eight has: both are counted from power-on, and 8 divides 1,024
+abbrev pub runOf : Average → ℕ
+runOf a = a .made % 8
 
 -- the eighth conversion of a run
 abbrev pub eighth : Average → Bool
-eighth a = eqb (a .run) 7
+eighth a = eqb (runOf a) 7
+
+-- ---- the average
+
+-- what holds of every average
+pub record AverageWF (a : Average) : Type 0 where
+  pub made : a .made < 1024
+  pub sum : a .sum ≤ 65535 * runOf a
 
 -- the sum of eight c divided by 8, rounded down
 abbrev pub meanOf : Average → ℕ → ℕ
@@ -26,8 +42,8 @@ meanOf a c = (a .sum + c) / 8
 -- the run of eight goes on, or ends with IAVG
 unfoldable pub averagedOf : Average → ℕ → Average
 averagedOf a c =
-    pick (eighth a) (record { run = 0; sum = 0; iavg = meanOf a c; known = true })
-    (record { run = a .run + 1; sum = a .sum + c; iavg = a .iavg; known = a .known })
+    pick (eighth a) (record { made = nextOf (a .made); sum = 0; iavg = meanOf a c; known = true })
+    (record { made = nextOf (a .made); sum = a .sum + c; iavg = a .iavg; known = a .known })
 
 -- the readings since the previous IAVG: none yet after an eighth conversion
 unfoldable pub renewedOf : Since → Bool → Since

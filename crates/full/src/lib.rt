@@ -6,10 +6,10 @@ ghost use Prim.Native.Nat.{_≤_};
 ghost use Rattle.charge.specs.Charge.{ChargeWF};
 ghost use Rattle.full.specs.Full.{AverageWF, averagedOf, loweredOf, tapersOf, foundOf, learntOf, filledOf, settledOf};
 
-// The run of eight: how many c it has and their sum; IAVG, and whether there is one.
+// The conversions since power-on, modulo 1,024, which modulo 8 are those of the run of eight; the sum of their c; IAVG, and whether there is one.
 pub struct Average {
     pub sum: u32,
-    pub run: u8,
+    pub made: u16,
     pub known: bool,
     pub iavg: u16,
 }
@@ -35,16 +35,17 @@ impl Average {
         ensures { λ r. ⌜ r ≡ averagedOf self c ⌝ }
     {
         let sum = self.sum + (c as u32);
-        if self.run == 7 {
+        let made = (self.made + 1) % 1024;
+        if self.made % 8 == 7 {
             Average {
-                run: 0,
+                made: made,
                 sum: 0,
                 iavg: (sum / 8) as u16,
                 known: true,
             }
         } else {
             Average {
-                run: self.run + 1,
+                made: made,
                 sum: sum,
                 iavg: self.iavg,
                 known: self.known,

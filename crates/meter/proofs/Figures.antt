@@ -30,7 +30,7 @@ M =
     0 ∷ 0 ∷ 0 ∷ 0 ∷ 18 ∷ 0 ∷ (256 - 12) ∷ 0 ∷ []
 
 -- the same block, but for the byte at an address
-abbrev withByte : List ℕ → ℕ → ℕ → List ℕ
+abbrev pub withByte : List ℕ → ℕ → ℕ → List ℕ
 withByte block address byte = set block (address - 0x60) byte
 
 -- M with NBEN, and with AC 1
@@ -47,14 +47,14 @@ steep = withByte (withByte (withByte (withByte M 0x7c 0x80) 0x6c 255) 0x68 250) 
 -- ---- the meters and the events
 
 -- a signed count, as an event takes it
-abbrev plus : ℕ → ℕ
+abbrev pub plus : ℕ → ℕ
 plus n = zeroAt 31 + n
 
-abbrev minus : ℕ → ℕ
+abbrev pub minus : ℕ → ℕ
 minus n = zeroAt 31 - n
 
 -- after a power-on with this block, ACR and AS
-abbrev powered : List ℕ → ℕ → ℕ → Meter
+abbrev pub powered : List ℕ → ℕ → ℕ → Meter
 powered block acr aging =
     poweredOf (record {
       block = record { shadow = block; eeprom = block };
@@ -63,11 +63,11 @@ powered block acr aging =
     })
 
 -- a reading at a temperature, with a voltage of 4 × VCHG + 1
-abbrev readAt : ℕ → Meter → Meter
+abbrev pub readAt : ℕ → Meter → Meter
 readAt t m = readOf m (plus 5) t
 
 -- conversions, one after the other
-abbrev converted : List ℕ → Meter → Meter
+abbrev pub converted : List ℕ → Meter → Meter
 converted [] m = m
 converted (raw ∷ more) m = converted more (convertOf m raw)
 
@@ -98,7 +98,7 @@ pub record Figure : Type 0 where
   pub said : List ℕ
 
 infix 60 _is_
-abbrev _is_ : List ℕ → List ℕ → Figure
+abbrev pub _is_ : List ℕ → List ℕ → Figure
 a is b = record { given = a; said = b }
 
 -- in every row, what is given is what is said
@@ -128,7 +128,7 @@ cold = filled (plus (8 * 0)) (powered M 5000 122)
 
 -- FULL 16384, Full40 10,000, ACR 9,000 and LEARNF, full found
 abbrev taught : Meter
-taught = filled (plus (8 * 40)) (withCharge (powered M 9000 128) (record { count = 9000 * 4096; age = 0; aging = 128; learnf = true }))
+taught = filled (plus (8 * 40)) (withCharge (powered M 9000 128) (record { count = 9000 * 4096; age = 0; aging = 128; learnf = true; mark = false }))
 
 -- ACR 100, fraction 0: the count after a conversion
 abbrev counted : List ℕ → ℕ → ℕ
@@ -139,7 +139,7 @@ fallen = convertOf (powered M 100 128) (minus 1)
 
 -- with AC 1 and counter 31
 abbrev aged : Meter
-aged = convertOf (withCharge (powered aging 100 128) (record { count = 100 * 4096; age = 31; aging = 128; learnf = false })) (minus 1)
+aged = convertOf (withCharge (powered aging 100 128) (record { count = 100 * 4096; age = 31; aging = 128; learnf = false; mark = false })) (minus 1)
 
 -- AS 63, N > 0
 abbrev worn : Meter

@@ -9,7 +9,7 @@ use Rattle.numbers.specs.Choice.{both}
 use Rattle.params.specs.declared.Capacity.{Capacity}
 use Rattle.params.specs.Params.{countingOf, limitsOf, capacityOf, curvesOf}
 use Rattle.charge.specs.declared.Charge.{Charge}
-use Rattle.charge.specs.Charge.{acrOf, currentOf, agedFullOf, countedOf}
+use Rattle.charge.specs.Charge.{acrOf, agedFullOf, countedOf}
 use Rattle.charge.proofs.Laws.{share-up-covers}
 use Rattle.full.specs.Full.{eighth, foundOf, filledOf, settledOf}
 use Rattle.full.proofs.Laws.{filled-acr}
@@ -17,7 +17,7 @@ use Rattle.model.specs.declared.Model.{Model}
 use Rattle.reading.specs.declared.Seen.{Seen}
 use Rattle.reading.specs.Reading.{leftOf, usableOf, percentOf, resultsOf, ratedOf, flaggedOf, seenOf}
 use Rattle.meter.specs.declared.Meter.{Meter}
-use Rattle.meter.specs.Convert.{flowedOf, convertOf}
+use Rattle.meter.specs.Convert.{convertedOf, flowedOf, convertOf}
 use Rattle.meter.specs.Read.{drainedOf, shownOf, readOf}
 
 -- ---- the numbers
@@ -70,13 +70,13 @@ module _ (m : Meter) (raw : ℕ) where
   abbrev pub found : Bool
   found =
       let block = m .cells .block .shadow in
-      both (eighth (m .flow .average)) (foundOf (m .flow .average) (m .flow .since) (limitsOf block) (currentOf raw (countingOf block .cob)))
+      both (eighth (m .flow .average)) (foundOf (m .flow .average) (m .flow .since) (limitsOf block) (convertedOf (m .flow) raw (countingOf block .cob)))
 
   -- the charge that the steps before leave
   abbrev pub before : Charge
   before =
       let p = countingOf (m .cells .block .shadow) in
-      countedOf p (m .charge) (m .flow .trace .last) (currentOf raw (p .cob))
+      countedOf p (m .charge) (m .flow .trace .last) (convertedOf (m .flow) raw (p .cob))
 
   pub fills : found ≡ true
       → convertOf m raw .charge ≡ filledOf before (m .shown .model .full) (capacityOf (m .cells .block .shadow) .full40)

@@ -3,3 +3,4 @@ pub mod Meaning
 pub mod Figures
 pub mod Unique
 pub mod Hundred
+pub mod OffsetConversion

@@ -22,10 +22,10 @@ use Rattle.params.specs.Params.{byteAt, signedAt}
 use Rattle.charge.specs.declared.Charge.{Charge}
 use Rattle.charge.specs.Charge.{acrOf, currentOf, negative, turnedOf, blankedOf, grownOf, newCount, fallOf}
 use Rattle.full.specs.declared.Average.{Average}
-use Rattle.full.specs.Full.{averagedOf, tapersOf}
+use Rattle.full.specs.Full.{nextOf, runOf, averagedOf, tapersOf}
 use Rattle.model.specs.Model.{slopeOf, forty, slopesOver, slopesTo, fullLineOf}
 use Rattle.reading.specs.Reading.{voltOf, tempOf, degreesOf, drainsOf, leftOf, usableOf, percentOf, amountOf}
-use Rattle.meter.specs.Signed.{minus, orZero, atMostZ, atLeastZ, currentZ, negativeZ, turnedZ, blankedZ, grownZ, fallZ, sumZ, meanZ, tapersZ, voltZ, tempZ, degreesZ, slopeZ, slopesOverZ, slopesZ, fullLineZ, averagedOver, drainsZ, leftZ, usableZ, percentZ, amountZ}
+use Rattle.meter.specs.Signed.{minus, orZero, atMostZ, atLeastZ, currentZ, negativeZ, turnedZ, blankedZ, grownZ, addedZ, fallZ, sumZ, meanZ, tapersZ, voltZ, tempZ, degreesZ, slopeZ, slopesOverZ, slopesZ, fullLineZ, averagedOver, drainsZ, leftZ, usableZ, percentZ, amountZ}
 
 -- ---- differences
 
@@ -82,10 +82,12 @@ pub grown-means : (count counted ab : ℕ) → pos (grownOf count counted ab) �
 grown-means count counted ab = offset.grown 15 7 count counted ab (2 ^ 28 - 1)
 
 -- steps 2 and 3 together
-pub count-means : (p : Counting) (g : Charge) (c : ℕ) → pos (newCount p g c) ≡ grownZ (pos (g .count)) (blankedZ (p .nben) (value 15 c)) (value 7 (p .ab))
+pub count-means : (p : Counting) (g : Charge) (c : ℕ)
+    → pos (newCount p g c) ≡ addedZ (g .mark) (pos (g .count)) (blankedZ (p .nben) (value 15 c)) (value 7 (p .ab))
 count-means p g c =
-    grown-means (g .count) (blankedOf (p .nben) c) (p .ab) ∙
-    ap (λ (z : ℤ). grownZ (pos (g .count)) z (value 7 (p .ab))) (blanked-means (p .nben) c)
+    let grown = grown-means (g .count) (blankedOf (p .nben) c) (p .ab) ∙
+    ap (λ (z : ℤ). grownZ (pos (g .count)) z (value 7 (p .ab))) (blanked-means (p .nben) c) in
+    through pos (g .mark) (g .count) _ ∙ ap (pick (g .mark) (pos (g .count))) grown
 
 pub fall-means : (old new : ℕ) → fallOf old new ≡ fallZ (acrOf old) (acrOf new)
 fall-means old new = stops (acrOf old) (acrOf new) ∙ ap orZero (sym (less-pos (acrOf old) (acrOf new)))
@@ -101,19 +103,19 @@ sum-is (c ∷ cs) =
     ap (λ (z : ℤ). value 15 c +ℤ z) (sum-is cs) ∙ sub-add c (zeroAt 15) (total cs) (length cs * zeroAt 15) ∙
     sub-eq (c + total cs) (zeroAt 15 + length cs * zeroAt 15) (c + total cs) (suc (length cs) * zeroAt 15) (omega arith)
 
-iavg-is : (c : ℕ) (cs : List ℕ) (a : Average) → a .run + length cs ≡ 7 → averagedOver a (c ∷ cs) .iavg ≡ (a .sum + total (c ∷ cs)) / 8
+iavg-is : (c : ℕ) (cs : List ℕ) (a : Average) → runOf a + length cs ≡ 7 → averagedOver a (c ∷ cs) .iavg ≡ (a .sum + total (c ∷ cs)) / 8
 unfolding averagedOf total
 iavg-is c [] a h =
     let e : a .sum + c ≡ a .sum + (c + 0) = omega arith in
-    simp (eq-eqb (a .run) 7 (omega arith)) (ap (λ (x : ℕ). x / 8) e)
+    simp (eq-eqb (runOf a) 7 (omega arith)) (ap (λ (x : ℕ). x / 8) e)
 iavg-is c (d ∷ ds) a h =
-    let next : Average = record { run = a .run + 1; sum = a .sum + c; iavg = a .iavg; known = a .known } in
-    let e : averagedOf a c ≡ next = simp (ne-eqb (a .run) 7 (λ s. omega arith)) in
+    let next : Average = record { made = nextOf (a .made); sum = a .sum + c; iavg = a .iavg; known = a .known } in
+    let e : averagedOf a c ≡ next = simp (ne-eqb (runOf a) 7 (λ s. omega arith)) in
     let sums : a .sum + c + total (d ∷ ds) ≡ a .sum + total (c ∷ d ∷ ds) = omega arith in
     ap (λ (b : Average). averagedOver b (d ∷ ds) .iavg) e ∙ iavg-is d ds next (omega arith) ∙ ap (λ (x : ℕ). x / 8) sums
 
 -- IAVG after the eight c of a run
-pub mean-means : (a : Average) (cs : List ℕ) → a .run ≡ 0 → a .sum ≡ 0 → length cs ≡ 8 → value 15 (averagedOver a cs .iavg) ≡ meanZ cs
+pub mean-means : (a : Average) (cs : List ℕ) → runOf a ≡ 0 → a .sum ≡ 0 → length cs ≡ 8 → value 15 (averagedOver a cs .iavg) ≡ meanZ cs
 mean-means a [] r s h = absurd (omega arith)
 mean-means a (c ∷ cs) r s h =
     let sums : a .sum + total (c ∷ cs) ≡ total (c ∷ cs) = omega arith in

@@ -1,14 +1,19 @@
 -- Conversion, in the six steps of document 01. Currents are kept as z + 2^15.
 use Prim.Native.Nat.{ℕ}
 use mathlib.Core.Bool.{Bool}
-use Rattle.numbers.specs.Choice.{both, either}
+use Rattle.numbers.specs.Choice.{pick, both, either}
 use Rattle.params.specs.declared.Limits.{Limits}
 use Rattle.params.specs.Params.{countingOf, limitsOf, capacityOf}
 use Rattle.charge.specs.Charge.{currentOf, tracedOf, countedOf}
-use Rattle.full.specs.Full.{eighth, averagedOf, renewedOf, foundOf, settledOf}
+use Rattle.full.specs.Full.{offsetTurn, eighth, averagedOf, renewedOf, foundOf, settledOf}
 use Rattle.reading.specs.declared.Flags.{Flags}
+use Rattle.meter.specs.declared.Flow.{Flow}
 use Rattle.meter.specs.declared.Meter.{Meter}
 use Rattle.meter.specs.State.{withCharge, withFlags}
+
+-- step 1: c. "On the 1024th, the previous c is shown, averaged and counted; the raw value is ignored."
+abbrev pub convertedOf : Flow → ℕ → ℕ → ℕ
+convertedOf f raw cob = pick (offsetTurn (f .average)) (f .trace .last) (currentOf raw cob)
 
 -- CHGTF sets where full is found
 abbrev pub filledFlags : Flags → Bool → Flags
@@ -36,6 +41,6 @@ unfoldable pub convertOf : Meter → ℕ → Meter
 convertOf m raw =
     let block = m .cells .block .shadow in
     let p = countingOf block in
-    let c = currentOf raw (p .cob) in
+    let c = convertedOf (m .flow) raw (p .cob) in
     let counted = withCharge m (countedOf p (m .charge) (m .flow .trace .last) c) in
     flowedOf counted (limitsOf block) (capacityOf block .full40) c

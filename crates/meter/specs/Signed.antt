@@ -51,6 +51,10 @@ blankedZ nben c =
 abbrev pub grownZ : ℤ → ℤ → ℤ → ℤ
 grownZ count counted ab = clampZ (pos 0) (pos (2 ^ 28 - 1)) (count +ℤ (counted +ℤ ab))
 
+-- the first conversion after an ACR write adds nothing, AB included
+abbrev pub addedZ : Bool → ℤ → ℤ → ℤ → ℤ
+addedZ mark count counted ab = pick mark count (grownZ count counted ab)
+
 -- a fall of ACR
 abbrev pub fallZ : ℕ → ℕ → ℕ
 fallZ old new = orZero (pos old -ℤ pos new)

@@ -72,15 +72,15 @@ poweredCells c = record {
 abbrev pub asIn : ℕ → ℕ
 asIn aging = movedInto 63 128 aging
 
--- ACR and AS from the saved cells, AS moved into 63..128
+-- ACR and AS from the saved cells, AS moved into 63..128; no mark
 abbrev pub poweredCharge : Saved → Charge
-poweredCharge s = record { count = s .acr * 4096; age = 0; aging = asIn (s .aging); learnf = false }
+poweredCharge s = record { count = s .acr * 4096; age = 0; aging = asIn (s .aging); learnf = false; mark = false }
 
--- no previous conversion or average, the run of eight starts anew, and no tick is remembered
+-- no previous conversion or average, conversions are counted and the run of eight starts anew, and no tick is remembered
 abbrev pub noFlow : Flow
 noFlow = record {
   trace = record { last = zeroAt 15; before = zeroAt 15; any = false; two = false };
-  average = record { run = 0; sum = 0; iavg = zeroAt 15; known = false };
+  average = record { made = 0; sum = 0; iavg = zeroAt 15; known = false };
   since = record { any = false; lowest = 0 };
   tick = noTick;
 }

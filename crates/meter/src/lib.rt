@@ -18,7 +18,7 @@ ghost use mathlib.Core.Path.{_≡_};
 ghost use Rattle.charge.specs.Charge.{ChargeWF};
 ghost use Rattle.reading.specs.Reading.{SeenWF};
 ghost use Rattle.meter.specs.State.{MeterWF, poweredOf, restartedOf};
-ghost use Rattle.meter.specs.Convert.{flowedOf, convertOf};
+ghost use Rattle.meter.specs.Convert.{convertedOf, flowedOf, convertOf};
 ghost use Rattle.meter.specs.Read.{drainedOf, shownOf, readOf};
 
 // Block 1.
@@ -40,7 +40,7 @@ pub struct Cells {
     pub block: Block,
 }
 
-// The flow of currents: the last two, the run of eight, the readings since it began, and the tick of the last sample.
+// The flow of currents: the last two, how many and the run of eight, the readings since it began, and the tick of the last sample.
 pub struct Flow {
     pub trace: Trace,
     pub average: Average,
@@ -63,6 +63,19 @@ pub struct Meter {
     pub shown: Shown,
 }
 
+impl Flow {
+    // Step 1: c.
+    fn converted(self, raw: u32, cob: u8) -> u16
+        ensures { λ r. ⌜ r ≡ convertedOf self raw cob ⌝ }
+    {
+        if self.average.made == 1023 {
+            self.trace.last
+        } else {
+            charge::current(raw, cob)
+        }
+    }
+}
+
 impl Meter {
     // Step 6 of a conversion, and CURRENT.
     fn flowed(mut self, p: Limits, full40: u16, c: u16) -> Meter
@@ -72,7 +85,7 @@ impl Meter {
     {
         let mut flow = self.flow;
         flow.trace = flow.trace.traced(c);
-        if flow.average.run == 7 {
+        if flow.average.made % 8 == 7 {
             let found = flow.average.found(flow.since, p, c);
             self.charge = full::settled(self.charge, found, self.shown.model.full, full40);
             let chgtf = numbers::or(found, self.shown.flags.chgtf);
@@ -94,7 +107,7 @@ impl Meter {
         let p = Counting::of(&self.cells.block.shadow);
         let limits = Limits::of(&self.cells.block.shadow);
         let full = Capacity::of(&self.cells.block.shadow);
-        let c = charge::current(raw, p.cob);
+        let c = self.flow.converted(raw, p.cob);
         self.charge = self.charge.counted(p, self.flow.trace.last, c);
         self.flowed(limits, full.full40, c)
     }
@@ -182,6 +195,7 @@ impl Meter {
                 age: 0,
                 aging: numbers::moved_into(63, 128, saved.aging as u64),
                 learnf: false,
+                mark: false,
             },
             flow: Flow {
                 trace: Trace {
@@ -191,7 +205,7 @@ impl Meter {
                     two: false,
                 },
                 average: Average {
-                    run: 0,
+                    made: 0,
                     sum: 0,
                     iavg: numbers::ZERO15,
                     known: false,

@@ -1,5 +1,5 @@
 -- The charge: a conversion is a stretch of one, and a stretch and one conversion more are a longer stretch.
-use mathlib.Core.Path.{_≡_, refl, ap, _∙_}
+use mathlib.Core.Path.{_≡_, refl, sym, ap, subst, _∙_}
 use mathlib.Core.Bool.{Bool, true, false, not}
 use mathlib.Core.Logic.{_⊎_, inl, inr, ⊎-elim}
 use Prim.Native.Nat.{ℕ, zero, suc, _+_, _-_, _*_, _^_, _≤_, _<_, min, max}
@@ -11,9 +11,9 @@ use Rattle.numbers.specs.Offset.{zeroAt}
 use Rattle.numbers.specs.Choice.{both, either, butNot}
 use Rattle.params.specs.declared.Counting.{Counting}
 use Rattle.charge.specs.declared.Charge.{Charge}
-use Rattle.charge.specs.Charge.{ChargeWF, acrOf, fallOf, grownOf, agedOf, turnedOf, negative, countedOf, blankedOf}
-use Rattle.charge.proofs.Laws.{fall-small, counted-wf}
-use Rattle.samples.specs.Stretch.{grownOver, dropsOver, ageOver, agingOver, countOver, fallenOver, emptyOver, chargeOver}
+use Rattle.charge.specs.Charge.{ChargeWF, acrOf, fallOf, grownOf, addedOf, agedOf, turnedOf, negative, countedOf, blankedOf}
+use Rattle.charge.proofs.Laws.{counted-wf}
+use Rattle.samples.specs.Stretch.{grownOver, addsOver, dropsOver, ageOver, agingOver, countOver, fallenOver, emptyOver, chargeOver}
 use Rattle.samples.proofs.Numbers.{either-way, reached, clamped-more, rises, falls, rises-on, falls-on, lost, lost-fits, lost-due, lost-still}
 
 -- ---- step 3
@@ -27,7 +27,10 @@ top = 2 ^ 28 - 1
 grown-joined : (y counted ab : ℕ) → grownOf y counted ab ≡ min (y + (counted + ab) - zeros) top
 grown-joined y counted ab = omega arith
 
--- what ACR falls one way adds up
+-- ACR falls by at most 9 at a time, and what it falls one way adds up
+fall-small : (y counted ab : ℕ) → y < 2 ^ 28 → fallOf y (grownOf y counted ab) ≤ 9
+fall-small y counted ab h = omega arith
+
 fall-none : (x y z : ℕ) → (x ≤ y) × (y ≤ z) → fallOf x y + fallOf y z ≡ fallOf x z
 fall-none x y z w = omega arith
 
@@ -54,14 +57,33 @@ module _ (x counted ab k : ℕ) (h : x < 2 ^ 28) where
       fallOf x (grownOver x counted ab (suc k))
   fall-more = ⊎-elim (fall-none _ _ _) (fall-sum _ _ _) one-way
 
+-- the first adds, or has the mark
+added-one : (mark : Bool) (x counted ab : ℕ) → x < 2 ^ 28 → addedOf mark x counted ab ≡ grownOver x counted ab (addsOver mark 1)
+unfolding addsOver
+added-one true x counted ab h = omega arith
+added-one false x counted ab h = omega arith
+
+added-few : (mark : Bool) (x counted ab : ℕ) → x < 2 ^ 28 → fallOf x (addedOf mark x counted ab) ≤ 9
+added-few true x counted ab h = omega arith
+added-few false x counted ab h = fall-small x counted ab h
+
+-- the others add
+adds-on : (mark : Bool) (j : ℕ) → addsOver mark (suc j) ≡ addsOver mark 1 + j
+unfolding addsOver
+adds-on true j = omega arith
+adds-on false j = omega arith
+
+adds-more : (mark : Bool) (j : ℕ) → addsOver mark (suc (suc j)) ≡ suc (addsOver mark (suc j))
+adds-more mark j = omega (arith, adds-on mark j, adds-on mark (suc j))
+
 -- from the first on
-from-one : (x counted ab j : ℕ) → x < 2 ^ 28 →
-    ((grownOver x counted ab 1 ≤ grownOver x counted ab (suc j)) × (grownOver x counted ab (suc j) ≤ grownOver x counted ab (suc (suc j)))) ⊎
-    ((grownOver x counted ab (suc j) ≤ grownOver x counted ab 1) × (grownOver x counted ab (suc (suc j)) ≤ grownOver x counted ab (suc j)))
-from-one x counted ab j h =
+from-one : (x counted ab i j : ℕ) → x < 2 ^ 28 →
+    ((grownOver x counted ab i ≤ grownOver x counted ab (i + j)) × (grownOver x counted ab (i + j) ≤ grownOver x counted ab (suc (i + j)))) ⊎
+    ((grownOver x counted ab (i + j) ≤ grownOver x counted ab i) × (grownOver x counted ab (suc (i + j)) ≤ grownOver x counted ab (i + j)))
+from-one x counted ab i j h =
     ⊎-elim
-    (λ p. inl (rises-on x (counted + ab) zeros top j p, rises x (counted + ab) zeros top (suc j) (omega arith) p .1))
-    (λ p. inr (falls-on x (counted + ab) zeros top j p, falls x (counted + ab) zeros top (suc j) (omega arith) p .1))
+    (λ p. inl (rises-on x (counted + ab) zeros top i j p, rises x (counted + ab) zeros top (i + j) (omega arith) p .1))
+    (λ p. inr (falls-on x (counted + ab) zeros top i j p, falls x (counted + ab) zeros top (i + j) (omega arith) p .1))
     (either-way zeros (counted + ab))
 
 -- ---- step 4
@@ -154,13 +176,14 @@ module _ (p : Counting) (g : Charge) (last c : ℕ) (w : ChargeWF g) where
     age = agedOf (p .ac) (h .age + fallOf (h .count) y) (h .aging) .age;
     aging = agedOf (p .ac) (h .age + fallOf (h .count) y) (h .aging) .aging;
     learnf = butNot (butNot (h .learnf) (turnedOf before c)) (eqb (acrOf y) 0);
+    mark = false;
   }
 
   pub charge-one : countedOf p g last c ≡ chargeOver p g last c 1
   unfolding countedOf chargeOver
   charge-one =
-      let x : grownOf (g .count) counted (p .ab) ≡ countOver p g c 1 = omega arith in
-      let few : fallOf (g .count) (countOver p g c 1) ≤ 9 = rw (← x) (fall-small (g .count) counted (p .ab) (w .count)) in
+      let x = added-one (g .mark) (g .count) counted (p .ab) (w .count) in
+      let few = subst (λ (y : ℕ). fallOf (g .count) y ≤ 9) x (added-few (g .mark) (g .count) counted (p .ab) (w .count)) in
       let a = aged-one (p .ac) (g .age) (fallOf (g .count) (countOver p g c 1)) (g .aging) few (w .low) in
       ap (next g last) x ∙
       (λ i. record {
@@ -168,6 +191,7 @@ module _ (p : Counting) (g : Charge) (last c : ℕ) (w : ChargeWF g) where
         age = a .0 i;
         aging = a .1 i;
         learnf = butNot (butNot (g .learnf) (turnedOf last c)) (either-same (eqb (acrOf (countOver p g c 1)) 0) i);
+        mark = false;
       })
 
   -- k conversions, at least one, and one more
@@ -195,8 +219,25 @@ module _ (p : Counting) (g : Charge) (last c : ℕ) (w : ChargeWF g) where
         either-true true = refl
         either-true false = refl
 
+    -- how many add
+    abbrev n : ℕ
+    n = addsOver (g .mark) k
+
+    abbrev first : ℕ
+    first = addsOver (g .mark) 1
+
+    after : grownOver (g .count) counted (p .ab) (suc n) ≡ x2
+    after = ap (grownOver (g .count) counted (p .ab)) (sym (adds-more (g .mark) j))
+
+    from-first : ((countOver p g c 1 ≤ x1) × (x1 ≤ x2)) ⊎ ((x1 ≤ countOver p g c 1) × (x2 ≤ x1))
+    from-first =
+        let add = grownOver (g .count) counted (p .ab) in
+        rw (← after)
+        (subst (λ (i : ℕ). ((add first ≤ add i) × (add i ≤ add (suc i))) ⊎ ((add i ≤ add first) × (add (suc i) ≤ add i)))
+        (sym (adds-on (g .mark) j)) (from-one (g .count) counted (p .ab) first j (w .count)))
+
     fallen-more : fallenOver p g c k + fallOf x1 x2 ≡ fallenOver p g c (suc k)
-    fallen-more = joined (g .age) _ _ _ (fall-more (g .count) counted (p .ab) k (w .count))
+    fallen-more = joined (g .age) _ _ _ (rw (← after) (fall-more (g .count) counted (p .ab) n (w .count)))
       where
         joined : (a b c d : ℕ) → b + c ≡ d → a + b + c ≡ a + d
         joined a b c d e = omega arith
@@ -206,7 +247,8 @@ module _ (p : Counting) (g : Charge) (last c : ℕ) (w : ChargeWF g) where
         (x .age ≡ chargeOver p g last c (suc k) .age) × (x .aging ≡ chargeOver p g last c (suc k) .aging)
     unfolding chargeOver
     aged-both =
-        let a = aged-more (p .ac) (fallenOver p g c k) (fallOf x1 x2) k (g .aging) (fall-few (g .count) counted (p .ab) k (w .count)) in (
+        let few : fallOf x1 x2 ≤ 9 = rw (← after) (fall-few (g .count) counted (p .ab) n (w .count)) in
+        let a = aged-more (p .ac) (fallenOver p g c k) (fallOf x1 x2) k (g .aging) few in (
           a .0 ∙ ap (λ (t : ℕ). ageAfter (p .ac) t (suc k)) fallen-more,
           a .1 ∙ ap (λ (t : ℕ). agingAfter (p .ac) t (suc k) (g .aging)) fallen-more,
         )
@@ -218,13 +260,13 @@ module _ (p : Counting) (g : Charge) (last c : ℕ) (w : ChargeWF g) where
         let l = butNot (g .learnf) (turnedOf last c) in
         ap (λ (t : Bool). butNot (butNot (butNot l (emptyOver p g c k)) t) (eqb (acrOf x2) 0)) (turned-same c) ∙
         learnf-more l (eqb (acrOf (countOver p g c 1)) 0) (eqb (acrOf x1) 0) (eqb (acrOf x2) 0)
-        (empties (countOver p g c 1) x1 x2 (from-one (g .count) counted (p .ab) j (w .count)))
+        (empties (countOver p g c 1) x1 x2 from-first)
 
     pub charge-more : countedOf p (chargeOver p g last c k) c c ≡ chargeOver p g last c (suc k)
     unfolding countedOf chargeOver
     charge-more =
-        ap (next (chargeOver p g last c k) c) (grown-more (g .count) counted (p .ab) k (w .count)) ∙
-        (λ i. record { count = x2; age = aged-both .0 i; aging = aged-both .1 i; learnf = learnf-both i })
+        ap (next (chargeOver p g last c k) c) (grown-more (g .count) counted (p .ab) n (w .count) ∙ after) ∙
+        (λ i. record { count = x2; age = aged-both .0 i; aging = aged-both .1 i; learnf = learnf-both i; mark = false })
 
   -- ---- what is kept
 

@@ -1,24 +1,26 @@
 -- The meter: k conversions are a stretch.
-use mathlib.Core.Path.{_≡_, sym, ap, subst, _∙_}
-use mathlib.Core.Bool.{Bool, false}
+use mathlib.Core.Path.{_≡_, refl, sym, ap, subst, _∙_}
+use mathlib.Core.Bool.{Bool, true, false}
 use mathlib.Core.Logic.{_⊎_, inl, inr, ⊎-elim}
-use Prim.Native.Nat.{ℕ, zero, suc, _+_, _-_, _≤_, _<_}
+use Prim.Native.Nat.{ℕ, zero, suc, _+_, _-_, _≤_}
 use native.Mathlib.Nat.{add-zero, add-suc}
 use native.Mathlib.Numerals.{add-one}
 use native.Mathlib.Omega.{arith}
-use Rattle.numbers.specs.Choice.{both, either}
+use borrow.Author.Tests.{ne-eqb}
+use Rattle.numbers.specs.Choice.{pick, both, either}
 use Rattle.numbers.proofs.Bounds.{picked}
 use Rattle.params.specs.declared.Counting.{Counting}
 use Rattle.params.specs.declared.Limits.{Limits}
 use Rattle.params.specs.Params.{countingOf, limitsOf, capacityOf}
 use Rattle.charge.specs.declared.Charge.{Charge}
-use Rattle.charge.specs.Charge.{currentOf, tracedOf}
-use Rattle.full.specs.Full.{AverageWF, eighth, averagedOf, renewedOf, foundOf, settledOf}
+use Rattle.charge.specs.Charge.{currentOf, tracedOf, countedOf}
+use Rattle.full.specs.declared.Average.{Average}
+use Rattle.full.specs.Full.{AverageWF, offsetTurn, eighth, averagedOf, renewedOf, foundOf, settledOf}
 use Rattle.full.proofs.Laws.{settled-wf}
 use Rattle.meter.specs.declared.Flow.{Flow}
 use Rattle.meter.specs.declared.Meter.{Meter}
-use Rattle.meter.specs.State.{MeterWF, withFlags}
-use Rattle.meter.specs.Convert.{filledFlags, flowedOf, convertOf}
+use Rattle.meter.specs.State.{MeterWF, withCharge, withFlags}
+use Rattle.meter.specs.Convert.{convertedOf, filledFlags, flowedOf, convertOf}
 use Rattle.samples.specs.Samples.{sampledOf, tickedOf}
 use Rattle.samples.specs.Stretch.{chargeOver, traceOver, endsOver, averageOver, foundOver, flowOver, flowedOver, stretchedOf, Quiet, reachOf}
 use Rattle.samples.proofs.Charge.{charge-one, charge-more}
@@ -53,7 +55,7 @@ module _ (f : Flow) (p : Limits) (c : ℕ) where
     flow-none = λ i. record {
       trace = f .trace;
       average = average-none (f .average) c w i;
-      since = renewed-none (f .average) (f .since) w i;
+      since = renewed-none (f .average) (f .since) i;
       tick = f .tick;
     }
 
@@ -66,7 +68,7 @@ module _ (f : Flow) (p : Limits) (c : ℕ) where
 
     found-one : foundNext f p c ≡ foundOver f p c 1
     found-one =
-        ap (λ (x : Flow). foundNext x p c) (sym flow-none) ∙ found-more f p c 0 (inl (omega (arith, w .run)))
+        ap (λ (x : Flow). foundNext x p c) (sym flow-none) ∙ found-more f p c 0 (inl (omega arith))
 
   flow-more : (j : ℕ) → flowNext (flowOver f c (suc j)) c ≡ flowOver f c (suc (suc j))
   unfolding flowOver
@@ -103,7 +105,7 @@ module _ (m : Meter) (raw : ℕ) (w : MeterWF m) where
   full40 = capacityOf (m .cells .block .shadow) .full40
 
   abbrev c : ℕ
-  c = currentOf raw (p .cob)
+  c = convertedOf (m .flow) raw (p .cob)
 
   abbrev last : ℕ
   last = m .flow .trace .last
@@ -132,11 +134,25 @@ module _ (m : Meter) (raw : ℕ) (w : MeterWF m) where
           shown = withFlags (m .shown) (record { porf = m .shown .flags .porf; chgtf = chgtf i; aef = m .shown .flags .aef; sef = m .shown .flags .sef });
         })
 
+    -- the first is not a 1024th, and where the next is one, the c before it is c
+    first-plain : offsetTurn (m .flow .average) ≡ false
+    first-plain = ⊎-elim (λ h. ne-eqb (m .flow .average .made) 1023 (omega arith)) (λ e. e .1) q
+
+    next-same : (offset : Bool) → pick offset c (currentOf raw (p .cob)) ≡ c
+    next-same offset = picked (λ (z : ℕ). z ≡ c) offset _ _ (λ e. refl) (λ e. simp first-plain)
+
+    -- what a conversion with some c makes of the stretch
+    abbrev after : ℕ → Meter
+    after z =
+        flowedOf (withCharge (plainly (suc j)) (countedOf p (chargeOver p (m .charge) last c (suc j)) (flowOver (m .flow) c (suc j) .trace .last) z))
+        limits full40 z
+
     plain-more : convertOf (plainly (suc j)) raw ≡ stretchedOf m raw (suc (suc j))
     unfolding convertOf flowedOf stretchedOf flowedOver flowOver traceOver
     plain-more =
-        λ i. left m full40 (charge-more p (m .charge) last c (w .charge) j i) (flow-more (m .flow) limits c j i)
-        (found-more (m .flow) limits c (suc j) q i)
+        ap after (next-same (offsetTurn (averageOver (m .flow .average) c (suc j)))) ∙
+        (λ i. left m full40 (charge-more p (m .charge) last c (w .charge) j i) (flow-more (m .flow) limits c j i)
+        (found-more (m .flow) limits c (suc j) q i))
 
     stretched-more : convertOf (stretchedOf m raw (suc j)) raw ≡ stretchedOf m raw (suc (suc j))
     stretched-more = ap (λ (x : Meter). convertOf x raw) stretched-plain ∙ plain-more
@@ -177,25 +193,31 @@ sampled-more m raw n = rw add-one
 
 -- ---- how far a stretch reaches
 
-module _ (run : ℕ) (any : Bool) (left : ℕ) where
-  pub reach-fits : reachOf run any left ≤ left
+module _ (a : Average) (any : Bool) (left : ℕ) where
+  pub reach-fits : reachOf a any left ≤ left
   unfolding reachOf
-  reach-fits = picked (λ (x : ℕ). x ≤ left) any _ _ (λ e. omega arith) (λ e. omega arith)
+  reach-fits = picked (λ (x : ℕ). x ≤ left) (either any (offsetTurn a)) _ _ (λ e. omega arith) (λ e. omega arith)
 
-  pub reach-some : run < 8 → 1 ≤ left → 1 ≤ reachOf run any left
+  pub reach-some : 1 ≤ left → 1 ≤ reachOf a any left
   unfolding reachOf
-  reach-some h l = picked (λ (x : ℕ). 1 ≤ x) any _ _ (λ e. omega arith) (λ e. l)
+  reach-some l = picked (λ (x : ℕ). 1 ≤ x) (either any (offsetTurn a)) _ _ (λ e. omega arith) (λ e. l)
 
-reach-quiet : (f : Flow) (left : ℕ) → AverageWF (f .average) → Quiet f (reachOf (f .average .run) (f .since .any) left)
+neither : (x y : Bool) → either x y ≡ false → (x ≡ false) × (y ≡ false)
+neither true true e = (e, e)
+neither true false e = (e, refl)
+neither false y e = (refl, e)
+
+reach-quiet : (f : Flow) (left : ℕ) → Quiet f (reachOf (f .average) (f .since .any) left)
 unfolding reachOf
-reach-quiet f left w = picked (Quiet f) (f .since .any) _ _ (λ e. inl (omega (arith, w .run))) (λ e. inr e)
+reach-quiet f left =
+    picked (Quiet f) (either (f .since .any) (offsetTurn (f .average))) _ _ (λ e. inl (omega arith)) (λ e. inr (neither _ _ e))
 
 -- what is left after a stretch comes to the same
-pub reached-more : (m y : Meter) (raw left k : ℕ) → MeterWF m → k ≡ reachOf (m .flow .average .run) (m .flow .since .any) left → 1 ≤ k → k ≤ left →
+pub reached-more : (m y : Meter) (raw left k : ℕ) → MeterWF m → k ≡ reachOf (m .flow .average) (m .flow .since .any) left → 1 ≤ k → k ≤ left →
     y ≡ stretchedOf m raw k → sampledOf y raw (left - k) ≡ sampledOf m raw left
 reached-more m y raw left zero w e some fits f = absurd (omega arith)
 reached-more m y raw left (suc j) w e some fits f =
-    let q = subst (Quiet (m .flow)) (sym e) (reach-quiet (m .flow) left (w .average)) in
+    let q = subst (Quiet (m .flow)) (sym e) (reach-quiet (m .flow) left) in
     ap (λ (x : Meter). sampledOf x raw (left - suc j)) (f ∙ sym (stretched m raw w j q)) ∙ sampled-sum m raw (suc j) (left - suc j) ∙
     ap (sampledOf m raw) (omega arith)
 

@@ -33,13 +33,13 @@ module _ (x a z top k : ℕ) (h : x ≤ top) where
   pub falls : a ≤ z → (clamped x a z top k ≤ x) × (clamped x a z top (suc k) ≤ clamped x a z top k)
   falls p = let q = mul-le-mul-left k p in omega arith
 
--- from the first step on
-module _ (x a z top j : ℕ) where
-  pub rises-on : z ≤ a → clamped x a z top 1 ≤ clamped x a z top (suc j)
-  rises-on p = let q = mul-le-mul-left j p in omega arith
+-- from some step on
+module _ (x a z top i j : ℕ) where
+  pub rises-on : z ≤ a → clamped x a z top i ≤ clamped x a z top (i + j)
+  rises-on p = omega (arith, mul-le-mul-left i p, mul-le-mul-left j p)
 
-  pub falls-on : a ≤ z → clamped x a z top (suc j) ≤ clamped x a z top 1
-  falls-on p = let q = mul-le-mul-left j p in omega arith
+  pub falls-on : a ≤ z → clamped x a z top (i + j) ≤ clamped x a z top i
+  falls-on p = omega (arith, mul-le-mul-left i p, mul-le-mul-left j p)
 
 -- ---- a counter that loses l when it has reached l, once a step
 

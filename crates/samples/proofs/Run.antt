@@ -15,7 +15,7 @@ use Rattle.charge.specs.declared.Trace.{Trace}
 use Rattle.charge.specs.Charge.{tracedOf}
 use Rattle.full.specs.declared.Average.{Average}
 use Rattle.full.specs.declared.Since.{Since}
-use Rattle.full.specs.Full.{AverageWF, eighth, averagedOf, renewedOf, foundOf, taperingOf}
+use Rattle.full.specs.Full.{AverageWF, nextOf, runOf, eighth, averagedOf, renewedOf, foundOf, taperingOf}
 use Rattle.meter.specs.declared.Flow.{Flow}
 use Rattle.samples.specs.Stretch.{traceOver, endsOver, seventhOf, meanOver, averageOver, foundOver, Quiet}
 use Rattle.samples.proofs.Numbers.{reached}
@@ -37,91 +37,97 @@ mean-same : (n sum c : ℕ) → n ≡ 7 → sum ≡ n * c → (sum + c) / 8 ≡ 
 mean-same n sum c e f = let g : sum ≡ 7 * c = f ∙ ap (λ (x : ℕ). x * c) e in omega arith
 
 module _ (a : Average) (s : Since) (c k : ℕ) where
+  -- the conversions since power-on, after so many
+  abbrev made : ℕ → ℕ
+  made n = (a .made + n) % 1024
+
+  one-more : nextOf (made k) ≡ made (suc k)
+  one-more = omega arith
+
   -- what a conversion makes of average and readings
   pub record Goes : Type 0 where
     pub averaged : averagedOf (averageOver a c k) c ≡ averageOver a c (suc k)
     pub renewed : renewedOf (renewedOf s (endsOver a k)) (eighth (averageOver a c k)) ≡ renewedOf s (endsOver a (suc k))
 
-  goes-within : a .run + suc k < 8 → Goes
+  goes-within : runOf a + suc k < 8 → Goes
   unfolding averagedOf averageOver renewedOf
   goes-within h =
-      let now = lt-leb 8 (a .run + k) (omega arith) in
-      let then = lt-leb 8 (a .run + suc k) (omega arith) in
-      let not-yet = ne-eqb (a .run + k) 7 (omega arith) in
-      let r : a .run + k + 1 ≡ a .run + suc k = omega arith in
+      let now = lt-leb 8 (runOf a + k) (omega arith) in
+      let then = lt-leb 8 (runOf a + suc k) (omega arith) in
+      let not-yet = ne-eqb (made k % 8) 7 (omega arith) in
       let t : a .sum + k * c + c ≡ a .sum + suc k * c = omega arith in
       record {
-        averaged = simp (now, then, not-yet) (λ i. record { run = r i; sum = t i; iavg = a .iavg; known = a .known });
+        averaged = simp (now, then, not-yet) (λ i. record { made = one-more i; sum = t i; iavg = a .iavg; known = a .known });
         renewed = simp (now, then, not-yet);
       }
 
   -- the first end of a run
-  goes-end : a .run + k ≡ 7 → Goes
+  goes-end : runOf a + k ≡ 7 → Goes
   unfolding averagedOf averageOver renewedOf
   goes-end h =
-      let now = lt-leb 8 (a .run + k) (omega arith) in
-      let then = le-leb 8 (a .run + suc k) (omega arith) in
-      let first = lt-ltb (a .run + suc k) 16 (omega arith) in
-      let eighth = eq-eqb (a .run + k) 7 h in
-      let r : (a .run + suc k) % 8 ≡ 0 = omega arith in
-      let n : 8 - a .run ≡ suc k = omega arith in
+      let now = lt-leb 8 (runOf a + k) (omega arith) in
+      let then = le-leb 8 (runOf a + suc k) (omega arith) in
+      let first = lt-ltb (runOf a + suc k) 16 (omega arith) in
+      let eighth = eq-eqb (made k % 8) 7 (omega arith) in
+      let r : (a .made + suc k) % 8 ≡ 0 = omega arith in
+      let n : 8 - runOf a ≡ suc k = omega arith in
       let t : a .sum + k * c + c ≡ a .sum + suc k * c = omega arith in
       let m = ap (λ (x : ℕ). x / 8) (t ∙ ap (λ (x : ℕ). a .sum + x * c) (sym n)) in
       record {
-        averaged = simp (now, then, first, eighth, r, zero-mul) (λ i. record { run = 0; sum = 0; iavg = m i; known = true });
+        averaged = simp (now, then, first, eighth, r, zero-mul) (λ i. record { made = one-more i; sum = 0; iavg = m i; known = true });
         renewed = simp (now, then, eighth);
       }
 
   -- a later one
-  goes-end-again : 8 ≤ a .run + k → (a .run + k) % 8 ≡ 7 → Goes
+  goes-end-again : 8 ≤ runOf a + k → (a .made + k) % 8 ≡ 7 → Goes
   unfolding averagedOf averageOver renewedOf
   goes-end-again h e =
-      let now = le-leb 8 (a .run + k) h in
-      let then = le-leb 8 (a .run + suc k) (omega arith) in
-      let later = le-ltb (a .run + suc k) 16 (omega arith) in
-      let eighth = eq-eqb ((a .run + k) % 8) 7 e in
-      let r : (a .run + suc k) % 8 ≡ 0 = omega arith in
-      let m = mean-same ((a .run + k) % 8) ((a .run + k) % 8 * c) c e refl in
+      let now = le-leb 8 (runOf a + k) h in
+      let then = le-leb 8 (runOf a + suc k) (omega arith) in
+      let later = le-ltb (runOf a + suc k) 16 (omega arith) in
+      let eighth = eq-eqb (made k % 8) 7 (omega arith) in
+      let r : (a .made + suc k) % 8 ≡ 0 = omega arith in
+      let m = mean-same ((a .made + k) % 8) ((a .made + k) % 8 * c) c e refl in
       record {
-        averaged = simp (now, then, later, eighth, r, zero-mul) (λ i. record { run = 0; sum = 0; iavg = m i; known = true });
+        averaged = simp (now, then, later, eighth, r, zero-mul) (λ i. record { made = one-more i; sum = 0; iavg = m i; known = true });
         renewed = simp (now, then, eighth);
       }
 
-  goes-after : 8 ≤ a .run + k → (a .run + k) % 8 < 7 → Goes
+  goes-after : 8 ≤ runOf a + k → (a .made + k) % 8 < 7 → Goes
   unfolding averagedOf averageOver renewedOf
   goes-after h l =
-      let now = le-leb 8 (a .run + k) h in
-      let then = le-leb 8 (a .run + suc k) (omega arith) in
-      let not-yet = ne-eqb ((a .run + k) % 8) 7 (omega arith) in
-      let same : ltb (a .run + suc k) 16 ≡ ltb (a .run + k) 16 =
-      ⊎-elim (λ (m : 16 ≤ a .run + k). le-ltb (a .run + suc k) 16 (omega arith) ∙ sym (le-ltb (a .run + k) 16 m))
-      (λ (m : a .run + k < 16). lt-ltb (a .run + suc k) 16 (omega arith) ∙ sym (lt-ltb (a .run + k) 16 m)) (reached 16 (a .run + k)) in
-      let r : (a .run + suc k) % 8 ≡ (a .run + k) % 8 + 1 = omega arith in
-      let t : (a .run + k) % 8 * c + c ≡ ((a .run + k) % 8 + 1) * c = omega arith in
+      let now = le-leb 8 (runOf a + k) h in
+      let then = le-leb 8 (runOf a + suc k) (omega arith) in
+      let not-yet = ne-eqb (made k % 8) 7 (omega arith) in
+      let same : ltb (runOf a + suc k) 16 ≡ ltb (runOf a + k) 16 =
+      ⊎-elim (λ (m : 16 ≤ runOf a + k). le-ltb (runOf a + suc k) 16 (omega arith) ∙ sym (le-ltb (runOf a + k) 16 m))
+      (λ (m : runOf a + k < 16). lt-ltb (runOf a + suc k) 16 (omega arith) ∙ sym (lt-ltb (runOf a + k) 16 m)) (reached 16 (runOf a + k)) in
+      let r : (a .made + suc k) % 8 ≡ (a .made + k) % 8 + 1 = omega arith in
+      let t : (a .made + k) % 8 * c + c ≡ ((a .made + k) % 8 + 1) * c = omega arith in
       record {
-        averaged = simp (now, then, not-yet, r, same) (λ i. record { run = (a .run + k) % 8 + 1; sum = t i; iavg = meanOver a c k; known = true });
+        averaged = simp (now, then, not-yet, r, same) (λ i. record { made = one-more i; sum = t i; iavg = meanOver a c k; known = true });
         renewed = simp (now, then, not-yet);
       }
 
   pub goes : Goes
   goes =
       ⊎-elim
-      (λ h. ⊎-elim (λ e. goes-end-again h (omega arith)) (goes-after h) (reached 7 ((a .run + k) % 8)))
-      (λ h. ⊎-elim (λ e. goes-end (omega arith)) (λ e. goes-within (omega arith)) (reached 7 (a .run + k)))
-      (reached 8 (a .run + k))
+      (λ h. ⊎-elim (λ e. goes-end-again h (omega arith)) (goes-after h) (reached 7 ((a .made + k) % 8)))
+      (λ h. ⊎-elim (λ e. goes-end (omega arith)) (λ e. goes-within (omega arith)) (reached 7 (runOf a + k)))
+      (reached 8 (runOf a + k))
 
 -- none before the first
 
 pub average-none : (a : Average) (c : ℕ) → AverageWF a → averageOver a c 0 ≡ a
 unfolding averageOver
 average-none a c w =
-    let r : a .run + 0 ≡ a .run = omega arith in
+    let m : (a .made + 0) % 1024 ≡ a .made = omega (arith, w .made) in
     let t : a .sum + 0 * c ≡ a .sum = omega arith in
-    simp (lt-leb 8 (a .run + 0) (omega (arith, w .run))) (λ i. record { run = r i; sum = t i; iavg = a .iavg; known = a .known })
+    simp (lt-leb 8 (runOf a + 0) (omega arith)) (λ i. record { made = m i; sum = t i; iavg = a .iavg; known = a .known })
 
-pub renewed-none : (a : Average) (s : Since) → AverageWF a → renewedOf s (endsOver a 0) ≡ s
+pub renewed-none : (a : Average) (s : Since) → renewedOf s (endsOver a 0) ≡ s
 unfolding renewedOf
-renewed-none a s w = simp (lt-leb 8 (a .run + 0) (omega (arith, w .run)))
+renewed-none a s = simp (lt-leb 8 (runOf a + 0) (omega arith))
 
 -- ---- full
 
@@ -157,30 +163,30 @@ module _ (f : Flow) (p : Limits) (c k : ℕ) where
       both-never (eighth (averageOver a c k)) _ (found-unread (averageOver a c k) (renewedOf s (endsOver a k)) p c (renewed-unread e)) ∙
       sym (both-never (endsOver a (suc k)) _ (found-unread (seventhOf a c) s p c e))
 
-  found-within : a .run + suc k < 8 → foundNext ≡ foundOver f p c (suc k)
+  found-within : runOf a + suc k < 8 → foundNext ≡ foundOver f p c (suc k)
   unfolding averageOver
   found-within h =
-      simp (lt-leb 8 (a .run + k) (omega arith), lt-leb 8 (a .run + suc k) (omega arith), ne-eqb (a .run + k) 7 (omega arith))
+      simp (lt-leb 8 (runOf a + k) (omega arith), lt-leb 8 (runOf a + suc k) (omega arith), ne-eqb ((a .made + k) % 1024 % 8) 7 (omega arith))
 
-  found-end : a .run + suc k ≡ 8 → foundNext ≡ foundOver f p c (suc k)
+  found-end : runOf a + suc k ≡ 8 → foundNext ≡ foundOver f p c (suc k)
   unfolding averageOver renewedOf
   found-end h =
-      let r : a .run + k ≡ 7 = omega arith in
-      let n : k ≡ 7 - a .run = omega arith in
+      let n : k ≡ 7 - runOf a = omega arith in
       let same : averageOver a c k ≡ seventhOf a c =
-      simp (lt-leb 8 (a .run + k) (omega arith)) (λ i. record { run = r i; sum = a .sum + n i * c; iavg = a .iavg; known = a .known }) in
-      rw same (simp (lt-leb 8 (a .run + k) (omega arith), le-leb 8 (a .run + suc k) (omega arith)))
+      simp (lt-leb 8 (runOf a + k) (omega arith)) (λ i. record { made = (a .made + n i) % 1024; sum = a .sum + n i * c; iavg = a .iavg; known = a .known }) in
+      let last : seventhOf a c .made % 8 ≡ 7 = omega arith in
+      rw same (simp (eq-eqb (seventhOf a c .made % 8) 7 last, lt-leb 8 (runOf a + k) (omega arith), le-leb 8 (runOf a + suc k) (omega arith)))
 
   pub found-more : Quiet f (suc k) → foundNext ≡ foundOver f p c (suc k)
   found-more =
       ⊎-elim
-      (λ h. ⊎-elim (λ e. found-end (omega arith)) (λ e. found-within (omega arith)) (reached 8 (a .run + suc k)))
-      found-none
+      (λ h. ⊎-elim (λ e. found-end (omega arith)) (λ e. found-within (omega arith)) (reached 8 (runOf a + suc k)))
+      (λ e. found-none (e .0))
 
   -- and so nothing is found before the last
   pub found-not : Quiet f (suc k) → foundOver f p c k ≡ false
   found-not =
-      ⊎-elim (λ h. simp (lt-leb 8 (a .run + k) (omega arith))) (λ e. both-never (endsOver a k) _ (found-unread (seventhOf a c) s p c e))
+      ⊎-elim (λ h. simp (lt-leb 8 (runOf a + k) (omega arith))) (λ e. both-never (endsOver a k) _ (found-unread (seventhOf a c) s p c (e .0)))
 
 -- ---- what is kept
 
@@ -188,12 +194,12 @@ pub average-wf : (a : Average) (c k : ℕ) → c ≤ 65535 → AverageWF a → A
 unfolding averageOver
 average-wf a c k h w =
     picked AverageWF (endsOver a k) _ _
-    (λ e. record { run = omega arith; sum = omega (arith, mul-le-mul-left ((a .run + k) % 8) h) })
-    (λ e. record { run = leb-false 8 (a .run + k) e; sum = omega (arith, w .sum, mul-le-mul-left k h) })
+    (λ e. record { made = omega arith; sum = omega (arith, mul-le-mul-left ((a .made + k) % 8) h) })
+    (λ e. record { made = omega arith; sum = omega (arith, w .sum, mul-le-mul-left k h, leb-false 8 (runOf a + k) e) })
 
 pub seventh-wf : (a : Average) (c : ℕ) → c ≤ 65535 → AverageWF a → AverageWF (seventhOf a c)
-seventh-wf a c h w = record { run = omega arith; sum = omega (arith, w .run, w .sum, mul-le-mul-left (7 - a .run) h) }
+seventh-wf a c h w = record { made = omega arith; sum = omega (arith, w .sum, mul-le-mul-left (7 - runOf a) h) }
 
 -- the sum of eight c
-pub eight-few : (a : Average) (c : ℕ) → c ≤ 65535 → AverageWF a → a .sum + (8 - a .run) * c ≤ 8 * 65535
-eight-few a c h w = omega (arith, w .run, w .sum, mul-le-mul-left (8 - a .run) h)
+pub eight-few : (a : Average) (c : ℕ) → c ≤ 65535 → AverageWF a → a .sum + (8 - runOf a) * c ≤ 8 * 65535
+eight-few a c h w = omega (arith, w .sum, mul-le-mul-left (8 - runOf a) h)

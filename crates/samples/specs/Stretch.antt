@@ -11,13 +11,13 @@ use Rattle.params.specs.declared.Limits.{Limits}
 use Rattle.params.specs.Params.{countingOf, limitsOf, capacityOf}
 use Rattle.charge.specs.declared.Charge.{Charge}
 use Rattle.charge.specs.declared.Trace.{Trace}
-use Rattle.charge.specs.Charge.{acrOf, currentOf, turnedOf, blankedOf, fallOf}
+use Rattle.charge.specs.Charge.{acrOf, turnedOf, blankedOf, fallOf}
 use Rattle.full.specs.declared.Average.{Average}
-use Rattle.full.specs.Full.{renewedOf, foundOf, settledOf}
+use Rattle.full.specs.Full.{offsetTurn, runOf, renewedOf, foundOf, settledOf}
 use Rattle.meter.specs.declared.Flow.{Flow}
 use Rattle.meter.specs.declared.Meter.{Meter}
 use Rattle.meter.specs.State.{withCharge, withFlags}
-use Rattle.meter.specs.Convert.{filledFlags}
+use Rattle.meter.specs.Convert.{convertedOf, filledFlags}
 
 -- ---- steps 1 to 5
 
@@ -37,8 +37,12 @@ ageOver ac age drops = pick (eqb ac 0) 0 (age - drops * (32 * ac))
 abbrev pub agingOver : ℕ → ℕ → ℕ
 agingOver aging drops = max (aging - drops) 63
 
+-- "The first conversion after an ACR write .. adds nothing to the count": the others add
+unfoldable pub addsOver : Bool → ℕ → ℕ
+addsOver mark k = pick mark (k - 1) k
+
 abbrev pub countOver : Counting → Charge → ℕ → ℕ → ℕ
-countOver p g c k = grownOver (g .count) (blankedOf (p .nben) c) (p .ab) k
+countOver p g c k = grownOver (g .count) (blankedOf (p .nben) c) (p .ab) (addsOver (g .mark) k)
 
 -- the age counter with all that ACR fell, before anything is taken off
 abbrev pub fallenOver : Counting → Charge → ℕ → ℕ → ℕ
@@ -57,6 +61,7 @@ chargeOver p g last c k =
       age = ageOver (p .ac) age drops;
       aging = agingOver (g .aging) drops;
       learnf = butNot (butNot (g .learnf) (turnedOf last c)) (emptyOver p g c k);
+      mark = false;
     }
 
 -- ---- CURRENT, and the c before it
@@ -68,20 +73,25 @@ traceOver t c k = record { last = c; before = pick (eqb k 1) (t .last) c; any = 
 
 -- a run of eight ends in the stretch
 abbrev pub endsOver : Average → ℕ → Bool
-endsOver a k = leb 8 (a .run + k)
+endsOver a k = leb 8 (runOf a + k)
 
 -- the run as its eighth conversion finds it
 abbrev pub seventhOf : Average → ℕ → Average
-seventhOf a c = record { run = 7; sum = a .sum + (7 - a .run) * c; iavg = a .iavg; known = a .known }
+seventhOf a c = record {
+  made = (a .made + (7 - runOf a)) % 1024;
+  sum = a .sum + (7 - runOf a) * c;
+  iavg = a .iavg;
+  known = a .known;
+}
 
 -- the average of the run that ends first, of which the stretch has the last; any that ends later has c alone, and c is its average
 abbrev pub meanOver : Average → ℕ → ℕ → ℕ
-meanOver a c k = pick (ltb (a .run + k) 16) ((a .sum + (8 - a .run) * c) / 8) c
+meanOver a c k = pick (ltb (runOf a + k) 16) ((a .sum + (8 - runOf a) * c) / 8) c
 
 unfoldable pub averageOver : Average → ℕ → ℕ → Average
 averageOver a c k =
-    pick (endsOver a k) (record { run = (a .run + k) % 8; sum = (a .run + k) % 8 * c; iavg = meanOver a c k; known = true })
-    (record { run = a .run + k; sum = a .sum + k * c; iavg = a .iavg; known = a .known })
+    pick (endsOver a k) (record { made = (a .made + k) % 1024; sum = (a .made + k) % 8 * c; iavg = meanOver a c k; known = true })
+    (record { made = (a .made + k) % 1024; sum = a .sum + k * c; iavg = a .iavg; known = a .known })
 
 -- full is found, where a run ends first
 abbrev pub foundOver : Flow → Limits → ℕ → ℕ → Bool
@@ -107,18 +117,20 @@ flowedOver m p full40 c k =
 
 -- ---- the meter, as after k times `convertOf`
 
+-- c is that of the first. Each later one has the same: a 1024th among them takes the c before it
 unfoldable pub stretchedOf : Meter → ℕ → ℕ → Meter
 stretchedOf m raw k =
     let block = m .cells .block .shadow in
     let p = countingOf block in
-    let c = currentOf raw (p .cob) in
+    let c = convertedOf (m .flow) raw (p .cob) in
     let counted = withCharge m (chargeOver p (m .charge) (m .flow .trace .last) c k) in
     flowedOver counted (limitsOf block) (capacityOf block .full40) c k
 
--- it is that where no run of eight ends before the last conversion, or no reading came since the last average: no full is found then
+-- it is that where no run of eight ends before the last conversion; or where no reading came since the last average, so that no full is found,
+-- and the first is not a 1024th, which ends a run and has a c of its own
 abbrev pub Quiet : Flow → ℕ → Type 0
-Quiet f k = (f .average .run + k ≤ 8) ⊎ (f .since .any ≡ false)
+Quiet f k = (runOf (f .average) + k ≤ 8) ⊎ ((f .since .any ≡ false) × (offsetTurn (f .average) ≡ false))
 
 -- how many of those that are left a stretch takes
-unfoldable pub reachOf : ℕ → Bool → ℕ → ℕ
-reachOf run any left = pick any (min (8 - run) left) left
+unfoldable pub reachOf : Average → Bool → ℕ → ℕ
+reachOf a any left = pick (either any (offsetTurn a)) (min (8 - runOf a) left) left

@@ -7,12 +7,12 @@ use params::Capacity;
 use params::Counting;
 use params::Limits;
 ghost use mathlib.Core.Path.{_≡_};
-ghost use Prim.Native.Nat.{_≤_, _<_};
+ghost use Prim.Native.Nat.{_≤_};
 ghost use Rattle.charge.specs.Charge.{ChargeWF};
 ghost use Rattle.full.specs.Full.{AverageWF};
 ghost use Rattle.meter.specs.State.{MeterWF};
 ghost use Rattle.samples.specs.Samples.{sampledOf, sampleOf};
-ghost use Rattle.samples.specs.Stretch.{grownOver, dropsOver, ageOver, agingOver, chargeOver, traceOver, seventhOf, averageOver, flowedOver, stretchedOf, reachOf};
+ghost use Rattle.samples.specs.Stretch.{grownOver, addsOver, countOver, dropsOver, ageOver, agingOver, chargeOver, traceOver, seventhOf, averageOver, flowedOver, stretchedOf, reachOf};
 
 // ---- a stretch: k conversions of the same c, of which none but the last may find full
 
@@ -50,14 +50,33 @@ fn aging_over(aging: u8, drops: u16) -> u8
     numbers::at_least(63, numbers::less(aging as u64, drops as u64)) as u8
 }
 
+// Step 3: how many of k conversions add.
+fn adds_over(mark: bool, k: u16) -> u16
+    ensures { λ r. ⌜ r ≡ addsOver mark k ⌝ }
+{
+    let others = numbers::less(k as u64, 1) as u16;
+    numbers::choose16(mark, others, k)
+}
+
+// Steps 2 and 3.
+fn count_over(p: Counting, g: Charge, c: u16, k: u16) -> u32
+    ensures { λ r. ⌜ r ≡ countOver p g c k ⌝ }
+{
+    grown_over(
+        g.count,
+        charge::blanked(p.nben, c),
+        p.ab,
+        adds_over(g.mark, k),
+    )
+}
+
 // Steps 1 to 5.
 fn charge_over(p: Counting, g: Charge, last: u16, c: u16, k: u16) -> Charge
     requires { ⌜ ChargeWF g ⌝ }
     ensures { λ r. ⌜ r ≡ chargeOver p g last c k ⌝ }
 {
-    let counted = charge::blanked(p.nben, c);
-    let first = grown_over(g.count, counted, p.ab, 1);
-    let count = grown_over(g.count, counted, p.ab, k);
+    let first = count_over(p, g, c, 1);
+    let count = count_over(p, g, c, k);
     let fall = numbers::less((g.count / 4096) as u64, (count / 4096) as u64) as u32;
     let age = g.age + fall;
     let drops = drops_over(p.ac, age, k);
@@ -69,6 +88,7 @@ fn charge_over(p: Counting, g: Charge, last: u16, c: u16, k: u16) -> Charge
         age: age_over(p.ac, age, drops),
         aging: aging_over(g.aging, drops),
         learnf: numbers::and_not(learnf, numbers::or(first / 4096 == 0, count / 4096 == 0)),
+        mark: false,
     }
 }
 
@@ -90,9 +110,10 @@ fn seventh(a: Average, c: u16) -> Average
     ensures { λ r. ⌜ r ≡ seventhOf a c ⌝ }
     ensures kept { λ r. ⌜ AverageWF r ⌝ }
 {
+    let rest = 7 - a.made % 8;
     Average {
-        run: 7,
-        sum: a.sum + (7 - (a.run as u32)) * (c as u32),
+        made: (a.made + rest) % 1024,
+        sum: a.sum + (rest as u32) * (c as u32),
         iavg: a.iavg,
         known: a.known,
     }
@@ -103,18 +124,19 @@ fn average_over(a: Average, c: u16, k: u16) -> Average
     requires { ⌜ AverageWF a ⌝ }
     ensures { λ r. ⌜ r ≡ averageOver a c k ⌝ }
 {
-    let run = (a.run as u32) + (k as u32);
-    if 8 <= run {
-        let mean = ((a.sum + (8 - (a.run as u32)) * (c as u32)) / 8) as u16;
+    let begun = (a.made % 8) as u32;
+    let made = (a.made as u32) + (k as u32);
+    if 8 <= begun + (k as u32) {
+        let mean = ((a.sum + (8 - begun) * (c as u32)) / 8) as u16;
         Average {
-            run: (run % 8) as u8,
-            sum: run % 8 * (c as u32),
-            iavg: numbers::choose16(run < 16, mean, c),
+            made: (made % 1024) as u16,
+            sum: made % 8 * (c as u32),
+            iavg: numbers::choose16(begun + (k as u32) < 16, mean, c),
             known: true,
         }
     } else {
         Average {
-            run: run as u8,
+            made: (made % 1024) as u16,
             sum: a.sum + (k as u32) * (c as u32),
             iavg: a.iavg,
             known: a.known,
@@ -130,7 +152,7 @@ fn flowed_over(mut m: Meter, p: Limits, full40: u16, c: u16, k: u16) -> Meter
 {
     let mut flow = m.flow;
     flow.trace = trace_over(flow.trace, c, k);
-    if 8 <= (flow.average.run as u32) + (k as u32) {
+    if 8 <= (flow.average.made % 8) as u32 + (k as u32) {
         let seven = seventh(flow.average, c);
         let found = seven.found(flow.since, p, c);
         m.charge = full::settled(m.charge, found, m.shown.model.full, full40);
@@ -153,21 +175,25 @@ fn stretch(mut m: Meter, raw: u32, k: u16) -> Meter
     let p = Counting::of(&m.cells.block.shadow);
     let limits = Limits::of(&m.cells.block.shadow);
     let full = Capacity::of(&m.cells.block.shadow);
-    let c = charge::current(raw, p.cob);
+    let c = numbers::choose16(
+        m.flow.average.made == 1023,
+        m.flow.trace.last,
+        charge::current(raw, p.cob),
+    );
     m.charge = charge_over(p, m.charge, m.flow.trace.last, c, k);
     flowed_over(m, limits, full.full40, c, k)
 }
 
-// How many of the conversions that are left a stretch takes: up to the end of the run of eight, where full may be found, or all.
-fn reach(run: u8, any: bool, left: u16) -> u16
-    requires { ⌜ run < 8 ⌝ }
+// How many of the conversions that are left a stretch takes: up to the end of the run of eight, where full may be found or a 1024th is made,
+// or all.
+fn reach(a: Average, any: bool, left: u16) -> u16
     requires { ⌜ 1 ≤ left ⌝ }
-    ensures { λ r. ⌜ r ≡ reachOf run any left ⌝ }
+    ensures { λ r. ⌜ r ≡ reachOf a any left ⌝ }
     ensures fits { λ r. ⌜ r ≤ left ⌝ }
     ensures some { λ r. ⌜ 1 ≤ r ⌝ }
 {
-    let gap = numbers::at_most(left as u64, 8 - (run as u64)) as u16;
-    numbers::choose16(any, gap, left)
+    let gap = numbers::at_most(left as u64, 8 - (a.made % 8) as u64) as u16;
+    numbers::choose16(numbers::or(any, a.made == 1023), gap, left)
 }
 
 // ---- the two engines
@@ -187,14 +213,14 @@ pub fn plain(mut m: Meter, raw: u32, n: u16) -> Meter
 }
 
 // The quick engine: stretches. Full may be found at the end of the run of eight that stands, and at none after it, since no reading comes
-// within a sample: there are two stretches at most.
+// within a sample; a 1024th that comes first ends a run too. For 64 conversions there are two stretches at most.
 pub fn quick(mut m: Meter, raw: u32, mut left: u16) -> Meter
     requires { ⌜ MeterWF m ⌝ }
     ensures { λ r. ⌜ r ≡ sampledOf m raw left ⌝ }
     ensures kept { λ r. ⌜ MeterWF r ⌝ }
 {
     while 0 < left {
-        let k = reach(m.flow.average.run, m.flow.since.any, left);
+        let k = reach(m.flow.average, m.flow.since.any, left);
         m = stretch(m, raw, k);
         left = left - k;
     }

@@ -9,7 +9,7 @@ use Rattle.numbers.specs.Choice.{pick, both, either, butNot}
 use Rattle.numbers.specs.Offset.{joinedOf}
 use Rattle.parts.specs.Parts.{laidOf}
 use Rattle.charge.specs.declared.Charge.{Charge}
-use Rattle.charge.specs.Charge.{setOf, withAs}
+use Rattle.charge.specs.Charge.{setOf, withAs, markedOf}
 use Rattle.reading.specs.declared.Flags.{Flags}
 use Rattle.meter.specs.declared.Block.{Block}
 use Rattle.meter.specs.declared.Locks.{Locks}
@@ -35,11 +35,11 @@ unfoldable pub porfWrittenOf : Bool → ℕ → List ℕ → Bool
 porfWrittenOf porf a bytes = pick (reachesOf a bytes 0x01) (both porf (bitIn (byteFor a bytes 0x01) 2)) porf
 
 -- 10h is held within its transaction and 11h after it sets ACR, clears the fraction and LEARNF. 11h without 10h is dropped: a write that
--- starts at 11h does not reach 10h
+-- starts at 11h does not reach 10h. "a mark after an ACR write": the next conversion adds nothing
 unfoldable pub acrWrittenOf : Charge → ℕ → List ℕ → Charge
 acrWrittenOf g a bytes =
     pick (both (reachesOf a bytes 0x10) (reachesOf a bytes 0x11))
-    (setOf g (joinedOf (byteFor a bytes 0x10) (byteFor a bytes 0x11)) false)
+    (markedOf (setOf g (joinedOf (byteFor a bytes 0x10) (byteFor a bytes 0x11)) false))
     g
 
 -- 14h is moved into 63..128

@@ -41,7 +41,7 @@ fn porf_written(porf: bool, a: usize, bytes: &[u8]) -> bool
 }
 
 // 10h and 11h.
-fn acr_written(g: Charge, a: usize, bytes: &[u8]) -> Charge
+fn acr_written(mut g: Charge, a: usize, bytes: &[u8]) -> Charge
     requires { ⌜ a < 256 ⌝ }
     requires { ⌜ ChargeWF g ⌝ }
     ensures { λ r. ⌜ r ≡ acrWrittenOf g a (now (bytes .entry)) ⌝ }
@@ -49,6 +49,7 @@ fn acr_written(g: Charge, a: usize, bytes: &[u8]) -> Charge
 {
     if numbers::and(reaches(a, bytes, 0x10), reaches(a, bytes, 0x11)) {
         let acr = numbers::joined(byte_for(a, bytes, 0x10), byte_for(a, bytes, 0x11));
+        g.mark = true;
         return g.set(acr, false);
     }
     g

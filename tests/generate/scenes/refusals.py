@@ -1,6 +1,6 @@
 """Records that are refused, and a reply room that is used up."""
 from builder import (
-    CONVERSION, IMAGE, POWER_ON, READING, REPLY_ROOM, SAMPLE, TRANSACTION, Session, crc, profile, record, some, unknown)
+    CONVERSION, IMAGE, POWER_ON, READING, REPLY_ROOM, SAMPLE, TRANSACTION, WRITE, Session, crc, profile, record, some, unknown)
 from scenes.bus import any_event, any_transaction
 from scenes.pack import battery, start
 
@@ -103,5 +103,6 @@ def room(chance):
     for count in [chance.randrange(65) for _ in range(8)] + [1, 0, 65, 0]:
         session.read(0x01, count)
         any_event(session)
-        session.write(0x10, chance.randbytes(2))
+        session.transaction(chance.choice([0, count]), session.select() + bytes([WRITE, 0x10]) + chance.randbytes(2))
+        any_event(session)
     return session.finish()

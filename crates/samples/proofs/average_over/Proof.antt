@@ -14,27 +14,27 @@ mul-mean c = let c3 = c .before .before .before in omega (arith, eight-few (c3 .
 add-mean : tie.Need-add-mean
 add-mean c = let c4 = c .before .before .before .before in omega (arith, eight-few (c4 .args .a) (c4 .args .c) (search needs) (c4 .pre))
 
-cast-mean-2 : tie.Need-cast-mean-2
-cast-mean-2 c = let c4 = c .before .before .before .before in omega (arith, eight-few (c4 .args .a) (c4 .args .c) (search needs) (c4 .pre))
+cast-mean : tie.Need-cast-mean
+cast-mean c = let c4 = c .before .before .before .before in omega (arith, eight-few (c4 .args .a) (c4 .args .c) (search needs) (c4 .pre))
 
-mul-t13 : tie.Need-mul-t13
-mul-t13 c =
+mul-t14 : tie.Need-mul-t14
+mul-t14 c =
     let a = c .before .before .before .before .args in
-    omega (arith, times ((a .a .run + a .k) % 8) (a .c) 7 65535 (omega arith) (search needs))
+    omega (arith, times ((a .a .made + a .k) % 8) (a .c) 7 65535 (omega arith) (search needs))
 
-mul-t22 : tie.Need-mul-t22
-mul-t22 c = let a = c .before .before .args in omega (arith, times (a .k) (a .c) 7 65535 (omega arith) (search needs))
+mul-t25 : tie.Need-mul-t25
+mul-t25 c = let a = c .before .before .before .args in omega (arith, times (a .k) (a .c) 7 65535 (omega arith) (search needs))
 
-add-t23 : tie.Need-add-t23
-add-t23 c = let a = c .before .before .before .args in omega (arith, times (a .k) (a .c) 7 65535 (omega arith) (search needs))
+add-t26 : tie.Need-add-t26
+add-t26 c = let a = c .before .before .before .before .args in omega (arith, times (a .k) (a .c) 7 65535 (omega arith) (search needs))
 
 returns : tie.Need-returns
 unfolding averageOver
-returns c = simp (c .choose16 .ensures, le-leb _ _ (c .before .before .before .if1 .taken))
+returns c = simp (c .choose16 .ensures, le-leb _ _ (c .before .before .if1 .taken))
 
 returns-2 : tie.Need-returns-2
 unfolding averageOver
 returns-2 c = simp (lt-leb _ _ (c .before .if1 .left))
 
 pub average-over-spec : {M : Type 1} → statement M
-average-over-spec = tie.close (tie.spec (λ c. search needs) (λ c. search needs) (λ c. search needs) (λ c. search needs) mul-mean add-mean cast-mean-2 (λ c. search needs) mul-t13 (λ c κs. search needs) (λ c. search needs) mul-t22 add-t23 returns returns-2)
+average-over-spec = tie.close (tie.spec (λ c. search needs) (λ c. search needs) (λ c. search needs) (λ c. search needs) (λ c. search needs) mul-mean add-mean cast-mean (λ c. search needs) mul-t14 (λ c. search needs) (λ c κs. search needs) (λ c. search needs) mul-t25 add-t26 returns returns-2)

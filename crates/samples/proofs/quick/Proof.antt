@@ -15,7 +15,7 @@ abbrev μ-loop : tie.MeasureT-loop
 μ-loop m₀ raw left₀ m left = left
 
 reach-requires : tie.Need-reach-requires Inv-loop μ-loop
-reach-requires c κs = (c .before .loop .inv .1 .average .run, c .loop-test .taken)
+reach-requires c κs = c .loop-test .taken
 
 stretch-requires : tie.Need-stretch-requires Inv-loop μ-loop
 stretch-requires c κs = (c .before .before .loop .inv .1, c .reach .ensures .1 .1)

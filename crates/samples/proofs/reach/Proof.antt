@@ -9,10 +9,11 @@ use Rattle.samples.proofs.reach.Tie as tie
 returns : tie.Need-returns
 unfolding reachOf
 returns c =
-    let c2 = c .before .before in
-    let a = c2 .args in
-    also (λ (r : ℕ). (r ≤ a .left) × (1 ≤ r)) (simp (c .choose16 .ensures, c .before .at-most .ensures))
-    (reach-fits (a .run) (a .any) (a .left), reach-some (a .run) (a .any) (a .left) (c2 .pre .0) (c2 .pre .1))
+    let c3 = c .before .before .before in
+    let c5 = c3 .before .before in
+    let a = c5 .args in
+    also (λ (r : ℕ). (r ≤ a .left) × (1 ≤ r)) (simp (c .choose16 .ensures, c .before .or .ensures, c3 .at-most .ensures))
+    (reach-fits (a .a) (a .any) (a .left), reach-some (a .a) (a .any) (a .left) (c5 .pre))
 
 pub reach-spec : {M : Type 1} → statement M
-reach-spec = tie.close (tie.spec (λ c. search needs) (λ c κs. search needs) (λ c. search needs) (λ c κs. search needs) returns)
+reach-spec = tie.close (tie.spec (λ c. search needs) (λ c. search needs) (λ c κs. search needs) (λ c. search needs) (λ c κs. search needs) (λ c κs. search needs) returns)

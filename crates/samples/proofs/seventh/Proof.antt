@@ -1,4 +1,4 @@
-use Prim.Native.Nat.{_-_}
+use Prim.Native.Nat.{_-_, _%_}
 use native.Mathlib.Omega.{arith}
 use mathlib.Core.Path.{refl}
 use Rattle.numbers.proofs.Bounds.{times}
@@ -7,14 +7,14 @@ use borrow.Author.Needs.{needs}
 use Rattle.samples.proofs.seventh.Statement.{statement}
 use Rattle.samples.proofs.seventh.Tie as tie
 
-mul-t6 : tie.Need-mul-t6
-mul-t6 c = let a = c .before .args in omega (arith, times (7 - a .a .run) (a .c) 7 65535 (omega arith) (search needs))
+mul-t8 : tie.Need-mul-t8
+mul-t8 c = let a = c .before .before .args in omega (arith, times (7 - a .a .made % 8) (a .c) 7 65535 (omega arith) (search needs))
 
-add-t7 : tie.Need-add-t7
-add-t7 c = let a = c .before .before .args in omega (arith, times (7 - a .a .run) (a .c) 7 65535 (omega arith) (search needs))
+add-t9 : tie.Need-add-t9
+add-t9 c = let a = c .before .before .before .args in omega (arith, times (7 - a .a .made % 8) (a .c) 7 65535 (omega arith) (search needs))
 
 returns : tie.Need-returns
-returns c = let a = c .before .before .args in (refl, seventh-wf (a .a) (a .c) (search needs) (c .before .before .pre))
+returns c = let c3 = c .before .before .before in (refl, seventh-wf (c3 .args .a) (c3 .args .c) (search needs) (c3 .pre))
 
 pub seventh-spec : {M : Type 1} → statement M
-seventh-spec = tie.close (tie.spec (λ c. search needs) (λ c. search needs) mul-t6 add-t7 returns)
+seventh-spec = tie.close (tie.spec (λ c. search needs) (λ c. search needs) (λ c. search needs) mul-t8 add-t9 returns)

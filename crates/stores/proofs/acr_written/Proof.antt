@@ -1,7 +1,7 @@
 use mathlib.Core.Path.{sym, _∙_}
 use Rattle.stores.specs.Stores.{acrWrittenOf}
 use Rattle.numbers.proofs.Bounds.{both-true}
-use Rattle.charge.proofs.Laws.{set-wf}
+use Rattle.charge.proofs.Laws.{set-wf, marked-wf}
 use borrow.Author.Needs.{needs}
 use Rattle.stores.proofs.acr_written.Statement.{statement}
 use Rattle.stores.proofs.acr_written.Tie as tie
@@ -23,7 +23,7 @@ returns c =
     let test = byte .before .before in (
       simp (sym (test .before .before .reaches .ensures), sym (test .before .reaches2 .ensures), sym (test .and .ensures) ∙ byte .before .if1 .taken)
           (c .set .ensures ∙ simp (c .before .joined .ensures, c .before .before .byte-for2 .ensures, byte .byte-for .ensures)),
-      rw (c .set .ensures) (set-wf _ _ _ (search needs) (test .before .before .before .before .pre .1)),
+      rw (c .set .ensures) (set-wf _ _ _ (search needs) (marked-wf _ (test .before .before .before .before .pre .1))),
     )
 
 returns-2 : tie.Need-returns-2
