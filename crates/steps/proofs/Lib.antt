@@ -1,3 +1,4 @@
 pub mod Steps
 pub mod Fronts
+pub mod Turns
 pub mod Unique

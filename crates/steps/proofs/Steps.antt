@@ -1,5 +1,5 @@
--- Laws of one record: what is read off it, and how large its answer and its reply are.
-use mathlib.Core.Path.{_≡_, refl}
+-- Laws of one record, of any state: what is read off it, and how large its answer and its reply are.
+use mathlib.Core.Path.{_≡_, refl, ap, _∙_}
 use mathlib.Core.Bool.{Bool, true, false}
 use mathlib.Core.List.{List}
 use Prim.Native.Nat.{ℕ, _+_, _-_, _≤_, _<_, zero-le}
@@ -9,7 +9,6 @@ use lib.Dec.{ltb}
 use lib.ListN.{length}
 use Rattle.numbers.proofs.Bounds.{picked}
 use Rattle.parts.specs.Parts.{part, pairAt}
-use Rattle.ticks.specs.declared.Tick.{Tick}
 use Rattle.bus.specs.declared.Transaction.{Transaction}
 use Rattle.replies.proofs.Listed.{listed-length}
 use Rattle.gauge.specs.declared.Gauge.{Gauge}
@@ -20,7 +19,7 @@ use Rattle.events.specs.declared.Event.{Event}
 use Rattle.events.specs.declared.Event.the-variants.{Image, Change, Transact}
 use Rattle.events.specs.declared.Taken.{Taken}
 use Rattle.events.specs.declared.Taken.the-variants as taken
-use Rattle.events.specs.Record.{refusalNumber, numberOf, masterOf, takenOf, timedOf, asksOf, fittedOf}
+use Rattle.events.specs.Record.{refusalNumber, numberOf, masterOf, asksOf, fittedOf}
 use Rattle.runs.specs.Record.{Rec, whole, cut, wholeOf}
 use Rattle.runs.specs.Run.{Did}
 use Rattle.runs.proofs.Records.{rec-whole, size-whole, rec-cut, size-cut}
@@ -28,35 +27,24 @@ use Rattle.runs.proofs.Lines.{Fits}
 use Rattle.steps.specs.declared.Session.{Session}
 use Rattle.steps.specs.declared.Asked.the-variants as asked
 use Rattle.steps.specs.declared.Record.{Record}
-use Rattle.steps.specs.Step.{lastTick, eventDid, takenDid, didOf, refusedOf, takenRead, frontOf}
+use Rattle.steps.specs.Steps.{Steps, answeredBy, recordBy, refusedOf, takenRead, frontBy}
+use Rattle.steps.specs.Step.{eventDid, ofSession, didOf}
 
 -- ---- what is read
 
--- of a whole record, whose length says n
-pub read-whole : (l : List ℕ) (n kind : ℕ) → wholeOf l ≡ true → n ≡ pairAt l 0 → kind ≡ pairAt l 2 → (loaded : Bool) (last : Tick) (room : ℕ)
-    → frontOf loaded last room l ≡ takenRead kind (4 + n) (fittedOf room (timedOf last (takenOf kind loaded (part (4 + n - 4) l 4))))
-unfolding frontOf
-read-whole l n kind w en ek loaded last room = rw (rec-whole l n kind w en ek, size-whole l n kind w en ek) refl
+module _ (told : ℕ → List ℕ → Taken) (room : ℕ) (l : List ℕ) where
+  -- of a whole record, whose length says n, and of which t was taken
+  pub read-whole : (n kind : ℕ) {t : Taken} → wholeOf l ≡ true → n ≡ pairAt l 0 → kind ≡ pairAt l 2 → t ≡ fittedOf room (told kind (part (4 + n - 4) l 4))
+      → takenRead kind (4 + n) t ≡ frontBy told room l
+  unfolding frontBy
+  read-whole n kind w en ek et = rw (rec-whole l n kind w en ek, size-whole l n kind w en ek) (ap (takenRead kind (4 + n)) et)
 
--- of a cut one
-pub read-cut : (loaded : Bool) (last : Tick) (room : ℕ) (l : List ℕ) → wholeOf l ≡ false → frontOf loaded last room l ≡ refusedOf 0 2 (length l)
-unfolding frontOf
-read-cut loaded last room l w = rw (rec-cut l w, size-cut l w) refl
-
--- what is handed back: of a refused record, and of an event
-module _ {kind used : ℕ} {t : Taken} where
-  pub read-refused : {x : Refusal} {m : ℕ} → t ≡ taken.Refused x → m ≡ numberOf t → refusedOf kind m used ≡ takenRead kind used t
-  read-refused et em = rw (em, et) refl
-
-  pub read-event : {e : Event} {m : ℕ} → t ≡ taken.Run e → m ≡ numberOf t
-      → _≡_ {A = Record} (record { event = asked.Run e; used = used; kind = kind; answer = m }) (takenRead kind used t)
-  read-event et em = rw (em, et) refl
+  -- of a cut one
+  pub read-cut : wholeOf l ≡ false → refusedOf 0 2 (length l) ≡ frontBy told room l
+  unfolding frontBy
+  read-cut w = rw (rec-cut l w, size-cut l w) refl
 
 -- ---- the answer is a byte, and the reply fits the room that is left
-
-pub reply-length : (g : Gauge) (t : Transaction) (master : List ℕ) → length (replyOf g t master) ≡ t .count
-unfolding replyOf
-reply-length g t master = listed-length _ 0 (t .count)
 
 pub refusal-small : (r : Refusal) → refusalNumber r < 256
 refusal-small Kind = omega arith
@@ -69,27 +57,49 @@ refusal-small Room = omega arith
 refusal-small Breaks = omega arith
 refusal-small Interval = omega arith
 
-record Small (room : ℕ) (d : Did Session) : Type 0 where
+-- each event is answered 0, and its reply has the bytes that it asks
+pub record Replying {S : Type 0} (k : Steps S) : Type 0 where
+  pub answer : (σ : S) (p : List ℕ) (e : Event) → k .event σ p e .answer ≡ 0
+  pub reply : (σ : S) (p : List ℕ) (e : Event) → length (k .event σ p e .reply) ≡ asksOf e
+
+record Small {S : Type 0} (room : ℕ) (d : Did S) : Type 0 where
   answer : d .answer < 256
   reply : length (d .reply) ≤ room
 
-module _ (σ : Session) (room : ℕ) where
-  event-small : (p : List ℕ) (e : Event) → asksOf e ≤ room → Small room (eventDid σ p e)
-  event-small p Image h = record { answer = omega arith; reply = zero-le }
-  event-small p (Change c) h = record { answer = omega arith; reply = zero-le }
-  event-small p (Transact t) h = record { answer = omega arith; reply = omega (arith, reply-length (σ .gauge) t (masterOf t p)) }
-
-  taken-small : (p : List ℕ) (t : Taken) → Small room (takenDid σ p (fittedOf room t))
-  taken-small p (taken.Run e) =
-      picked (λ (t : Taken). Small room (takenDid σ p t)) (ltb room (asksOf e)) _ _
+module _ {S : Type 0} (k : Steps S) (h : Replying k) where
+  taken-small : (σ : S) (room : ℕ) (p : List ℕ) (t : Taken) → Small room (answeredBy k σ p (fittedOf room t))
+  taken-small σ room p (taken.Run e) =
+      picked (λ (t : Taken). Small room (answeredBy k σ p t)) (ltb room (asksOf e)) _ _
       (λ full. record { answer = omega arith; reply = zero-le })
-      (λ fits. event-small p e (ltb-false room (asksOf e) fits))
-  taken-small p (taken.Refused r) = record { answer = refusal-small r; reply = zero-le }
+      (λ fits. record { answer = omega (arith, h .answer σ p e); reply = omega (arith, h .reply σ p e, ltb-false room (asksOf e) fits) })
+  taken-small σ room p (taken.Refused r) = record { answer = refusal-small r; reply = zero-le }
 
-  did-small : (r : Rec) → Small room (didOf σ room r)
-  unfolding didOf
-  did-small (whole kind p) = taken-small p (timedOf (lastTick σ) (takenOf kind (σ .loaded) p))
-  did-small cut = record { answer = omega arith; reply = zero-le }
+  small : (σ : S) (room : ℕ) (r : Rec) → Small room (recordBy k σ room r)
+  small σ room (whole kind p) = taken-small σ room p (k .told σ kind p)
+  small σ room cut = record { answer = omega arith; reply = zero-le }
+
+  pub record-fits : Fits (recordBy k)
+  record-fits = record { answer = λ σ room r. small σ room r .answer; reply = λ σ room r. small σ room r .reply }
+
+-- ---- of sessions
+
+pub reply-length : (g : Gauge) (t : Transaction) (master : List ℕ) → length (replyOf g t master) ≡ t .count
+unfolding replyOf
+reply-length g t master = listed-length _ 0 (t .count)
+
+pub session-replying : Replying ofSession
+session-replying = record { answer = answers; reply = replies }
+  where
+    answers : (σ : Session) (p : List ℕ) (e : Event) → eventDid σ p e .answer ≡ 0
+    answers σ p Image = refl
+    answers σ p (Change c) = refl
+    answers σ p (Transact t) = refl
+
+    replies : (σ : Session) (p : List ℕ) (e : Event) → length (eventDid σ p e .reply) ≡ asksOf e
+    replies σ p Image = refl
+    replies σ p (Change c) = refl
+    replies σ p (Transact t) = reply-length (σ .gauge) t (masterOf t p)
 
 pub did-fits : Fits didOf
-did-fits = record { answer = λ σ room r. did-small σ room r .answer; reply = λ σ room r. did-small σ room r .reply }
+unfolding didOf
+did-fits = record { answer = record-fits ofSession session-replying .answer; reply = record-fits ofSession session-replying .reply }

@@ -11,13 +11,11 @@ use Rattle.pack.specs.Image.{imageOf}
 use Rattle.events.specs.declared.Event.{Event}
 use Rattle.events.specs.declared.Event.the-variants.{Image, Change, Transact}
 use Rattle.events.specs.declared.Taken.{Taken}
-use Rattle.events.specs.declared.Taken.the-variants as taken
-use Rattle.events.specs.Record.{refusalNumber, takenOf, timedOf, fittedOf, masterOf}
-use Rattle.runs.specs.Record.{Rec, whole, cut, recOf, sizeOf}
+use Rattle.events.specs.Record.{takenOf, timedOf, masterOf}
+use Rattle.runs.specs.Record.{Rec}
 use Rattle.runs.specs.Run.{Did, silently}
 use Rattle.steps.specs.declared.Session.{Session}
-use Rattle.steps.specs.declared.Asked.the-variants as asked
-use Rattle.steps.specs.declared.Record.{Record}
+use Rattle.steps.specs.Steps.{Steps, answeredBy, recordBy}
 
 -- ---- the state
 
@@ -33,6 +31,10 @@ lastTick σ = σ .gauge .meter .flow .tick
 
 -- ---- what a record does
 
+-- what it asks, by whether an image was accepted and by the tick that is remembered
+abbrev pub toldOf : Bool → Tick → ℕ → List ℕ → Taken
+toldOf loaded last kind p = timedOf last (takenOf kind loaded p)
+
 -- an event
 abbrev pub eventDid : Session → List ℕ → Event → Did Session
 eventDid σ p Image = silently (loadedWith (imageOf p)) 0
@@ -43,34 +45,13 @@ eventDid σ p (Transact t) = record {
   reply = replyOf (σ .gauge) t (masterOf t p);
 }
 
+abbrev pub ofSession : Steps Session
+ofSession = record { told = λ σ. toldOf (σ .loaded) (lastTick σ); event = eventDid }
+
 -- a refusal leaves gauge and room unchanged
 abbrev pub takenDid : Session → List ℕ → Taken → Did Session
-takenDid σ p (taken.Run e) = eventDid σ p e
-takenDid σ p (taken.Refused r) = silently σ (refusalNumber r)
-
--- 2: a record that is cut
-abbrev pub recDid : Session → ℕ → Rec → Did Session
-recDid σ room (whole kind p) = takenDid σ p (fittedOf room (timedOf (lastTick σ) (takenOf kind (σ .loaded) p)))
-recDid σ room cut = silently σ 2
+takenDid = answeredBy ofSession
 
 -- with so many bytes of reply room left
 unfoldable pub didOf : Session → ℕ → Rec → Did Session
-didOf σ room r = recDid σ room r
-
--- ---- what the code reads off a record
-
--- a record that asks nothing of the gauge
-abbrev pub refusedOf : ℕ → ℕ → ℕ → Record
-refusedOf kind answer used = record { event = asked.Nothing; used = used; kind = kind; answer = answer }
-
-abbrev pub takenRead : ℕ → ℕ → Taken → Record
-takenRead kind used (taken.Run e) = record { event = asked.Run e; used = used; kind = kind; answer = 0 }
-takenRead kind used (taken.Refused r) = refusedOf kind (refusalNumber r) used
-
-abbrev pub recRead : Bool → Tick → ℕ → ℕ → Rec → Record
-recRead loaded last room used (whole kind p) = takenRead kind used (fittedOf room (timedOf last (takenOf kind loaded p)))
-recRead loaded last room used cut = refusedOf 0 2 used
-
--- the record at the front, with a tick that is remembered and so many bytes of reply room left
-unfoldable pub frontOf : Bool → Tick → ℕ → List ℕ → Record
-frontOf loaded last room l = recRead loaded last room (sizeOf l) (recOf l)
+didOf σ room r = recordBy ofSession σ room r

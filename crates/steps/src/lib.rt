@@ -4,7 +4,8 @@ use events::Taken;
 use gauge::Gauge;
 use ticks::Tick;
 ghost use mathlib.Core.Path.{_≡_};
-ghost use Rattle.steps.specs.Step.{refusedOf, frontOf};
+ghost use Rattle.steps.specs.Steps.{refusedOf, takenRead, frontBy};
+ghost use Rattle.steps.specs.Step.{toldOf};
 
 // Whether an image was accepted, and the gauge.
 pub struct Session {
@@ -12,7 +13,7 @@ pub struct Session {
     pub gauge: Gauge,
 }
 
-// What a record asks of the gauge: nothing where it is refused or cut.
+// What a record asks: nothing where it is refused or cut.
 pub enum Asked {
     Nothing,
     Run(Event),
@@ -26,7 +27,8 @@ pub struct Record {
     pub answer: u8,
 }
 
-fn refused(kind: u16, answer: u8, used: usize) -> Record
+// A record that asks nothing.
+pub fn refused(kind: u16, answer: u8, used: usize) -> Record
     ensures { λ r. ⌜ r ≡ refusedOf kind answer used ⌝ }
 {
     Record {
@@ -37,25 +39,32 @@ fn refused(kind: u16, answer: u8, used: usize) -> Record
     }
 }
 
+// What was taken of a record, or refused.
+pub fn read_off(kind: u16, used: usize, t: Taken) -> Record
+    ensures { λ r. ⌜ r ≡ takenRead kind used t ⌝ }
+{
+    let answer = events::number(t);
+    let Taken::Run(e) = t else {
+        return refused(kind, answer, used);
+    };
+    Record {
+        event: Asked::Run(e),
+        used: used,
+        kind: kind,
+        answer: answer,
+    }
+}
+
 // The record at the front of l, with a tick that is remembered and so many bytes of reply room left.
 pub fn front(l: &[u8], loaded: bool, last: Tick, room: usize) -> Record
-    ensures { λ r. ⌜ r ≡ frontOf loaded last room (now (l .entry)) ⌝ }
+    ensures { λ r. ⌜ r ≡ frontBy (toldOf loaded last) room (now (l .entry)) ⌝ }
 {
     if runs::whole(l) {
         let n = parts::pair(l, 0) as usize;
         let kind = parts::pair(l, 2);
         let end = 4 + n;
         let t = events::fitted(kind, loaded, last, room, &l[4..end]);
-        let answer = events::number(t);
-        let Taken::Run(e) = t else {
-            return refused(kind, answer, end);
-        };
-        return Record {
-            event: Asked::Run(e),
-            used: end,
-            kind: kind,
-            answer: answer,
-        };
+        return read_off(kind, end, t);
     }
     refused(0, 2, l.len())
 }

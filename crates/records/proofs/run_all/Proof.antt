@@ -10,11 +10,13 @@ use Rattle.parts.proofs.Laws.{part-rest}
 use Rattle.events.specs.declared.Event.the-variants.{Change}
 use Rattle.runs.proofs.Going.{going-start, going-end, going-slot, going-more}
 use Rattle.steps.specs.declared.Asked.the-variants.{Run}
-use Rattle.steps.specs.Step.{didOf}
+use Rattle.steps.specs.Step.{SessionWF, ofSession, didOf}
 use Rattle.steps.proofs.Steps.{did-fits}
-use Rattle.steps.proofs.Fronts.{Front, front, ran, idle}
+use Rattle.steps.proofs.Steps.{session-replying}
+use Rattle.steps.proofs.Fronts.{Front, front, ran}
+use Rattle.steps.proofs.Turns.{master-starts, room-left, front-fits, front-within}
 use Rattle.records.specs.Run.{emptyOf}
-use Rattle.records.proofs.Turns.{Turn, master-starts, turn-held, turn-idle, turn-silent, turn-reply, Stands, front-fits, front-within}
+use Rattle.records.proofs.Turns.{did-same, Turn, Stands, ran-taking, turn-idle, turn-silent, turn-reply}
 -- what was read of the record at the front
 -- what the arms of the match have in common
 use borrow.Author.Needs.{needs}
@@ -23,15 +25,15 @@ use Rattle.records.proofs.run_all.Tie as tie
 
 abbrev Inv-loop : tie.InvT-loop
 Inv-loop s room₀ answers₀ loaded₀ gauge₀ at₀ used₀ lines₀ room answers loaded gauge at used lines =
-    Stands s room₀ answers₀ loaded gauge at used lines room answers
+    Stands emptyOf s room₀ answers₀ loaded gauge at used lines room answers
 
 abbrev μ-loop : tie.MeasureT-loop
 μ-loop s room₀ answers₀ loaded₀ gauge₀ at₀ used₀ lines₀ room answers loaded gauge at used lines = length s - at
 
 -- what was read of the record at the front
 at-front : (c : tie.After-front Inv-loop μ-loop) → let l = c .before .before .before .loop in let s = now (c .before .before .before .before .before .before .before .before .before .args .s) in
-    Front (record { loaded = l .loaded; gauge = l .gauge }) (length (l .room) - l .used) (part (length s - l .at) s (l .at)) (c .front .result)
-at-front c = front _ _ _ (c .front .ensures)
+    Front ofSession (record { loaded = l .loaded; gauge = l .gauge }) (length (l .room) - l .used) (part (length s - l .at) s (l .at)) (c .front .result)
+at-front c = front ofSession session-replying _ _ _ (c .front .ensures)
 
 -- what the arms of the match have in common
 turned : (c : tie.At-match-came Inv-loop μ-loop) → let l = c .before .before .before .before .before .loop in let s = now (c .before .before .before .before .before .before .before .before .before .before .before .args .s) in
@@ -40,16 +42,16 @@ turned c =
     let g = c .before .before .before .before .before .loop .inv in
     let f = at-front (c .before .before) in
     let n = c .before .code .ensures in
-    ⊎-elim (λ w. turn-idle f (idle f (w .1 .given .1)) (g .wf) (w .3) (w .4) (w .2) (w .5) (w .6 ∙ n))
-    (⊎-elim (λ w. turn-silent f (w .6 .ensures .1) (w .8) (w .9) (ran f (w .1 .given .1 ∙ ap Run (w .4 .given .1))) (w .6 .ensures .0) refl (w .7) (w .10) (w .11 ∙ n))
-    (⊎-elim (λ w. turn-silent f (w .9 .ensures .1) (w .11) (w .12) (ran f (w .1 .given .1 ∙ ap Run (w .4 .given .1 ∙ ap Change (w .7 .given .1)))) (w .9 .ensures .0) refl (w .10) (w .13) (w .14 ∙ n))
-    (⊎-elim (λ w. turn-silent f (w .9 .ensures .1) (w .11) (w .12) (ran f (w .1 .given .1 ∙ ap Run (w .4 .given .1 ∙ ap Change (w .7 .given .1)))) (w .9 .ensures .0) refl (w .10) (w .13) (w .14 ∙ n))
-    (⊎-elim (λ w. turn-silent f (w .9 .ensures .1) (w .11) (w .12) (ran f (w .1 .given .1 ∙ ap Run (w .4 .given .1 ∙ ap Change (w .7 .given .1)))) (w .9 .ensures .0) refl (w .10) (w .13) (w .14 ∙ n))
-    (⊎-elim (λ w. turn-silent f (w .8 .ensures .1) (w .10) (w .11) (ran f (w .1 .given .1 ∙ ap Run (w .4 .given .1 ∙ ap Change (w .7 .given .1)))) (w .8 .ensures .0) refl (w .9) (w .12) (w .13 ∙ n))
-    (λ w. turn-reply f (w .9 .ensures .1 .1) (w .15) (w .16) (ran f (w .1 .given .1 ∙ ap Run (w .4 .given .1))) (omega (arith, g .going .used-fits, g .going .same-room)) (w .9 .ensures .0) (w .9 .ensures .1 .0) (w .14) (w .17) (w .18 ∙ w .13 .ensures))))))) (c .match .came)
+    ⊎-elim (λ w. turn-idle f (w .1 .given .1) (g .wf .gauge) (w .3) (w .4) (w .2) (w .5) (w .6 ∙ n))
+    (⊎-elim (λ w. turn-silent f (w .6 .ensures .1) (w .8) (w .9) (ran ofSession f (w .1 .given .1 ∙ ap Run (w .4 .given .1))) (w .6 .ensures .0) refl (w .7) (w .10) (w .11 ∙ n))
+    (⊎-elim (λ w. turn-silent f (w .9 .ensures .1) (w .11) (w .12) (ran ofSession f (w .1 .given .1 ∙ ap Run (w .4 .given .1 ∙ ap Change (w .7 .given .1)))) (w .9 .ensures .0) refl (w .10) (w .13) (w .14 ∙ n))
+    (⊎-elim (λ w. turn-silent f (w .9 .ensures .1) (w .11) (w .12) (ran ofSession f (w .1 .given .1 ∙ ap Run (w .4 .given .1 ∙ ap Change (w .7 .given .1)))) (w .9 .ensures .0) refl (w .10) (w .13) (w .14 ∙ n))
+    (⊎-elim (λ w. turn-silent f (w .9 .ensures .1) (w .11) (w .12) (ran ofSession f (w .1 .given .1 ∙ ap Run (w .4 .given .1 ∙ ap Change (w .7 .given .1)))) (w .9 .ensures .0) refl (w .10) (w .13) (w .14 ∙ n))
+    (⊎-elim (λ w. turn-silent f (w .8 .ensures .1) (w .10) (w .11) (ran ofSession f (w .1 .given .1 ∙ ap Run (w .4 .given .1 ∙ ap Change (w .7 .given .1)))) (w .8 .ensures .0) refl (w .9) (w .12) (w .13 ∙ n))
+    (λ w. turn-reply f (w .9 .ensures .1 .1) (w .15) (w .16) (ran ofSession f (w .1 .given .1 ∙ ap Run (w .4 .given .1))) (omega (arith, g .going .used-fits, g .going .same-room)) (w .9 .ensures .0) (w .9 .ensures .1 .0) (w .14) (w .17) (w .18 ∙ w .13 .ensures))))))) (c .match .came)
 
 loop-holds : tie.Need-loop-holds Inv-loop μ-loop
-loop-holds c = rw (c .before .empty .ensures .0) (record { going = going-start didOf emptyOf _ _ _; wf = (rw (c .before .empty .ensures .0) at (c .before .empty .ensures .1)) .gauge })
+loop-holds c = rw (c .before .empty .ensures .0) (record { going = going-start didOf emptyOf _ _ _; wf = rw (c .before .empty .ensures .0) at (c .before .empty .ensures .1) })
 
 sub-l : tie.Need-sub-l Inv-loop μ-loop
 sub-l c = omega (arith, c .before .loop .inv .going .at-fits)
@@ -64,37 +66,41 @@ sub-front : tie.Need-sub-front Inv-loop μ-loop
 sub-front c = omega (arith, c .before .before .loop .inv .going .used-fits, c .before .before .loop .inv .going .same-room)
 
 sub-image-in : tie.Need-sub-image-in Inv-loop μ-loop
-sub-image-in c = omega (arith, ran (at-front (c .before .before .before .before .before .before)) (c .before .before .before .asked .given .1) .head)
+sub-image-in c = omega (arith, ran ofSession (at-front (c .before .before .before .before .before .before)) (c .before .before .before .asked .given .1) .head)
 
 part-image-in-start : tie.Need-part-image-in-start Inv-loop μ-loop
-part-image-in-start c = omega (arith, ran (at-front (c .before .before .before .before .before .before)) (c .before .before .before .asked .given .1) .head)
+part-image-in-start c = omega (arith, ran ofSession (at-front (c .before .before .before .before .before .before)) (c .before .before .before .asked .given .1) .head)
 
 part-image-in-end : tie.Need-part-image-in-end Inv-loop μ-loop
-part-image-in-end c = omega (arith, front-fits (c .before .before .before .before .before .before .before .before .before .loop .inv) (c .before .before .before .before .before .before .before .before .loop-test .taken) (at-front (c .before .before .before .before .before .before)))
+part-image-in-end c = omega (arith, front-fits ofSession didOf did-same SessionWF (c .before .before .before .before .before .before .before .before .before .loop .inv) (c .before .before .before .before .before .before .before .before .loop-test .taken) (at-front (c .before .before .before .before .before .before)))
 
 image-in-requires : tie.Need-image-in-requires Inv-loop μ-loop
-image-in-requires c κs = ran (at-front (c .before .before .before .before .before .before .before)) (c .before .before .before .before .asked .given .1 ∙ ap Run (c .before .enum-told2 .given .1)) .sized
+image-in-requires c κs = ran-taking (ran ofSession (at-front (c .before .before .before .before .before .before .before)) (c .before .before .before .before .asked .given .1 ∙ ap Run (c .before .enum-told2 .given .1))) .2
 
 read-requires : tie.Need-read-requires Inv-loop μ-loop
-read-requires c κs = c .before .before .before .before .before .before .before .before .before .before .before .before .before .loop .inv .wf
+read-requires c κs = c .before .before .before .before .before .before .before .before .before .before .before .before .before .loop .inv .wf .gauge
 
 convert-requires : tie.Need-convert-requires Inv-loop μ-loop
-convert-requires c κs = c .before .before .before .before .before .before .before .before .before .before .before .before .before .loop .inv .wf
+convert-requires c κs = c .before .before .before .before .before .before .before .before .before .before .before .before .before .loop .inv .wf .gauge
 
 sample-requires : tie.Need-sample-requires Inv-loop μ-loop
-sample-requires c κs = c .before .before .before .before .before .before .before .before .before .before .before .before .before .loop .inv .wf
+sample-requires c κs = c .before .before .before .before .before .before .before .before .before .before .before .before .before .loop .inv .wf .gauge
 
 add-from : tie.Need-add-from Inv-loop μ-loop
-add-from c = omega (arith, ran (at-front (c .before .before .before .before .before .before .before .before)) (c .before .before .before .before .before .asked .given .1 ∙ ap Run (c .before .before .e2 .given .1)) .sized .near)
+add-from c = omega (arith, ran-taking (ran ofSession (at-front (c .before .before .before .before .before .before .before .before)) (c .before .before .before .before .before .asked .given .1 ∙ ap Run (c .before .before .e2 .given .1))) .1 .near)
 
 sub-transact : tie.Need-sub-transact Inv-loop μ-loop
-sub-transact c = omega (arith, master-starts (ran (at-front (c .before .before .before .before .before .before .before .before)) (c .before .before .before .before .before .asked .given .1 ∙ ap Run (c .before .before .e2 .given .1))))
+sub-transact c =
+    let x = ran ofSession (at-front (c .before .before .before .before .before .before .before .before)) (c .before .before .before .before .before .asked .given .1 ∙ ap Run (c .before .before .e2 .given .1)) in
+    omega (arith, master-starts ofSession x (ran-taking x .1))
 
 part-transact-start : tie.Need-part-transact-start Inv-loop μ-loop
-part-transact-start c = omega (arith, master-starts (ran (at-front (c .before .before .before .before .before .before .before .before)) (c .before .before .before .before .before .asked .given .1 ∙ ap Run (c .before .before .e2 .given .1))))
+part-transact-start c =
+    let x = ran ofSession (at-front (c .before .before .before .before .before .before .before .before)) (c .before .before .before .before .before .asked .given .1 ∙ ap Run (c .before .before .e2 .given .1)) in
+    omega (arith, master-starts ofSession x (ran-taking x .1))
 
 part-transact-end : tie.Need-part-transact-end Inv-loop μ-loop
-part-transact-end c = omega (arith, front-fits (c .before .before .before .before .before .before .before .before .before .before .before .loop .inv) (c .before .before .before .before .before .before .before .before .before .before .loop-test .taken) (at-front (c .before .before .before .before .before .before .before .before)))
+part-transact-end c = omega (arith, front-fits ofSession didOf did-same SessionWF (c .before .before .before .before .before .before .before .before .before .before .before .loop .inv) (c .before .before .before .before .before .before .before .before .before .before .loop-test .taken) (at-front (c .before .before .before .before .before .before .before .before)))
 
 sub-transact-2 : tie.Need-sub-transact-2 Inv-loop μ-loop
 sub-transact-2 c = omega (arith, c .before .before .before .before .before .before .before .before .before .before .before .before .loop .inv .going .used-fits, c .before .before .before .before .before .before .before .before .before .before .before .before .loop .inv .going .same-room)
@@ -106,10 +112,13 @@ part-transact-end-2 : tie.Need-part-transact-end-2 Inv-loop μ-loop
 part-transact-end-2 c = omega (arith, c .before .before .before .before .before .before .before .before .before .before .before .before .loop .inv .going .used-fits, c .before .before .before .before .before .before .before .before .before .before .before .before .loop .inv .going .same-room)
 
 transact-requires : tie.Need-transact-requires Inv-loop μ-loop
-transact-requires c κs = (c .before .before .before .before .before .before .before .before .before .before .before .before .before .loop .inv .wf, turn-held (c .before .before .before .before .before .before .before .before .before .before .before .before .before .loop .room) (c .before .before .before .before .before .before .before .before .before .before .before .before .before .loop .used) (ran (at-front (c .before .before .before .before .before .before .before .before .before .before)) (c .before .before .before .before .before .before .before .asked .given .1 ∙ ap Run (c .before .before .before .before .e2 .given .1))))
+transact-requires c κs =
+    let l = c .before .before .before .before .before .before .before .before .before .before .before .before .before .loop in
+    let x = ran ofSession (at-front (c .before .before .before .before .before .before .before .before .before .before)) (c .before .before .before .before .before .before .before .asked .given .1 ∙ ap Run (c .before .before .before .before .e2 .given .1)) in
+    (l .inv .wf .gauge, omega (arith, x .held, room-left (l .room) (l .used)))
 
 add-used : tie.Need-add-used Inv-loop μ-loop
-add-used c = omega (arith, ran (at-front (c .before .before .before .before .before .before .before .before .before .before .before .before .before .before)) (c .before .before .before .before .before .before .before .before .before .before .before .asked .given .1 ∙ ap Run (c .before .before .before .before .before .before .before .before .e2 .given .1)) .held, c .before .before .before .before .before .before .before .before .before .before .before .before .before .before .before .before .before .loop .inv .going .used-fits, c .before .before .before .before .before .before .before .before .before .before .before .before .before .before .before .before .before .loop .inv .going .same-room, c .before .before .before .before .before .before .before .before .before .before .before .before .before .before .before .before .before .before .before .before .before .before .before .good .1 .0)
+add-used c = omega (arith, ran ofSession (at-front (c .before .before .before .before .before .before .before .before .before .before .before .before .before .before)) (c .before .before .before .before .before .before .before .before .before .before .before .asked .given .1 ∙ ap Run (c .before .before .before .before .before .before .before .before .e2 .given .1)) .held, c .before .before .before .before .before .before .before .before .before .before .before .before .before .before .before .before .before .loop .inv .going .used-fits, c .before .before .before .before .before .before .before .before .before .before .before .before .before .before .before .before .before .loop .inv .going .same-room, c .before .before .before .before .before .before .before .before .before .before .before .before .before .before .before .before .before .before .before .before .before .before .before .good .1 .0)
 
 mul-answers : tie.Need-mul-answers Inv-loop μ-loop
 mul-answers c = omega (arith, c .before .before .before .before .before .loop .inv .going .slots (c .before .before .before .before .loop-test .taken), c .before .before .before .before .before .loop .inv .going .at-fits, c .before .before .before .before .before .before .before .before .before .before .before .pre .0)
@@ -118,13 +127,13 @@ slice-write-answers : tie.Need-slice-write-answers Inv-loop μ-loop
 slice-write-answers c = going-slot didOf emptyOf (c .before .before .before .before .before .loop .inv .going) (c .before .before .before .before .loop-test .taken) (c .before .before .before .before .before .before .before .before .before .before .before .pre .1)
 
 add-at : tie.Need-add-at Inv-loop μ-loop
-add-at c = omega (arith, front-within (c .before .before .before .before .before .loop .inv) (c .before .before .before .before .loop-test .taken) (at-front (c .before .before)) .0, c .before .before .before .before .before .loop .inv .going .at-fits, c .before .before .before .before .before .before .before .before .before .before .before .pre .0)
+add-at c = omega (arith, front-within ofSession didOf did-same SessionWF (c .before .before .before .before .before .loop .inv) (c .before .before .before .before .loop-test .taken) (at-front (c .before .before)) .0, c .before .before .before .before .before .loop .inv .going .at-fits, c .before .before .before .before .before .before .before .before .before .before .before .pre .0)
 
 add-lines : tie.Need-add-lines Inv-loop μ-loop
 add-lines c = omega (arith, c .before .before .before .before .before .loop .inv .going .slots (c .before .before .before .before .loop-test .taken), c .before .before .before .before .before .loop .inv .going .at-fits, c .before .before .before .before .before .before .before .before .before .before .before .pre .0)
 
 loop-less : tie.Need-loop-less Inv-loop μ-loop
-loop-less c = omega (arith, front-within (c .before .before .before .before .before .loop .inv) (c .before .before .before .before .loop-test .taken) (at-front (c .before .before)), c .before .before .before .before .before .loop .inv .going .at-fits)
+loop-less c = omega (arith, front-within ofSession didOf did-same SessionWF (c .before .before .before .before .before .loop .inv) (c .before .before .before .before .loop-test .taken) (at-front (c .before .before)), c .before .before .before .before .before .loop .inv .going .at-fits)
 
 loop-again : tie.Need-loop-again Inv-loop μ-loop
 loop-again c =
