@@ -1,4 +1,5 @@
-/* The session program in C written for speed: what bench/run measures `./trovimbe session` against.
+/* The session program in C written for speed: what bench/run measures `./trovimbe session` against. Built with -DTRAY it is the program of
+ * trays, for `./trovimbe tray`.
  *
  * It reads a session from standard input and prints the same lines. One pass over the session, nothing of it copied; the lines are put by hand
  * into one buffer, and written at once. The gauge keeps its memory as the bus reads it, so that a read turns bytes into digits and no more.
@@ -16,7 +17,8 @@ enum { SESSION_LIMIT = 32768, REPLY_ROOM = 65536, READ_LIMIT = 64, LONGEST_SAMPL
 enum { TEXT_ROOM = (SESSION_LIMIT / HEADER + 2) * LONGEST_LINE + 2 * REPLY_ROOM };
 
 enum { IMAGE = 1, READING, CONVERSION, TRANSACTION, POWER_ON, SAMPLE }; /* kinds */
-enum { DONE, OVERSIZED, CUT, UNKNOWN, MISSIZED, MISPLACED, WRONG_ADDRESS, WRONG_LOCKS, LONG_READ, NO_ROOM, CROSSED, LATE }; /* answers */
+enum { SLOTTED = 16 }; /* in trays 2, 3, 5 and 6 are so many more, behind a slot byte */
+enum { DONE, OVERSIZED, CUT, UNKNOWN, MISSIZED, MISPLACED, WRONG_ADDRESS, WRONG_LOCKS, LONG_READ, NO_ROOM, CROSSED, LATE, REPEATED }; /* answers */
 
 /* Tables 2 and 3 of 001, and the bits that are used. */
 enum {
@@ -507,6 +509,138 @@ static inline int32_t record(Gauge *g, int32_t kind, const byte *payload, int32_
     }
 }
 
+/* ---- The tray */
+
+#ifdef TRAY
+
+enum { SLOTS = 8, ADDRESS_BYTES = 8 };
+
+typedef struct {
+    Gauge packs[SLOTS];
+    int32_t count; /* of the slots that have an image */
+    bool closed;   /* no image is taken any more */
+} Tray;
+
+static uint64_t address_at(const byte *from)
+{
+    uint64_t value;
+    memcpy(&value, from, sizeof value);
+    return value;
+}
+
+/* The pack with this address, or NULL. */
+static Gauge *matched(Tray *t, const byte *address)
+{
+    uint64_t wanted = address_at(address);
+    for (Gauge *g = t->packs; g < t->packs + t->count; g++)
+        if (address_at(g->pack + ADDRESS) == wanted)
+            return g;
+    return NULL;
+}
+
+/* What all packs have from an address on, eight bytes at a time; the memory goes on past FFh as far as any read. */
+static char *read_every(const Tray *t, int32_t address, char *out, int32_t count)
+{
+    uint64_t line[READ_LIMIT / 8];
+    for (int32_t word = 0; 8 * word < count; word++) {
+        line[word] = ~UINT64_C(0);
+        for (int32_t slot = 0; slot < t->count; slot++)
+            line[word] &= address_at(t->packs[slot].memory + address + 8 * word);
+    }
+    return put_hex(out, (const byte *)line, count);
+}
+
+static char *command_every(Tray *t, const byte *master, int32_t masters, char *out, int32_t count)
+{
+    if (masters >= 2 && master[0] == 0x69)
+        return read_every(t, master[1], out, count);
+    for (int32_t slot = 0; slot < t->count; slot++)
+        function_command(&t->packs[slot], master, masters, out, 0);
+    return put_ff(out, count);
+}
+
+/* The addresses of all packs whose command this is. */
+static char *name_every(const Tray *t, int32_t command, char *out, int32_t count)
+{
+    uint64_t line = ~UINT64_C(0);
+    int32_t shown = count < ADDRESS_BYTES ? count : ADDRESS_BYTES;
+    for (int32_t slot = 0; slot < t->count; slot++)
+        if (command == ((t->packs[slot].memory[CONTROL] & RNAOP) != 0 ? 0x39 : 0x33))
+            line &= address_at(t->packs[slot].pack + ADDRESS);
+    return put_ff(put_hex(out, (const byte *)&line, shown), count - shown);
+}
+
+static char *tray_transaction(Tray *t, const byte *master, int32_t masters, char *out, int32_t count)
+{
+    int32_t first = masters > 0 ? master[0] : 0;
+    if (first == 0xCC)
+        return command_every(t, master + 1, masters - 1, out, count);
+    if (first == 0x55 && masters >= 9) {
+        Gauge *g = matched(t, master + 1);
+        return g ? function_command(g, master + 9, masters - 9, out, count) : put_ff(out, count);
+    }
+    if (first == 0x33 || first == 0x39)
+        return name_every(t, first, out, count);
+    return put_ff(out, count);
+}
+
+static int32_t tray_image(Tray *t, const byte *payload, int32_t length)
+{
+    if (length != IMAGE_BYTES)
+        return MISSIZED;
+    if (t->closed || t->count == SLOTS)
+        return MISPLACED;
+    int32_t answer = image_answer(payload);
+    if ((answer == DONE || answer == CROSSED) && matched(t, payload))
+        return REPEATED;
+    if (answer == DONE)
+        accept_image(&t->packs[t->count++], payload);
+    return answer;
+}
+
+/* As `record`, of a tray. */
+static inline int32_t tray_record(Tray *t, int32_t kind, const byte *payload, int32_t length, char *reply, char **line_end, int32_t *room)
+{
+    static Gauge nobody; /* in each slot that has no image */
+    int32_t answer;
+    switch (kind) {
+    case IMAGE:
+        return tray_image(t, payload, length);
+    case TRANSACTION:
+        answer = event_answer(&t->packs[0], 1 <= length && length <= 65);
+        if (answer == DONE)
+            answer = payload[0] > READ_LIMIT ? LONG_READ : payload[0] > *room ? NO_ROOM : DONE;
+        if (answer == DONE) {
+            char *end = tray_transaction(t, payload + 1, length - 1, reply, payload[0]);
+            *room -= payload[0];
+            if (payload[0] > 0)
+                *line_end = end;
+            t->closed = true;
+        }
+        return answer;
+    case READING + SLOTTED:
+    case CONVERSION + SLOTTED:
+    case POWER_ON + SLOTTED:
+    case SAMPLE + SLOTTED:
+        if (length == 0)
+            return MISSIZED;
+        answer = record(payload[0] < t->count ? &t->packs[payload[0]] : &nobody, kind - SLOTTED, payload + 1, length - 1, reply, line_end, room);
+        t->closed |= answer == DONE;
+        return answer;
+    default:
+        return UNKNOWN;
+    }
+}
+
+typedef Tray Subject;
+#define RECORD tray_record
+#else
+typedef Gauge Subject;
+#define RECORD record
+#endif
+
+/* ---- The lines */
+
 /* The number of a line, counted as text. */
 typedef struct {
     char digits[8];
@@ -536,7 +670,7 @@ static char *put_text(char *out, const char *text)
 
 static char *run(const byte *at, const byte *end, char *out)
 {
-    static Gauge gauge;
+    static Subject subject;
     int32_t room = REPLY_ROOM;
     Number number = {"0", 1};
     while (at < end) {
@@ -550,7 +684,7 @@ static char *run(const byte *at, const byte *end, char *out)
         memcpy(out, " .... . -", 9); /* a reply goes over the dash */
         put_pair(out + 1, kind >> 8);
         put_pair(out + 3, kind & 0xFF);
-        int32_t answer = record(&gauge, kind, at + HEADER, length, reply, &line_end, &room);
+        int32_t answer = RECORD(&subject, kind, at + HEADER, length, reply, &line_end, &room);
         out[6] = (char)('0' + answer);
         if (answer > 9) { /* two digits, and no reply */
             memcpy(out + 6, "1. -", 4);

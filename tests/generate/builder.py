@@ -2,6 +2,7 @@
 
 A scene is a function that adds records to a session; a profile is one that makes a whole session. A file of scenes/ enters its own by
 `@scene(walk=2)`, twice among those that the profile `walk` plays, and `@profile(turns=2)`, two of the sessions of each round of seeds.
+`@tray_profile` does the same with sessions of trays. A pack of a tray is a session too, so that any scene can be played on it.
 """
 
 SESSION_LIMIT = 32768
@@ -14,6 +15,15 @@ SIZES = {IMAGE: (60, 60), READING: (8, 8), CONVERSION: (4, 4), TRANSACTION: (1, 
 
 # Kinds that are meant as unknown. A request that gives a number a meaning takes it out of here, and nowhere else.
 UNKNOWN = [0, 7, 8, 9, 18, 19, 20, 21, 22, 99, 0x0100, 0x0101, 0x0501, 0xFFFF]
+
+# In trays these come behind a slot byte, and have other numbers.
+SLOTS = 8
+SLOT_KINDS = {READING: 18, CONVERSION: 19, POWER_ON: 21, SAMPLE: 22}
+TRAY_SIZES = {IMAGE: SIZES[IMAGE], TRANSACTION: SIZES[TRANSACTION],
+              **{there: tuple(size + 1 for size in SIZES[kind]) for kind, there in SLOT_KINDS.items()}}
+
+# The same for trays: kinds that are meant as unknown there.
+TRAY_UNKNOWN = [0, 2, 3, 5, 6, 7, 8, 9, 17, 20, 23, 34, 99, 0x0100, 0x0112, 0x1200, 0x1600, 0xFFFF]
 
 # Table 3 of the DS2781 sheet.
 CONTROL, AB, AC, VCHG, IMIN, VAE, IAE, EMPTY_40 = 0x60, 0x61, 0x62, 0x64, 0x65, 0x66, 0x67, 0x68
@@ -168,6 +178,99 @@ class Session:
         return bytes(self.records)
 
 
+class Tray:
+    """The bytes of a tray's session as they grow. Its packs, and everyone at once, write to them."""
+
+    def __init__(self, chance, packs):
+        self.chance = chance
+        self.records = bytearray()
+        self.room = REPLY_ROOM
+        self.packs = [Pack(self, slot) for slot in range(packs)]
+        self.everyone = Everyone(self)
+
+    def room_for(self, size):
+        return len(self.records) + size <= SESSION_LIMIT
+
+    def anyone(self):
+        """A pack, or everyone."""
+        return self.chance.choice(self.packs + [self.everyone] * max(1, len(self.packs) // 3))
+
+    def finish(self):
+        """Everything that each pack shows, in half of the sessions the saved cells too, and what all of them show at once."""
+        for pack in self.packs:
+            pack.whole_map()
+        if self.chance.random() < 0.5:
+            for pack in self.packs:
+                pack.power_on()
+                pack.whole_map()
+        self.everyone.whole_map()
+        return bytes(self.records)
+
+
+class Shared(Session):
+    """A session whose records and reply room are those of a tray."""
+
+    def __init__(self, tray):
+        self.tray = tray
+        left = tray.room
+        super().__init__(tray.chance)
+        self.records, self.room = tray.records, left
+
+    @property
+    def room(self):
+        return self.tray.room
+
+    @room.setter
+    def room(self, left):
+        self.tray.room = left
+
+    def add_at(self, slot, kind, payload=b""):
+        super().add(SLOT_KINDS[kind], bytes([slot]) + bytes(payload))
+
+
+class Pack(Shared):
+    """A pack in its slot: events go there, and transactions are matched to it, but for a few that go to everyone."""
+
+    def __init__(self, tray, slot):
+        super().__init__(tray)
+        self.slot = slot
+
+    def add(self, kind, payload=b""):
+        if kind in SLOT_KINDS:
+            self.add_at(self.slot, kind, payload)
+        else:
+            super().add(kind, payload)
+
+    def select(self):
+        return b"\x55" + self.address if self.chance.random() < 0.95 else b"\xCC"
+
+
+class Everyone(Shared):
+    """All packs at once, by Skip; an event goes to one of them."""
+
+    def one(self):
+        return self.chance.choice(self.tray.packs)
+
+    def power_on(self):
+        self.one().power_on()
+
+    def reading(self, voltage, temperature):
+        self.one().reading(voltage, temperature)
+
+    def conversion(self, raw):
+        self.one().conversion(raw)
+
+    def sample(self, raw, ticks):
+        self.one().sample(raw, ticks)
+
+    def set_parameter(self, address, value, size=1):
+        for one in [super(), *self.tray.packs]:
+            one.set_parameter(address, value, size)
+
+    def select(self):
+        return b"\xCC"
+
+
 def some(chance, *choices):
     """One of the choices; a callable is called."""
     choice = chance.choice(choices)
@@ -177,6 +280,11 @@ def some(chance, *choices):
 def unknown(chance):
     """A kind that is refused with 3."""
     return chance.choice(UNKNOWN + 4 * [chance.randint(0x0100, 0xFFFF)])
+
+
+def tray_unknown(chance):
+    """A kind that is refused with 3 in trays."""
+    return chance.choice(TRAY_UNKNOWN + 4 * [chance.randint(0x0100, 0xFFFF)])
 
 
 def boundaries(session):
@@ -193,14 +301,20 @@ def boundaries(session):
 # Where scenes enter themselves.
 
 PROFILES, TURNS, SCENES = {}, {}, {}
+TRAYS, TRAY_TURNS = {}, {}
 
 
-def profile(turns=1):
+def profile(turns=1, among=PROFILES, often=TURNS):
     """Enters a function from chance to the bytes of a session, under its name."""
     def enter(made):
-        PROFILES[made.__name__], TURNS[made.__name__] = made, turns
+        among[made.__name__], often[made.__name__] = made, turns
         return made
     return enter
+
+
+def tray_profile(turns=1):
+    """The same of sessions of trays."""
+    return profile(turns, TRAYS, TRAY_TURNS)
 
 
 def scene(**often):

@@ -8,6 +8,7 @@
 - "0417" in double quotes: the reply as ASCII.
 - `Records 9 and 11 have the bytes of records 2 and 3`, or `the currents` of them. `tick 24`: that of a sample.
 - A row `| 1, 3 | 5 | why |` of a table: the answers of records; every refusal of the story has one. `Answer 1 is missing here`.
+- `slot 5` or `slots 0 to 4`, in a tray: what follows is claimed of each of these packs, until others are named; before that, of slot 0.
 
 A number that is none of these must have a unit, or stand for an address.
 """
@@ -31,6 +32,7 @@ FLAG = rf"(?:{'|'.join([*FLAGS, 'LOCK', 'BL0', 'BL1'])})"
 FORMS = re.compile("|".join([
     rf"[Rr]ecords? (?P<like>{LIST}) have the (?P<part>bytes|currents) of records (?P<model>{LIST})",
     rf"tick (?P<tick>{DECIMAL})",
+    rf"slots? (?P<slots>{LIST})",
     rf"[Aa]nswers? (?P<absent>{LIST}) (?:is|are) missing here",
     rf"[Rr]ecords? (?P<records>{LIST})",
     r"`(?P<code>[^`]*)`",
@@ -52,24 +54,32 @@ def numbers(listed):
 
 
 def states(dumped):
-    """The state after each record, from what `second dump` prints."""
+    """After each record the state of the gauge, or of each pack of a tray, from what `second dump` and `second tray_dump` print."""
     found = {}
-    lines = dumped.splitlines()[1:]
-    for line, state in zip(lines[::2], lines[1::2]):
-        words = dict(re.findall(r"\b(full|ae|se|raac|rsac|rarc|rsrc|iavg|temp|volt|current|as) (-?\d+)", state))
-        values = {name.upper(): int(value) for name, value in words.items()}
-        acr, fraction, saved_acr, saved_as = map(int, re.search(r"acr (\d+)\+(\d+) .* saved (\d+),(\d+)", state).groups())
-        flags = set(state.split("|")[3].split())
-        block = bytes.fromhex(re.search(r"shadow (\w+)", state).group(1))[16:]
-        for name, (at, size, signed) in PARAMETERS.items():
-            values[name] = int.from_bytes(block[at - 0x60:at - 0x60 + size], "big", signed=signed)
-        values |= {"ACR": acr, "fraction": fraction, "ACRL": 16 * fraction, "saved ACR": saved_acr, "saved AS": saved_as}
-        values |= {"AF": values["FULL"] * values["AS"] // 128, "E": values["AE"] * values["Full40"] // 16384, "T": (values["TEMP"] + 4) // 8}
-        values |= {"N": 16384 * acr - values["AE"] * values["Full40"], "D": (values["AF"] - values["AE"]) * values["Full40"]}
-        values |= {"STATUS": sum(weight for flag, weight in FLAGS.items() if flag in flags), "flags": flags}
-        values |= {"TEMP": 32 * values["TEMP"], "VOLT": 32 * values["VOLT"]}
-        found[int(line.split()[0])] = values
+    for line in dumped.splitlines()[1:]:
+        if line.startswith("  "):
+            number = max(found)
+            found[number] = found[number] + [state_of(line)]
+        else:
+            found[int(line.split()[0])] = []
     return found
+
+
+def state_of(state):
+    """The values that a line of a dump has, by name."""
+    words = dict(re.findall(r"\b(full|ae|se|raac|rsac|rarc|rsrc|iavg|temp|volt|current|as) (-?\d+)", state))
+    values = {name.upper(): int(value) for name, value in words.items()}
+    acr, fraction, saved_acr, saved_as = map(int, re.search(r"acr (\d+)\+(\d+) .* saved (\d+),(\d+)", state).groups())
+    flags = set(state.split("|")[3].split())
+    block = bytes.fromhex(re.search(r"shadow (\w+)", state).group(1))[16:]
+    for name, (at, size, signed) in PARAMETERS.items():
+        values[name] = int.from_bytes(block[at - 0x60:at - 0x60 + size], "big", signed=signed)
+    values |= {"ACR": acr, "fraction": fraction, "ACRL": 16 * fraction, "saved ACR": saved_acr, "saved AS": saved_as}
+    values |= {"AF": values["FULL"] * values["AS"] // 128, "E": values["AE"] * values["Full40"] // 16384, "T": (values["TEMP"] + 4) // 8}
+    values |= {"N": 16384 * acr - values["AE"] * values["Full40"], "D": (values["AF"] - values["AE"]) * values["Full40"]}
+    values |= {"STATUS": sum(weight for flag, weight in FLAGS.items() if flag in flags), "flags": flags}
+    values |= {"TEMP": 32 * values["TEMP"], "VOLT": 32 * values["VOLT"]}
+    return values
 
 
 def value(text, state):
@@ -98,9 +108,11 @@ class Story:
         self.lines = {int(line.split()[0]): line.split() for line in printed.splitlines()[1:]}
         self.states = states(dumped)
         self.named, self.quotes, self.claims = [1], None, 0
+        self.slots = [0]
 
-    def state(self):
-        return self.states[self.named[-1]]
+    def here(self):
+        """The states that are spoken of."""
+        return [self.states[self.named[-1]][slot] for slot in self.slots]
 
     def quoted(self):
         """Holds the replies that were quoted to the records that were named before them."""
@@ -121,8 +133,10 @@ class Story:
             part = slice(4, 8) if found["part"] == "currents" else slice(None)
             for one, other in zip(numbers(found["like"]), numbers(found["model"]), strict=True):
                 same(f"record {one}", self.bytes[one][part].hex(), self.bytes[other][part].hex())
+        elif found["slots"]:
+            self.slots = numbers(found["slots"])
         elif found["tick"]:
-            same(f"the tick of record {self.named[-1]}", int.from_bytes(self.bytes[self.named[-1]][8:10], "little"), value(found["tick"], {}))
+            same(f"the tick of record {self.named[-1]}", int.from_bytes(self.bytes[self.named[-1]][-2:], "little"), value(found["tick"], {}))
         elif found["absent"]:
             for answer in numbers(found["absent"]):
                 same(f"the records with answer {answer}", [n for n, line in self.lines.items() if line[2] == str(answer)], [])
@@ -133,10 +147,12 @@ class Story:
             same(f"record {self.named[-1]} as text", found["ascii"], bytes.fromhex(self.lines[self.named[-1]][3]).decode("ascii"))
         elif found["flags"]:
             for flag in re.findall(FLAG, found["flags"]):
-                same(f"{flag} after record {self.named[-1]}", "set" if flag in self.state()["flags"] else "cleared", found["set"])
+                for state in self.here():
+                    same(f"{flag} after record {self.named[-1]}", "set" if flag in state["flags"] else "cleared", found["set"])
         elif found["degrees"]:
             if self.quotes is not None:  # what stands before the first record tells of the whole story
-                same(f"the degrees after record {self.named[-1]}", self.state()["T"], int(found["degrees"]))
+                for state in self.here():
+                    same(f"the degrees after record {self.named[-1]}", state["T"], int(found["degrees"]))
         elif found["sums"]:
             self.summed(found)
         elif found["number"]:
@@ -146,9 +162,10 @@ class Story:
         texts = ([found["name"]] if found["name"] else []) + found["sums"].split(" = ")
         if len(texts) == 1 and not re.search(NAME, texts[0]):
             raise Wrong(f"a number that says nothing which could be checked: {texts[0]}")
-        if not equal(texts, self.state()):
-            values = ", ".join(str(value(text, self.state())) for text in texts)
-            raise Wrong(f"{' = '.join(texts)} after record {self.named[-1]}: {values}")
+        for state in self.here():
+            if not equal(texts, state):
+                values = ", ".join(str(value(text, state)) for text in texts)
+                raise Wrong(f"{' = '.join(texts)} after record {self.named[-1]}: {values}")
 
     def table(self, told):
         """The rows of answers; gives back what is not in them."""
@@ -167,6 +184,8 @@ class Story:
                 self.claim(found)
             except KeyError as missing:
                 raise Wrong(f"there is no record {missing}") from None
+            except IndexError:
+                raise Wrong(f"record {self.named[-1]} has none of the slots {self.slots}") from None
         self.quoted()
         if self.claims < 10:
             raise Wrong("the page says nothing of it that could be checked")

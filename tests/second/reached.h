@@ -54,6 +54,7 @@ static void take_image_out(const Gauge *g, byte *image);
 static bool length_fits(int32_t kind, int32_t length);
 static bool breakpoints_ordered(const byte *image);
 static int32_t judged(const Gauge *g, int32_t room_left, int32_t kind, const byte *payload, int32_t length);
+static int32_t read_at(const Gauge *g, int32_t address);
 
 /* Whether a shadow or an EEPROM holds breakpoints that no image may have. */
 static bool crossed(const byte *memory) { return !breakpoints_ordered(memory + TBP34 - 0x34); }
@@ -786,4 +787,245 @@ static void saw_image_out(const Gauge *g)
     SAW(answer == 0 && crossed(g->shadow), "image out: accepted, crossed breakpoints were not copied");
     SAW(answer == 10, "image out: refused with 10");
     SAW(answer == 10 && !crossed(g->shadow), "image out: refused with 10, though the shadow is in order");
+}
+
+/* ---- Trays ---- */
+
+static bool has_slot(int32_t kind);
+static int32_t slot_with(const Tray *t, const byte *address);
+
+static Tray tray_as_it_was;
+
+static void before_tray_record(const Tray *t) { tray_as_it_was = *t; }
+
+static void saw_tray_end(int32_t answer)
+{
+    SAW(answer == 1, "tray answer: 1");
+    SAW(answer == 2, "tray answer: 2");
+}
+
+/* W8.6, W8.7. */
+static void saw_tray_kind(int32_t kind, int32_t length, int32_t answer)
+{
+    SAW(answer == 3 && kind == 2, "tray answer: 3 for the kind of a plain reading");
+    SAW(answer == 3 && kind == 3, "tray answer: 3 for the kind of a plain conversion");
+    SAW(answer == 3 && kind == 5, "tray answer: 3 for the kind of a plain power-on");
+    SAW(answer == 3 && kind == 6, "tray answer: 3 for the kind of a plain sample");
+    SAW(answer == 3 && kind == 7, "tray answer: 3 for kind 7");
+    SAW(answer == 3 && kind == 20, "tray answer: 3 for kind 20");
+    SAW(answer == 3 && kind > 255 && has_slot(kind % 256), "tray answer: 3 for a kind whose low byte is known");
+    SAW(answer == 4 && kind == 1, "tray answer: 4 for an image");
+    SAW(answer == 4 && kind == 4 && length == 0, "tray answer: 4 for a transaction without a count");
+    SAW(answer == 4 && kind == 4 && length == 66, "tray answer: 4 for a transaction of 66 bytes");
+    SAW(answer == 4 && kind == 18 && length == 8, "tray answer: 4 for a reading of 8 bytes");
+    SAW(answer == 4 && kind == 18 && length == 10, "tray answer: 4 for a reading of 10 bytes");
+    SAW(answer == 4 && kind == 19 && length == 4, "tray answer: 4 for a conversion of 4 bytes");
+    SAW(answer == 4 && kind == 19 && length == 6, "tray answer: 4 for a conversion of 6 bytes");
+    SAW(answer == 4 && kind == 21 && length == 0, "tray answer: 4 for a power-on without a slot");
+    SAW(answer == 4 && kind == 21 && length == 2, "tray answer: 4 for a power-on of 2 bytes");
+    SAW(answer == 4 && kind == 22 && length == 6, "tray answer: 4 for a sample of 6 bytes");
+    SAW(answer == 4 && kind == 22 && length == 8, "tray answer: 4 for a sample of 8 bytes");
+    SAW(answer == 4 && has_slot(kind) && length == 0, "tray answer: 4 for an event without a slot");
+}
+
+/* W8.2, W8.3, W8.9 to W8.11: an image of its size. */
+static void saw_tray_image(const Tray *was, const byte *image, int32_t answer)
+{
+    bool wrong_address = image[0] != 0x3D || image[7] != crc(image, 7), wrong_locks = image[59] > 3, wrong = !breakpoints_ordered(image);
+    int32_t known = slot_with(was, image);
+    bool full = was->count == SLOTS;
+    SAW(answer == 0 && was->count == 0, "tray opening: an image in slot 0");
+    SAW(answer == 0 && was->count == SLOTS - 1, "tray opening: an image in slot 7");
+    SAW(answer == 0 && was->count > 0 && memcmp(image, was->packs[was->count - 1].address, 6) == 0,
+        "tray opening: an address that differs from the one before in its last two bytes");
+    SAW(answer == 5 && was->closed && !full, "tray opening: an image after it was closed");
+    SAW(answer == 5 && full && !was->closed, "tray opening: a ninth image");
+    SAW(answer == 5 && full && !was->closed && !wrong_address && !wrong_locks && !wrong && known < 0, "tray opening: a ninth image that is good");
+    SAW(answer == 5 && was->closed && !wrong_address && !wrong_locks && !wrong && known < 0, "tray opening: a good image after it was closed");
+    SAW(answer == 5 && known >= 0, "tray answer: 5 where 12 would come next");
+    SAW(answer == 5 && wrong_address, "tray answer: 5 where 6 would come next");
+    SAW(answer == 6 && wrong_locks, "tray answer: 6 where 7 would come next");
+    SAW(answer == 7 && known >= 0, "tray answer: 7 where 12 would come next");
+    SAW(answer == 12 && wrong, "tray answer: 12 where 10 would come next");
+    SAW(answer == 12 && !wrong, "tray answer: 12 alone");
+    SAW(answer == 12 && known == 0 && was->count > 1, "tray answer: 12 for the address of slot 0 among others");
+    SAW(answer == 12 && known == was->count - 1 && was->count > 1, "tray answer: 12 for the address of the last slot");
+    SAW(answer == 10, "tray answer: 10");
+    SAW((answer == 6 || answer == 7 || answer == 10 || answer == 12) && was->count > 0, "tray opening: goes on after an image that is refused");
+}
+
+/* W8.8, W8.11: an event of its size that is no image. */
+static void saw_tray_event_answer(const Tray *was, int32_t kind, const byte *payload, int32_t answer)
+{
+    int32_t slot = has_slot(kind) ? payload[0] : 0;
+    SAW(answer == 5 && was->count == 0 && kind == 4, "tray answer: 5 for a transaction before an image");
+    SAW(answer == 5 && was->count == 0 && kind == 4 && payload[0] > READ_LIMIT, "tray answer: 5 where 8 would come next");
+    SAW(answer == 5 && was->count == 0 && slot == 0 && kind == 18, "tray answer: 5 for a reading before an image");
+    SAW(answer == 5 && was->count == 0 && slot == 0 && kind == 19, "tray answer: 5 for a conversion before an image");
+    SAW(answer == 5 && was->count == 0 && slot == 0 && kind == 21, "tray answer: 5 for a power-on before an image");
+    SAW(answer == 5 && was->count == 0 && slot == 0 && kind == 22, "tray answer: 5 for a sample before an image");
+    SAW(answer == 5 && was->count > 0 && slot == was->count && kind == 18, "tray answer: 5 for a reading at the first slot that is not there");
+    SAW(answer == 5 && was->count > 0 && slot == was->count && kind == 19, "tray answer: 5 for a conversion at the first slot that is not there");
+    SAW(answer == 5 && was->count > 0 && slot == was->count && kind == 21, "tray answer: 5 for a power-on at the first slot that is not there");
+    SAW(answer == 5 && was->count > 0 && slot == was->count && kind == 22, "tray answer: 5 for a sample at the first slot that is not there");
+    SAW(answer == 5 && was->count == SLOTS && slot == 8, "tray answer: 5 for slot 8 of eight packs");
+    SAW(answer == 5 && was->count == SLOTS && slot == 255, "tray answer: 5 for slot 255 of eight packs");
+    SAW(answer == 8, "tray answer: 8");
+    SAW(answer == 9, "tray answer: 9");
+    SAW(answer == 9 && payload[1] == 0xCC, "tray answer: 9 for a Skip");
+    SAW(answer == 11, "tray answer: 11");
+}
+
+/* W8.17, of a sample that is not refused with 5. */
+static void saw_tray_tick(const Tray *was, const byte *payload, int32_t answer)
+{
+    const Gauge *own = &was->packs[payload[0]];
+    int32_t tick = tick_of(payload + 1);
+    bool other_fits = false, other_refuses = false;
+    for (int32_t slot = 0; slot < was->count; slot++) {
+        const Gauge *other = &was->packs[slot];
+        other_fits |= other != own && other->had_sample && tick_fits(other, tick);
+        other_refuses |= other != own && other->had_sample && !tick_fits(other, tick);
+    }
+    SAW(answer == 11 && other_fits, "tray packs: a sample that is late, and would not be in another slot");
+    SAW(answer == 0 && own->had_sample && other_refuses, "tray packs: a sample in time that would be late in another slot");
+    SAW(answer == 0 && !own->had_sample && other_refuses, "tray packs: the first sample of a slot where another had some");
+}
+
+/* W8.4, W8.17, W8.19: an event of a slot that is done. */
+static void saw_tray_event(const Tray *was, const Tray *is, int32_t kind, const byte *payload)
+{
+    int32_t slot = payload[0];
+    const Gauge *own = &was->packs[slot];
+    bool other_marked = false;
+    for (int32_t i = 0; i < was->count; i++)
+        other_marked |= i != slot && was->packs[i].acr_written;
+    SAW(slot == 7 && kind == 18, "tray packs: a reading at slot 7");
+    SAW(slot == 7 && kind == 19, "tray packs: a conversion at slot 7");
+    SAW(slot == 7 && kind == 21, "tray packs: a power-on at slot 7");
+    SAW(slot == 7 && kind == 22, "tray packs: a sample at slot 7");
+    SAW(slot == 0 && was->count > 1 && kind == 21, "tray packs: a power-on of slot 0 among others");
+    SAW((kind == 19 || kind == 22) && own->acr_written && other_marked, "tray packs: a conversion after a write of ACR in several packs");
+    SAW((kind == 19 || kind == 22) && !own->acr_written && other_marked, "tray packs: a conversion after a write of ACR in another pack");
+    SAW(kind == 19 && own->conversions == 1023 && was->count > 1, "tray packs: the 1024th conversion of one of several packs");
+    SAW(kind == 18 && own->saved_acr != is->packs[slot].saved_acr && was->count > 1, "tray packs: a reading that saves, among others");
+}
+
+/* W8.3: what closes the opening, and what leaves it open. */
+static void saw_tray_closed(const Tray *was, int32_t kind, const byte *payload, int32_t length, int32_t answer)
+{
+    int32_t first = kind == 4 && length > 1 ? payload[1] : -1;
+    bool whole = length >= 10, known = whole && slot_with(was, payload + 2) >= 0;
+    if (was->closed || was->count == 0 || kind == 1)
+        return;
+    SAW(answer == 0 && kind == 18, "tray opening: closed by a reading");
+    SAW(answer == 0 && kind == 19, "tray opening: closed by a conversion");
+    SAW(answer == 0 && kind == 21, "tray opening: closed by a power-on");
+    SAW(answer == 0 && kind == 22, "tray opening: closed by a sample");
+    SAW(answer == 0 && first == 0xCC, "tray opening: closed by a Skip");
+    SAW(answer == 0 && first == 0x55 && known, "tray opening: closed by a transaction that is matched");
+    SAW(answer == 0 && first == 0x55 && !known, "tray opening: closed by a match of nobody");
+    SAW(answer == 0 && kind == 4 && first == -1, "tray opening: closed by a transaction without a byte");
+    SAW(answer == 3, "tray opening: left open by a record refused with 3");
+    SAW(answer == 4, "tray opening: left open by a record refused with 4");
+    SAW(answer == 5, "tray opening: left open by a record refused with 5");
+    SAW(answer == 8, "tray opening: left open by a record refused with 8");
+}
+
+/* W8.15, W8.16: what every pack is asked. */
+static void saw_tray_every(const Tray *was, const Tray *is, const byte *master, int32_t masters, const byte *reply, int32_t count)
+{
+    bool some_other = false, each_other = was->count > 1;
+    int32_t rnaop = 0, took = 0, locked = 0, copied = 0, marked = 0;
+    for (int32_t slot = 0; slot < was->count; slot++) {
+        const Gauge *before = &was->packs[slot], *after = &is->packs[slot];
+        int32_t own = 0;
+        for (int32_t i = 0; i < count; i++)
+            own |= masters >= 3 && master[0] == 0xCC && master[1] == 0x69 && read_at(after, master[2] + i) != reply[i];
+        some_other |= own != 0;
+        each_other &= own != 0;
+        rnaop += (parameter(before, CONTROL) & RNAOP) != 0;
+        took += memcmp(before->shadow, after->shadow, sizeof before->shadow) != 0;
+        locked += (before->bl0 != after->bl0) + (before->bl1 != after->bl1);
+        copied += memcmp(before->eeprom, after->eeprom, sizeof before->eeprom) != 0;
+        marked += !before->acr_written && after->acr_written;
+    }
+    bool skip = master[0] == 0xCC, many = was->count > 1, named = count >= 8;
+    int32_t command = skip && masters >= 3 ? master[1] : -1;
+    SAW(command == 0x69 && some_other, "tray line: a Skip read that is not what some pack has");
+    SAW(command == 0x69 && each_other, "tray line: a Skip read that is what no pack has");
+    SAW(command == 0x69 && many && count > 0 && !some_other, "tray line: a Skip read that all packs answer alike");
+    SAW(command == 0x6C && many && took == was->count, "tray line: a Skip write that every pack takes");
+    SAW(command == 0x6C && took > 0 && took < was->count, "tray line: a Skip write that some pack takes and some drops");
+    SAW(command == 0x6C && marked > 1, "tray line: a Skip write of ACR");
+    SAW(command == 0x6A && many && locked == was->count, "tray line: a Skip lock of every pack");
+    SAW(command == 0x6A && locked > 0 && locked < was->count, "tray line: a Skip lock of some pack, by its LOCK");
+    SAW(command == 0x48 && copied > 1, "tray line: a Skip copy that several packs take");
+    SAW(command == 0xB8 && took > 1, "tray line: a Skip recall that several packs take");
+    SAW(master[0] == 0x33 && named && many && rnaop == 0, "tray line: 33h with RNAOP 0 in every pack");
+    SAW(master[0] == 0x33 && named && rnaop > 0 && rnaop == was->count - 1, "tray line: 33h that one pack of several answers");
+    SAW(master[0] == 0x33 && named && rnaop > 0 && rnaop < was->count - 1, "tray line: 33h that some packs answer and some not");
+    SAW(master[0] == 0x33 && named && rnaop == was->count, "tray line: 33h that no pack answers");
+    SAW(master[0] == 0x39 && named && many && rnaop == was->count, "tray line: 39h with RNAOP 1 in every pack");
+    SAW(master[0] == 0x39 && named && rnaop > 1 && rnaop < was->count, "tray line: 39h that some packs answer and some not");
+    SAW(master[0] == 0x33 && named && rnaop > 0 && (parameter(&was->packs[0], CONTROL) & RNAOP) != 0 && rnaop < was->count,
+        "tray line: 33h that slot 0 does not answer and another does");
+}
+
+/* W8.13, W8.14. */
+static void saw_tray_transaction(const Tray *was, const Tray *is, const byte *master, int32_t masters, const byte *reply, int32_t count)
+{
+    int32_t slot = masters >= 9 && master[0] == 0x55 ? slot_with(was, master + 1) : -1;
+    bool near = false;
+    for (int32_t i = 0; i < was->count; i++)
+        near |= slot >= 0 && i != slot && memcmp(was->packs[i].address, master + 1, 6) == 0;
+    SAW(slot == 0 && was->count > 1, "tray line: matched to slot 0 of several");
+    SAW(slot == 7, "tray line: matched to slot 7");
+    SAW(slot > 0 && slot < was->count - 1, "tray line: matched to a slot in the middle");
+    SAW(near, "tray line: matched, where another address differs in its last two bytes alone");
+    SAW(slot >= 0 && masters >= 12 && master[9] == 0x6C && was->count > 1 &&
+            memcmp(was->packs[slot].shadow, is->packs[slot].shadow, sizeof was->packs[slot].shadow) != 0,
+        "tray line: a write that is matched to one of several");
+    SAW(slot < 0 && masters >= 9 && master[0] == 0x55, "tray line: 55h with an address of nobody");
+    SAW(masters > 1 && masters < 9 && master[0] == 0x55, "tray line: 55h with a short address");
+    SAW(masters == 0, "tray line: no byte");
+    SAW(masters > 0 && master[0] != 0x33 && master[0] != 0x39 && master[0] != 0xCC && master[0] != 0x55, "tray line: another first byte");
+    if (masters > 0 && master[0] != 0x55)
+        saw_tray_every(was, is, master, masters, reply, count);
+}
+
+static void after_tray_record(const Tray *is, int32_t kind, const byte *payload, int32_t length, int32_t answer, const byte *reply)
+{
+    const Tray *was = &tray_as_it_was;
+    saw_tray_kind(kind, length, answer);
+    saw_tray_closed(was, kind, payload, length, answer);
+    if (answer == 3 || answer == 4)
+        return;
+    if (kind == 1)
+        saw_tray_image(was, payload, answer);
+    else
+        saw_tray_event_answer(was, kind, payload, answer);
+    if (kind == 22 && answer != 5)
+        saw_tray_tick(was, payload, answer);
+    if (answer == 0 && has_slot(kind))
+        saw_tray_event(was, is, kind, payload);
+    if (answer == 0 && kind == 4)
+        saw_tray_transaction(was, is, payload + 1, length - 1, reply, payload[0]);
+}
+
+/* W8.18: the image of each slot at the end of the session, given to a fresh gauge. */
+static void saw_tray_images_out(const Tray *t)
+{
+    static const Gauge fresh;
+    for (int32_t slot = 0; slot < t->count; slot++) {
+        byte image[IMAGE_BYTES];
+        take_image_out(&t->packs[slot], image);
+        int32_t answer = judged(&fresh, REPLY_ROOM, 1, image, IMAGE_BYTES);
+        SAW(answer == 0 && slot == 7, "tray image out: slot 7");
+        SAW(answer == 0 && slot > 0, "tray image out: accepted of a slot above 0");
+        SAW(answer == 10, "tray image out: refused with 10");
+    }
+    SAW(t->count == 0, "tray image out: none was accepted");
+    SAW(t->count == 1, "tray image out: a tray of one pack");
+    SAW(t->count == SLOTS, "tray image out: a tray of eight packs");
 }

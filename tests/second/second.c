@@ -5,6 +5,8 @@
  *   second preset IMAGE PARAMETERS
  *                   writes the session that sets block 1, from two files by name, or the answer on standard error
  *   second dump     prints the session's lines and after each the whole state
+ *   second tray, second tray_image SLOT, second tray_dump
+ *                   do the same with a session of a tray
  *   second figures  holds the rules against the paper's "Figures to hold"
  *
  * Built with -DREACHED it also tells on standard error how often it came to what generated sessions aim at (reached.h).
@@ -51,6 +53,14 @@ typedef struct {
     int32_t conversions;                              /* since power-on, modulo 1,024 (W7.1) */
     bool acr_written;                                 /* the mark: by the bus, and no conversion came since (W7.2) */
 } Gauge;
+
+enum { SLOTS = 8, SLOT_KINDS = 16 };
+
+typedef struct {
+    Gauge packs[SLOTS]; /* from slot 0 upward as their images were accepted (W8.2) */
+    int32_t count;      /* of the slots that have an image */
+    bool closed;        /* an event that is no image was accepted (W8.3) */
+} Tray;
 
 #ifdef REACHED
 #include "reached.h"
@@ -570,6 +580,83 @@ static int32_t judged(const Gauge *g, int32_t room_left, int32_t kind, const byt
     return 0;
 }
 
+/* ---- The tray ---- */
+
+/* W8.4: 18, 19, 21 and 22 are a slot byte and the payload of 2, 3, 5 and 6. */
+static bool has_slot(int32_t kind)
+{
+    return kind == 18 || kind == 19 || kind == 21 || kind == 22;
+}
+
+/* W8.13: the search stops at the slot whose address matches. -1 where there is none. */
+static int32_t slot_with(const Tray *t, const byte *address)
+{
+    for (int32_t slot = 0; slot < t->count; slot++)
+        if (memcmp(t->packs[slot].address, address, 8) == 0)
+            return slot;
+    return -1;
+}
+
+/* W8.7. */
+static bool tray_length_fits(int32_t kind, int32_t length)
+{
+    if (has_slot(kind))
+        return length >= 1 && length_fits(kind - SLOT_KINDS, length - 1);
+    return length_fits(kind, length);
+}
+
+/* W8.9 to W8.11, of an image of its size: 5, 6, 7, 12, 10. */
+static int32_t tray_image_judged(const Tray *t, const byte *image)
+{
+    static const Gauge nobody;
+    if (t->closed)
+        return 5;
+    if (t->count == SLOTS)
+        return 5;
+    int32_t by_itself = judged(&nobody, 0, 1, image, IMAGE_BYTES);
+    if (by_itself == 6 || by_itself == 7)
+        return by_itself;
+    if (slot_with(t, image) >= 0)
+        return 12;
+    return by_itself;
+}
+
+/* W8.6 to W8.11: the first answer that applies, or 0. */
+static int32_t tray_judged(const Tray *t, int32_t room_left, int32_t kind, const byte *payload, int32_t length)
+{
+    if (kind != 1 && kind != 4 && !has_slot(kind))
+        return 3;
+    if (!tray_length_fits(kind, length))
+        return 4;
+    if (kind == 1)
+        return tray_image_judged(t, payload);
+    if (t->count == 0)
+        return 5;
+    if (kind == 4)
+        return judged(&t->packs[0], room_left, kind, payload, length);
+    if (payload[0] >= t->count)
+        return 5;
+    return judged(&t->packs[payload[0]], room_left, kind - SLOT_KINDS, payload + 1, length - 1);
+}
+
+/* W8.13 to W8.16. A pack that does not answer leaves the line at FFh. */
+static void tray_transaction(Tray *t, const byte *master, int32_t masters, byte *reply, int32_t count)
+{
+    memset(reply, 0xFF, (size_t)count);
+    if (masters >= 1 && master[0] == 0x55) {
+        int32_t slot = masters >= 9 ? slot_with(t, master + 1) : -1;
+        if (slot >= 0)
+            transaction(&t->packs[slot], master, masters, reply, count);
+        return;
+    }
+    for (int32_t slot = 0; slot < t->count; slot++) {
+        byte own[READ_LIMIT];
+        transaction(&t->packs[slot], master, masters, own, count);
+        for (int32_t i = 0; i < count; i++)
+            reply[i] &= own[i];
+    }
+}
+
 static void dump(const Gauge *g)
 {
     printf("  acr %d+%d as %d age %d saved %d,%d | full %d ae %d se %d raac %d rsac %d rarc %d rsrc %d"
@@ -596,7 +683,23 @@ static void dump(const Gauge *g)
 
 enum { PRINT_NOTHING, PRINT_LINES, PRINT_STATES };
 
-static void print_line(int printing, const Gauge *g, int32_t number, const char *kind, int32_t answer, const byte *reply,
+/* What a session runs on: one gauge, or a tray where that is not NULL. */
+typedef struct {
+    Gauge *gauge;
+    Tray *tray;
+} Subject;
+
+static void print_states(Subject of)
+{
+    if (of.tray == NULL)
+        dump(of.gauge);
+    for (int32_t slot = 0; of.tray != NULL && slot < of.tray->count; slot++) {
+        printf("  slot %d%s", (int)slot, of.tray->closed ? ", closed" : "");
+        dump(&of.tray->packs[slot]);
+    }
+}
+
+static void print_line(int printing, Subject of, int32_t number, const char *kind, int32_t answer, const byte *reply,
                        int32_t count)
 {
     if (printing == PRINT_NOTHING)
@@ -606,7 +709,7 @@ static void print_line(int printing, const Gauge *g, int32_t number, const char 
         printf("%02x", reply[i]);
     printf(count == 0 ? "-\n" : "\n");
     if (printing == PRINT_STATES)
-        dump(g);
+        print_states(of);
 }
 
 /* A record that was judged 0. Hands back how many bytes it replies. */
@@ -622,35 +725,68 @@ static int32_t event(Gauge *g, int32_t kind, const byte *payload, int32_t length
     }
 }
 
-/* Runs the session's records on the gauge; the replies are printed and only their room is counted. */
-static void run_session(Gauge *g, const byte *session, int32_t size, int printing)
+/* The same of a record of a tray. */
+static int32_t tray_event(Tray *t, int32_t kind, const byte *payload, int32_t length, byte *reply)
+{
+    if (kind == 1) {
+        accept_image(&t->packs[t->count++], payload);
+        return 0;
+    }
+    t->closed = true;
+    if (kind == 4) {
+        tray_transaction(t, payload + 1, length - 1, reply, payload[0]);
+        return payload[0];
+    }
+    return event(&t->packs[payload[0]], kind - SLOT_KINDS, payload + 1, length - 1, reply);
+}
+
+/* What a record is answered; one that is answered 0 is done, and `replied` has how many bytes it replies. */
+static int32_t tray_record(Tray *t, int32_t room_left, int32_t kind, const byte *payload, int32_t length, byte *reply, int32_t *replied)
+{
+    int32_t answer = tray_judged(t, room_left, kind, payload, length);
+    WATCH(before_tray_record(t));
+    *replied = answer == 0 ? tray_event(t, kind, payload, length, reply) : 0;
+    WATCH(after_tray_record(t, kind, payload, length, answer, reply));
+    return answer;
+}
+
+static int32_t plain_record(Gauge *g, int32_t room_left, int32_t kind, const byte *payload, int32_t length, byte *reply, int32_t *replied)
+{
+    int32_t answer = judged(g, room_left, kind, payload, length);
+    WATCH(before_record(g));
+    *replied = answer == 0 ? event(g, kind, payload, length, reply) : 0;
+    WATCH(after_record(g, kind, payload, length, answer));
+    return answer;
+}
+
+/* Runs the session's records; the replies are printed and only their room is counted. */
+static void run_session(Subject of, const byte *session, int32_t size, int printing)
 {
     int32_t at = 0, room_left = REPLY_ROOM;
     if (printing != PRINT_NOTHING)
         printf("record kind answer reply\n");
     if (size > SESSION_LIMIT) {
-        WATCH(saw_end(size, 1));
-        print_line(printing, g, 0, "----", 1, NULL, 0);
+        WATCH(of.tray != NULL ? saw_tray_end(1) : saw_end(size, 1));
+        print_line(printing, of, 0, "----", 1, NULL, 0);
         return;
     }
     for (int32_t number = 1; at < size; number++) {
         const byte *header = session + at;
         if (size - at < 4 || size - at - 4 < little_endian_16(header)) {
-            WATCH(saw_end(size - at, 2));
-            print_line(printing, g, number, "----", 2, NULL, 0);
+            WATCH(of.tray != NULL ? saw_tray_end(2) : saw_end(size - at, 2));
+            print_line(printing, of, number, "----", 2, NULL, 0);
             return;
         }
         int32_t length = little_endian_16(header), kind = little_endian_16(header + 2);
+        int32_t replied;
         byte reply[READ_LIMIT];
         char kind_text[8];
-        int32_t answer = judged(g, room_left, kind, header + 4, length);
-        WATCH(before_record(g));
-        int32_t replied = answer == 0 ? event(g, kind, header + 4, length, reply) : 0;
-        WATCH(after_record(g, kind, header + 4, length, answer));
+        int32_t answer = of.tray != NULL ? tray_record(of.tray, room_left, kind, header + 4, length, reply, &replied)
+                                         : plain_record(of.gauge, room_left, kind, header + 4, length, reply, &replied);
         room_left -= replied;
         at += 4 + length;
         snprintf(kind_text, sizeof kind_text, "%04x", (unsigned)kind);
-        print_line(printing, g, number, kind_text, answer, reply, replied);
+        print_line(printing, of, number, kind_text, answer, reply, replied);
     }
 }
 
@@ -928,19 +1064,21 @@ static int hold_figures(void)
 /* ---- The program ---- */
 
 static Gauge gauge; /* all zeros: no image was accepted */
+static Tray tray;
 
-static int image_at_end(int32_t size)
+/* The image of a gauge at the end of a session of so many bytes, or why there is none (W8.18). */
+static int image_at_end(const Gauge *g, int32_t size, const char *none)
 {
     byte image[IMAGE_BYTES];
     if (SESSION_LIMIT < size) {
         fprintf(stderr, "1: the session is over 32,768 bytes\n");
         return 1;
     }
-    if (!gauge.accepted) {
-        fprintf(stderr, "5: no image was accepted\n");
+    if (!g->accepted) {
+        fprintf(stderr, "5: %s\n", none);
         return 1;
     }
-    take_image_out(&gauge, image);
+    take_image_out(g, image);
     fwrite(image, 1, IMAGE_BYTES, stdout);
     return 0;
 }
@@ -977,6 +1115,27 @@ static int preset(const char *image_name, const char *wanted_name)
     return 0;
 }
 
+/* A slot as decimal digits; one above any slot that there is is SLOTS, and -1 is no number. */
+static int32_t slot_read(const char *word)
+{
+    int32_t slot = *word == '\0' ? -1 : 0;
+    for (; '0' <= *word && *word <= '9'; word++)
+        slot = (int32_t)clamped(10 * slot + (*word - '0'), 0, SLOTS);
+    return *word == '\0' ? slot : -1;
+}
+
+static int tray_image_at_end(const char *word, const byte *session, int32_t size)
+{
+    static const Gauge none;
+    int32_t slot = slot_read(word);
+    if (slot < 0) {
+        fprintf(stderr, "tray_image: SLOT is no number: %s\n", word);
+        return 1;
+    }
+    run_session((Subject){NULL, &tray}, session, size, PRINT_NOTHING);
+    return image_at_end(slot < SLOTS ? &tray.packs[slot] : &none, size, "no image was accepted for this slot");
+}
+
 int main(int count, char **arguments)
 {
     static byte session[SESSION_LIMIT + 1]; /* one byte more shows a session that is too long */
@@ -985,13 +1144,18 @@ int main(int count, char **arguments)
         return hold_figures();
     if (strcmp(mode, "preset") == 0)
         return count == 4 ? preset(arguments[2], arguments[3]) : 2;
+    if (strcmp(mode, "tray_image") == 0 && count != 3)
+        return 2;
     int32_t size = (int32_t)fread(session, 1, sizeof session, stdin);
+    Subject of = {&gauge, strncmp(mode, "tray", 4) == 0 ? &tray : NULL};
+    if (strcmp(mode, "tray_image") == 0)
+        return tray_image_at_end(arguments[2], session, size);
     if (strcmp(mode, "image") == 0) {
-        run_session(&gauge, session, size, PRINT_NOTHING);
-        return image_at_end(size);
+        run_session(of, session, size, PRINT_NOTHING);
+        return image_at_end(&gauge, size, "no image was accepted");
     }
-    run_session(&gauge, session, size, strcmp(mode, "dump") == 0 ? PRINT_STATES : PRINT_LINES);
-    WATCH(saw_image_out(&gauge));
+    run_session(of, session, size, strstr(mode, "dump") != NULL ? PRINT_STATES : PRINT_LINES);
+    WATCH(of.tray != NULL ? saw_tray_images_out(&tray) : saw_image_out(&gauge));
     WATCH(tell_reached());
     return 0;
 }

@@ -1,13 +1,13 @@
 -- Laws of what the master's bytes ask.
-use mathlib.Core.Path.{_≡_, refl, sym}
+use mathlib.Core.Path.{_≡_, refl, sym, _∙_}
 use mathlib.Core.Bool.{Bool, true, false}
 use mathlib.Core.List.{List, [], _∷_, _++_}
 use mathlib.Core.Logic.{_⊎_, inl, inr, ⊎-elim}
 use Prim.Native.Nat.{ℕ, _+_, _≤_, _<_}
 use native.Mathlib.Numerals.{add-one}
 use native.Mathlib.Omega.{arith}
-use borrow.Author.Tests.{ltb-false, eqb-true, eq-eqb, le-ltb}
-use lib.ListN.{length, getD, take, drop, length-append}
+use borrow.Author.Tests.{ltb-false, eqb-true, eq-eqb, ne-eqb, le-ltb}
+use lib.ListN.{length, getD, take, drop, length-append, drop-of-length-le}
 use lib.Seq.{drop-cons, take-at}
 use lib.Dec.{ltb, eqb}
 use Rattle.numbers.specs.Choice.{both}
@@ -38,6 +38,19 @@ same-equal (x ∷ xs) (y ∷ ys) e =
 -- from one place on: the byte there, and the bytes from the next place on
 pub same-more : (a b : List ℕ) (i : ℕ) → i < length a → i < length b → sameBytes (drop i a) (drop i b) ≡ both (eqb (getD a i 0) (getD b i 0)) (sameBytes (drop (i + 1) a) (drop (i + 1) b))
 same-more a b i h k = rw (drop-cons a i 0, drop-cons b i 0, add-one)
+
+-- a byte differs, a byte agrees, none is left
+module _ (a b : List ℕ) (i : ℕ) (size : length a ≡ length b) (so-far : sameBytes (drop i a) (drop i b) ≡ sameBytes a b) where
+  pub differs : i < length a → (getD a i 0 ≡ getD b i 0 → ⊥) → false ≡ sameBytes a b
+  differs h d = sym (same-more a b i h (omega arith) ∙ simp (ne-eqb _ _ d)) ∙ so-far
+
+  pub agrees : i < length a → getD a i 0 ≡ getD b i 0 → sameBytes (drop (i + 1) a) (drop (i + 1) b) ≡ sameBytes a b
+  agrees h d = sym (same-more a b i h (omega arith) ∙ simp (eq-eqb _ _ d)) ∙ so-far
+
+  pub ended : length a ≤ i → true ≡ sameBytes a b
+  ended h =
+      let k : length b ≤ i = omega arith in
+      rw (drop-of-length-le a h, drop-of-length-le b k) at so-far
 
 -- ---- the own address
 

@@ -1,17 +1,15 @@
 -- Once an image was accepted no record changes the net address, and no image is taken again; so a class is the same wherever it is judged.
 use mathlib.Core.Path.{_≡_, refl, ap, _∙_}
-use mathlib.Core.Bool.{true}
+use mathlib.Core.Bool.{true, false}
 use mathlib.Core.List.{List, [], _∷_}
 use Prim.Native.Nat.{ℕ, _-_}
-use lib.Dec.{ltb}
 use lib.ListN.{length}
-use Rattle.numbers.proofs.Bounds.{picked}
 use Rattle.gauge.specs.declared.Gauge.{Gauge}
 use Rattle.gauge.proofs.Kept.{address-kept}
 use Rattle.events.specs.declared.Event.the-variants.{Image, Change, Transact}
 use Rattle.events.specs.declared.Taken.{Taken}
 use Rattle.events.specs.declared.Taken.the-variants.{Run, Refused}
-use Rattle.events.specs.Record.{masterOf, takenOf, timedOf, asksOf, fittedOf}
+use Rattle.events.specs.Record.{masterOf, takenOf, timedOf}
 use Rattle.events.proofs.Fits.{Taking, timed-taking}
 use Rattle.runs.specs.Record.{Rec, whole, cut}
 use Rattle.runs.specs.Run.{endAfter}
@@ -19,6 +17,7 @@ use Rattle.steps.specs.declared.Session.{Session}
 use Rattle.steps.specs.Step.{loadedWith, lastTick, takenDid, didOf}
 use Rattle.demands.specs.Class.{classOf}
 use Rattle.demands.proofs.Choice.{contrary}
+use Rattle.demands.proofs.Fitted.{fitted-has}
 
 -- What a record leaves: an image that was accepted, and the same address
 
@@ -33,7 +32,7 @@ module _ (g : Gauge) where
   abbrev address : List ℕ
   address = g .common .address
 
-  pub taken-stays : (p : List ℕ) (t : Taken) → Taking true p t → Stays address (takenDid (loadedWith g) p t .state)
+  pub taken-stays : (p : List ℕ) (t : Taken) → Taking false true p t → Stays address (takenDid (loadedWith g) p t .state)
   taken-stays p (Run Image) h = let z = h .0 in contrary cc
   taken-stays p (Run (Change c)) h =
       record { loaded = refl; owned = address-kept (λ a. a ≡ address) .change g c refl }
@@ -41,16 +40,12 @@ module _ (g : Gauge) where
       record { loaded = refl; owned = address-kept (λ a. a ≡ address) .act g t (masterOf t p) refl }
   taken-stays p (Refused r) h = record { loaded = refl; owned = refl }
 
-  fitted-stays : (room : ℕ) (p : List ℕ) (t : Taken) → Taking true p t → Stays address (takenDid (loadedWith g) p (fittedOf room t) .state)
-  fitted-stays room p (Run e) h =
-      picked (λ (t : Taken). Stays address (takenDid (loadedWith g) p t .state)) (ltb room (asksOf e)) _ _
-      (λ full. record { loaded = refl; owned = refl })
-      (λ fits. taken-stays p (Run e) h)
-  fitted-stays room p (Refused r) h = record { loaded = refl; owned = refl }
-
   did-stays : (room : ℕ) (r : Rec) → Stays address (didOf (loadedWith g) room r .state)
   unfolding didOf
-  did-stays room (whole kind p) = fitted-stays room p (timedOf (lastTick (loadedWith g)) (takenOf kind true p)) (timed-taking true p (lastTick (loadedWith g)) kind)
+  did-stays room (whole kind p) =
+      let t = timedOf (lastTick (loadedWith g)) (takenOf kind true p) in
+      fitted-has (λ x. Stays address (takenDid (loadedWith g) p x .state)) (record { loaded = refl; owned = refl }) room t
+      (taken-stays p t (timed-taking true p (lastTick (loadedWith g)) kind))
   did-stays room cut = record { loaded = refl; owned = refl }
 
 pub end-stays : (g : Gauge) (room : ℕ) (rs : List Rec) → Stays (g .common .address) (endAfter didOf (loadedWith g) room rs)

@@ -6,12 +6,14 @@ use lib.ListN.{replicate}
 use Rattle.label.specs.Label.{inLabel, inBlock}
 use Rattle.bus.specs.Ask.{romBy, commandOf, askedAt, askedOf, ownOf}
 use Rattle.replies.specs.Reply.{selectedOf}
-use Rattle.events.specs.declared.Refusal.the-variants.{Breaks}
+use Rattle.events.specs.declared.Refusal.the-variants.{Breaks, Repeated}
 use Rattle.events.specs.declared.Taken.the-variants.{Refused}
 use Rattle.events.specs.Record.{kindOf, takenOf}
 use Rattle.runs.specs.Record.{Rec, whole, cut}
+use Rattle.ticks.specs.Ticks.{timelyOf}
+use Rattle.slots.specs.Tray.{trayKindOf}
 use Rattle.demands.specs.Sections.{Class, labelling, gauging, fence}
-use Rattle.demands.specs.Class.{blockOf, touchedOf, labelsOf, touchedClass, takenClass, classOf}
+use Rattle.demands.specs.Class.{Selects, blockOf, touchedOf, labelsOf, touchedClass, takenClass, classOf, trayClass}
 
 abbrev own : List ℕ
 own = 0x3d ∷ 1 ∷ 2 ∷ 3 ∷ 4 ∷ 5 ∷ 6 ∷ 0xac ∷ []
@@ -79,5 +81,48 @@ unfolding takenOf kindOf askedOf askedAt romBy commandOf selectedOf ownOf touche
 cases-hold = refl
 
 -- a record that is refused with 10. Once an image was accepted there is none, since an image is then refused with 5
-pub crossed-fence : (address p : List ℕ) → takenClass address p (Refused Breaks) ≡ fence
-crossed-fence address p = refl
+pub crossed-fence : (selects : Selects) (p : List ℕ) → takenClass selects p (Refused Breaks) ≡ fence
+crossed-fence selects p = refl
+
+-- Of a tray of two packs, by both addresses
+
+abbrev second : List ℕ
+second = 0x3d ∷ 1 ∷ 2 ∷ 3 ∷ 4 ∷ 5 ∷ 7 ∷ 0xf2 ∷ []
+
+abbrev pub tray-cases : List (Rec × Class)
+tray-cases =
+    -- a transaction that the first, the second, each or neither is selected by; net address reads
+    (matches own, labelling)
+    ∷ (matches second, labelling)
+    ∷ (skips 16 0x69 0x20 [], labelling)
+    ∷ (skips 2 0x69 0x1f [], fence)
+    ∷ (skips 0 0x6a 0x20 [], fence)
+    ∷ (skips 2 0x69 0x0e [], gauging)
+    ∷ (matches (replicate 8 0), gauging)
+    ∷ (whole 4 (8 ∷ 0x33 ∷ 0x69 ∷ 0x20 ∷ []), gauging)
+    -- kinds 18, 19, 22 and 21, of a slot with a pack; of a slot without one they are refused with 5
+    ∷ (whole 18 (1 ∷ replicate 8 0), gauging)
+    ∷ (whole 19 (1 ∷ replicate 4 0), gauging)
+    ∷ (whole 22 (1 ∷ replicate 6 0), gauging)
+    ∷ (whole 21 (1 ∷ []), fence)
+    ∷ (whole 18 (2 ∷ replicate 8 0), fence)
+    ∷ (whole 22 (8 ∷ replicate 6 0), fence)
+    -- refused with 3 (kinds 2, 3, 5 and 6 too), with 4 and with 8; an image after the opening; a cut record
+    ∷ (whole 2 (replicate 8 0), gauging)
+    ∷ (whole 5 [], gauging)
+    ∷ (whole 6 (replicate 6 0), gauging)
+    ∷ (whole 21 [], gauging)
+    ∷ (whole 18 (replicate 8 0), gauging)
+    ∷ (whole 1 [], gauging)
+    ∷ (skips 65 0x69 0x20 [], gauging)
+    ∷ (whole 1 (replicate 60 0), fence)
+    ∷ (cut, fence)
+    ∷ []
+
+pub tray-cases-hold : map (λ c. trayClass (own ∷ second ∷ []) (c .0)) tray-cases ≡ map (λ c. c .1) tray-cases
+unfolding trayKindOf timelyOf askedOf askedAt romBy commandOf selectedOf ownOf touchedClass labelsOf touchedOf blockOf inLabel inBlock
+tray-cases-hold = refl
+
+-- an image that is refused with 12, before the opening is closed
+pub repeated-fence : (selects : Selects) (p : List ℕ) → takenClass selects p (Refused Repeated) ≡ fence
+repeated-fence selects p = refl

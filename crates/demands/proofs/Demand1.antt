@@ -1,74 +1,88 @@
--- Demand 1, proved of sessions.
+-- Demand 1, proved of any state whose events are answered 0 and whose refusals have numbers up to the highest; sessions and trays are cases.
 use mathlib.Core.Path.{_≡_, refl}
 use mathlib.Core.Logic.{inl, inr}
 use mathlib.Core.List.{List, []}
-use Prim.Native.Nat.{ℕ}
+use Prim.Native.Nat.{ℕ, _≤_}
 use native.Mathlib.Omega.{arith}
 use lib.Dec.{ltb}
 use Rattle.numbers.proofs.Bounds.{picked}
 use Rattle.events.specs.declared.Refusal.{Refusal}
-use Rattle.events.specs.declared.Refusal.the-variants.{Kind, Size, Order, Address, Locks, Count, Room, Breaks, Interval}
+use Rattle.events.specs.declared.Refusal.the-variants.{Room}
 use Rattle.events.specs.declared.Event.{Event}
-use Rattle.events.specs.declared.Event.the-variants.{Image, Change, Transact}
 use Rattle.events.specs.declared.Taken.{Taken}
 use Rattle.events.specs.declared.Taken.the-variants.{Run, Refused}
-use Rattle.events.specs.Record.{refusalNumber, takenOf, timedOf, asksOf, fittedOf}
+use Rattle.events.specs.Record.{refusalNumber, asksOf, fittedOf}
+use Rattle.events.proofs.Fits.{refusal-range, NumberedTo, plain-numbered}
 use Rattle.runs.specs.Record.{Rec, whole, cut}
 use Rattle.runs.specs.Run.{Did}
-use Rattle.steps.specs.declared.Session.{Session}
-use Rattle.steps.specs.Step.{lastTick, eventDid, takenDid, didOf}
+use Rattle.steps.specs.Steps.{Steps, answeredBy, recordBy}
+use Rattle.steps.specs.Step.{lastTick, ofSession, didOf}
+use Rattle.steps.proofs.Steps.{Replying, session-replying}
 use Rattle.records.specs.Run.{emptyOf}
-use Rattle.demands.specs.Demand1.{Numbered, Demand1}
+use Rattle.slots.specs.Tray.{emptyTray, trayTold, ofTray, trayDid}
+use Rattle.demands.specs.Demand1.{Numbered, sessionMost, trayMost, Demand1}
 use Rattle.demands.proofs.Every.{Lawful, run-sound}
+use Rattle.slots.proofs.Hearing.{tray-replying}
 
-refused : (r : Refusal) → Numbered (refusalNumber r)
-refused Kind = inr (omega arith, omega arith)
-refused Size = inr (omega arith, omega arith)
-refused Order = inr (omega arith, omega arith)
-refused Address = inr (omega arith, omega arith)
-refused Locks = inr (omega arith, omega arith)
-refused Count = inr (omega arith, omega arith)
-refused Room = inr (omega arith, omega arith)
-refused Breaks = inr (omega arith, omega arith)
-refused Interval = inr (omega arith, omega arith)
+-- One record
 
-record Judged (σ : Session) (d : Did Session) : Type 0 where
-  number : Numbered (d .answer)
+record Judged {S : Type 0} (most : ℕ) (σ : S) (d : Did S) : Type 0 where
+  number : Numbered most (d .answer)
   still : (d .answer ≡ 0 → ⊥) → (d .state ≡ σ) × (d .reply ≡ [])
 
-module _ (σ : Session) (room : ℕ) where
-  done : (d : Did Session) → d .answer ≡ 0 → Judged σ d
-  done d e = record { number = inl e; still = λ other. absurd (other e) }
+-- where what is asked has no refusal above the highest number, nor is 9, which the room decides
+module _ {S : Type 0} (k : Steps S) (h : Replying k) (most : ℕ) (room-number : refusalNumber Room ≤ most)
+    (told : (σ : S) (kind : ℕ) (p : List ℕ) → NumberedTo most (k .told σ kind p)) where
+  module _ (σ : S) (room : ℕ) where
+    event-judged : (p : List ℕ) (e : Event) → Judged most σ (k .event σ p e)
+    event-judged p e = record { number = inl (h .answer σ p e); still = λ other. absurd (other (h .answer σ p e)) }
 
-  event-judged : (p : List ℕ) (e : Event) → Judged σ (eventDid σ p e)
-  event-judged p Image = done _ refl
-  event-judged p (Change c) = done _ refl
-  event-judged p (Transact t) = done _ refl
+    refused-judged : (p : List ℕ) (r : Refusal) → refusalNumber r ≤ most → Judged most σ (answeredBy k σ p (Refused r))
+    refused-judged p r few = record { number = inr (refusal-range r .0, few); still = λ other. (refl, refl) }
 
-  refused-judged : (p : List ℕ) (r : Refusal) → Judged σ (takenDid σ p (Refused r))
-  refused-judged p r = record { number = refused r; still = λ other. (refl, refl) }
+    taken-judged : (p : List ℕ) (t : Taken) → NumberedTo most t → Judged most σ (answeredBy k σ p (fittedOf room t))
+    taken-judged p (Run e) n =
+        picked (λ (t : Taken). Judged most σ (answeredBy k σ p t)) (ltb room (asksOf e)) _ _
+        (λ full. refused-judged p Room room-number)
+        (λ fits. event-judged p e)
+    taken-judged p (Refused r) n = refused-judged p r n
 
-  taken-judged : (p : List ℕ) (t : Taken) → Judged σ (takenDid σ p (fittedOf room t))
-  taken-judged p (Run e) =
-      picked (λ (t : Taken). Judged σ (takenDid σ p t)) (ltb room (asksOf e)) _ _ (λ full. refused-judged p Room) (λ fits. event-judged p e)
-  taken-judged p (Refused r) = refused-judged p r
+    whole-judged : (kind : ℕ) (p : List ℕ) → Judged most σ (recordBy k σ room (whole kind p))
+    whole-judged kind p = taken-judged p (k .told σ kind p) (told σ kind p)
 
-  whole-judged : (kind : ℕ) (p : List ℕ) → Judged σ (didOf σ room (whole kind p))
-  unfolding didOf
-  whole-judged kind p = taken-judged p (timedOf (lastTick σ) (takenOf kind (σ .loaded) p))
+    still : (r : Rec) → (recordBy k σ room r .answer ≡ 0 → ⊥) → (recordBy k σ room r .state ≡ σ) × (recordBy k σ room r .reply ≡ [])
+    still (whole kind p) = whole-judged kind p .still
+    still cut = λ other. (refl, refl)
 
-  still : (r : Rec) → (didOf σ room r .answer ≡ 0 → ⊥) → (didOf σ room r .state ≡ σ) × (didOf σ room r .reply ≡ [])
-  unfolding didOf
-  still (whole kind p) = whole-judged kind p .still
-  still cut = λ other. (refl, refl)
+  lawful : Lawful most (recordBy k)
+  lawful = record {
+    numbered = λ σ room kind p. whole-judged σ room kind p .number;
+    cuts = λ σ room. refl;
+    still = λ σ room r. still σ room r;
+  }
 
-lawful : Lawful didOf
+-- Sessions, in which 12 is no answer
+
+session-lawful : Lawful sessionMost didOf
 unfolding didOf
-lawful = record {
-  numbered = λ σ room kind p. whole-judged σ room kind p .number;
-  cuts = λ σ room. refl;
-  still = λ σ room r. still σ room r;
-}
+session-lawful =
+    let l = lawful ofSession session-replying sessionMost (omega arith) (λ σ kind p. plain-numbered (lastTick σ) kind (σ .loaded) p) in
+    record { numbered = l .numbered; cuts = l .cuts; still = l .still }
 
-pub demand-1 : Demand1 didOf emptyOf
-demand-1 = run-sound didOf emptyOf lawful
+pub demand-1 : Demand1 sessionMost didOf emptyOf
+demand-1 = run-sound didOf emptyOf sessionMost session-lawful
+
+-- Trays
+
+numbered : (t : Taken) → NumberedTo trayMost t
+numbered (Run e) = tt
+numbered (Refused r) = refusal-range r .1
+
+tray-lawful : Lawful trayMost trayDid
+unfolding trayDid
+tray-lawful =
+    let l = lawful ofTray tray-replying trayMost (omega arith) (λ τ kind p. numbered (trayTold τ kind p)) in
+    record { numbered = l .numbered; cuts = l .cuts; still = l .still }
+
+pub tray-demand-1 : Demand1 trayMost trayDid emptyTray
+tray-demand-1 = run-sound trayDid emptyTray trayMost tray-lawful

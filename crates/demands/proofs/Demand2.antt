@@ -1,17 +1,17 @@
--- Demand 2, proved.
+-- Demand 2, proved: the read-back of any gauge that events reach, and of sessions and slots.
 use mathlib.Core.Path.{_≡_, refl, sym, ap, _∙_}
 use mathlib.Core.Bool.{Bool, true, false}
 use mathlib.Core.List.{List, [], _∷_, map}
-use Prim.Native.Nat.{ℕ, zero-le}
+use Prim.Native.Nat.{ℕ, _≤_, _<_, zero-le}
 use native.Mathlib.Omega.{arith}
 use lib.ListN.{length, getD, take, drop}
 use lib.Seq.{take-at}
 use lib.Dec.{eqb, leb}
-use borrow.Author.Tests.{le-leb, le-ltb}
+use borrow.Author.Tests.{le-leb, le-ltb, lt-ltb}
 use Rattle.numbers.specs.Choice.{pick}
 use Rattle.gauge.specs.declared.Gauge.{Gauge}
 use Rattle.gauge.specs.Gauge.{powerOnOf}
-use Rattle.pack.specs.Image.{imageOf, bytesOf}
+use Rattle.pack.specs.Image.{imageOf, bytesOf, roomAfter}
 use Rattle.pack.specs.Reach.{Reached}
 use Rattle.pack.proofs.Image.{image-length}
 use Rattle.pack.proofs.Reached.{reached-sized, out-judged, out-in}
@@ -19,19 +19,24 @@ use Rattle.events.specs.declared.Event.the-variants.{Image}
 use Rattle.events.specs.declared.Refusal.the-variants.{Breaks}
 use Rattle.events.specs.declared.Taken.the-variants.{Run, Refused}
 use Rattle.events.specs.Image.{imageSize}
-use Rattle.events.specs.Record.{kindOf, orderedOf, judgedOf, takenOf}
-use Rattle.runs.specs.Record.{whole, recsOf}
+use Rattle.events.specs.Record.{kindOf, orderedOf, judgedAmong, judgedOf, takenOf}
+use Rattle.runs.specs.Record.{Rec, whole, recsOf}
 use Rattle.runs.specs.Run.{Did, Line, silently, endAfter}
 use Rattle.steps.specs.declared.Session.{Session}
 use Rattle.steps.specs.Step.{loadedWith, didOf}
 use Rattle.records.specs.Run.{emptyOf}
-use Rattle.demands.specs.Call.{Call}
-use Rattle.demands.specs.Demand2.{Carried, PoweredOn, eepromBreaks, Crossed, AnswersImage, Restored, ReadBack, Demand2}
+use Rattle.slots.specs.declared.Tray.{Tray}
+use Rattle.slots.specs.Tray.{emptyTray, packOf, trayKindOf, trayDid}
+use Rattle.trays.specs.Run.{slotHeld}
+use Rattle.demands.specs.Call.{Call, Within}
+use Rattle.demands.specs.Demand2.{Fresh, eepromBreaks, Crossed, AnswersImage, PoweredOn, Restored, ReadBack, Carried, PowersOn, SlotCarried, SlotPowersOn, Demand2, TrayDemand2}
 use Rattle.demands.proofs.Choice.{contrary, pick-twice}
 use Rattle.demands.proofs.Headers.{recs-image}
 use Rattle.demands.proofs.Reached.{end-reached}
 use Rattle.demands.proofs.Moments.{leftOf, end-append, running, tells}
 use Rattle.demands.proofs.Every.{run-exact}
+use Rattle.demands.proofs.Packs.{Eight, stored-here}
+use Rattle.demands.proofs.Filled.{Filled, end-filled}
 
 -- An image that is accepted first, or refused for its breakpoints, and a power-on
 
@@ -55,76 +60,126 @@ never-both a b = let z : _≡_ {A = ℕ} 10 0 = ap (λ (ls : List Line). getD (m
 
 -- what an image record gets is what the judge says, of any size
 pub taken-image : (p : List ℕ) → takenOf 1 false p ≡ judgedOf p
-unfolding takenOf kindOf judgedOf
+unfolding takenOf kindOf judgedAmong
 taken-image p = pick-twice (eqb (length p) imageSize) _ _
 
-module _ {d : Call Session} {room : List ℕ} {answer : ℕ} {after : List ℕ} {e : Call Session} (k : Carried d room answer after e) where
-  abbrev σ : Session
-  σ = d .ran .state
-
+-- of any gauge that events reach, whose image the room holds
+module _ (g : Gauge) (reached : Reached g) {after : List ℕ} (written : take imageSize after ≡ bytesOf g) {e : Call Session} (k : Fresh after e) where
   abbrev p : List ℕ
-  p = bytesOf (σ .gauge)
-
-  reached : Reached (σ .gauge)
-  reached =
-      let s = running didOf emptyOf (k .run) .state in
-      rw s (end-reached emptyOf (length (d .room)) (recsOf (d .bytes)) (λ z. contrary cc) (rw s at (k .loaded)))
-
-  sized : length p ≡ imageSize
-  sized = image-length (σ .gauge) (reached-sized (σ .gauge) reached)
-
-  fits : leb imageSize (length room) ≡ true
-  fits = le-leb imageSize (length room) (k .fits)
-
-  written : take imageSize after ≡ p
-  written = ap (take imageSize) (k .out .written) ∙ rw (k .loaded, fits) (take-at p (drop imageSize room) imageSize sized)
+  p = bytesOf g
 
   records : recsOf (e .bytes) ≡ whole 1 p ∷ []
-  records = ap recsOf (k .image ∙ ap (λ (l : List ℕ). imageSize ∷ 0 ∷ 1 ∷ 0 ∷ l) written) ∙ recs-image p sized
+  records =
+      ap recsOf (k .image ∙ ap (λ (l : List ℕ). imageSize ∷ 0 ∷ 1 ∷ 0 ∷ l) written)
+      ∙ recs-image p (image-length g (reached-sized g reached))
 
-  judged : {t : Bool} → orderedOf (eepromBreaks d) ≡ t → takenOf 1 false p ≡ pick t (Run Image) (Refused Breaks)
-  judged h = taken-image p ∙ out-judged (σ .gauge) reached ∙ rw h refl
+  judged : {t : Bool} → orderedOf (eepromBreaks g) ≡ t → takenOf 1 false p ≡ pick t (Run Image) (Refused Breaks)
+  judged h = taken-image p ∙ out-judged g reached ∙ rw h refl
 
   -- what the image does is what the fresh session does
   gives : {τ : Session} {n : ℕ} → didOf emptyOf (length (e .room)) (whole 1 p) ≡ silently τ n → AnswersImage e n × (e .ran .state ≡ τ)
   gives does = (
     rw (records, does) refl,
-    running didOf emptyOf (k .fresh) .state ∙ ap (endAfter didOf emptyOf (length (e .room))) records ∙ ap (λ (x : Did Session). x .state) does,
+    running didOf emptyOf (k .run) .state ∙ ap (endAfter didOf emptyOf (length (e .room))) records ∙ ap (λ (x : Did Session). x .state) does,
   )
 
-  declines : Crossed d → AnswersImage e 10 × (e .ran .state ≡ emptyOf)
+  declines : Crossed g → AnswersImage e 10 × (e .ran .state ≡ emptyOf)
   declines h = gives (did-crossed p (length (e .room)) (judged h))
 
-  restores : orderedOf (eepromBreaks d) ≡ true → AnswersImage e 0 × (e .ran .state ≡ loadedWith (powerOnOf (σ .gauge)))
+  restores : orderedOf (eepromBreaks g) ≡ true → AnswersImage e 0 × (e .ran .state ≡ loadedWith (powerOnOf g))
   restores h =
-      gives (did-image p (length (e .room)) (judged h) ∙ ap (λ (g : Gauge). silently (loadedWith g) 0) (out-in (σ .gauge) reached))
+      gives (did-image p (length (e .room)) (judged h) ∙ ap (λ (x : Gauge). silently (loadedWith x) 0) (out-in g reached))
 
   -- 10 is answered in no other case
-  only : (t : Bool) → orderedOf (eepromBreaks d) ≡ t → AnswersImage e 10 → Crossed d
+  only : (t : Bool) → orderedOf (eepromBreaks g) ≡ t → AnswersImage e 10 → Crossed g
   only true h a = absurd (never-both a (restores h .0))
   only false h a = h
 
-  powered : (f : Call Session) → PoweredOn d f → f .ran .state ≡ loadedWith (powerOnOf (σ .gauge))
-  powered f h =
+  module _ {There : Gauge → Type 0} (powered : (h : Gauge) → There h → h ≡ powerOnOf g) where
+    restored : (t : Bool) → orderedOf (eepromBreaks g) ≡ t → (Crossed g → ⊥) → Restored g There e
+    restored true h other =
+        record { accepted = restores h .0; state = restores h .1; there = λ x y. restores h .1 ∙ ap loadedWith (sym (powered x y)) }
+    restored false h other = absurd (other h)
+
+    read-back : ReadBack g There e
+    read-back = record {
+      told = tells didOf emptyOf (k .run);
+      declined = λ h. record { refused = declines h .0; state = declines h .1 };
+      crossed = only _ refl;
+      restored = restored _ refl;
+    }
+
+-- the state after a power-on at the end of the same records
+powered-state : {S : Type 0} {did : S → ℕ → Rec → Did S} {start : S} {r : Rec} {Leaves : S → Gauge → Type 0} {d : Call S} {h : Gauge}
+    → Within did start d → (x : PoweredOn did start r Leaves d h)
+    → x .longer .ran .state ≡ did (d .ran .state) (leftOf did start (length (d .room)) (recsOf (d .bytes))) r .state
+powered-state {S} {did} {start} {r} {Leaves} {d} {h} w x =
+    let n = leftOf did start (length (d .room)) (recsOf (d .bytes)) in
+    running did start (x .run) .state
+    ∙ rw (x .last, x .room) (end-append did start (length (d .room)) (recsOf (d .bytes)) (r ∷ []))
+    ∙ ap (λ (τ : S). did τ n r .state) (sym (running did start w .state))
+
+-- what stands in the room after an image was written into it
+room-written : (g : Gauge) → Reached g → (room : List ℕ) → imageSize ≤ length room → take imageSize (roomAfter (leb imageSize (length room)) g room) ≡ bytesOf g
+room-written g reached room fits =
+    rw (le-leb imageSize (length room) fits) (take-at (bytesOf g) (drop imageSize room) imageSize (image-length g (reached-sized g reached)))
+
+-- Sessions
+
+module _ {d : Call Session} {room : List ℕ} {answer : ℕ} {after : List ℕ} (k : Carried d room answer after) where
+  abbrev σ : Session
+  σ = d .ran .state
+
+  session-reached : Reached (σ .gauge)
+  session-reached =
+      let s = running didOf emptyOf (k .run) .state in
+      rw s (end-reached emptyOf (length (d .room)) (recsOf (d .bytes)) (λ z. contrary cc) (rw s at (k .loaded)))
+
+  session-powered : (h : Gauge) → PowersOn d h → h ≡ powerOnOf (σ .gauge)
+  session-powered h x =
       let n = leftOf didOf emptyOf (length (d .room)) (recsOf (d .bytes)) in
-      running didOf emptyOf (h .run) .state
-      ∙ rw (h .last, h .room) (end-append didOf emptyOf (length (d .room)) (recsOf (d .bytes)) (whole 5 [] ∷ []))
-      ∙ ap (λ (τ : Session). didOf τ n (whole 5 []) .state) (sym (running didOf emptyOf (k .run) .state))
-      ∙ ap (λ (x : Did Session). x .state) (did-power-on σ n (k .loaded))
+      ap (λ (τ : Session). τ .gauge) (sym (x .leaves) ∙ powered-state (k .run) x ∙ ap (λ (y : Did Session). y .state) (did-power-on σ n (k .loaded)))
 
-  restored : (t : Bool) → orderedOf (eepromBreaks d) ≡ t → (Crossed d → ⊥) → Restored d e
-  restored true h other =
-      record { accepted = restores h .0; state = restores h .1; there = λ f g. restores h .1 ∙ sym (powered f g) }
-  restored false h other = absurd (other h)
-
-  read-back : ReadBack d answer e
-  read-back = record {
-    taken = k .out .number ∙ rw (k .loaded, fits) refl;
-    told = tells didOf emptyOf (k .fresh);
-    declined = λ h. record { refused = declines h .0; state = declines h .1 };
-    crossed = only _ refl;
-    restored = restored _ refl;
-  }
+  session-images : (answer ≡ 0) × ((e : Call Session) → Fresh after e → ReadBack (σ .gauge) (PowersOn d) e)
+  session-images = (
+    k .out .number ∙ rw (k .loaded, le-leb imageSize (length room) (k .fits)) refl,
+    λ e f. read-back (σ .gauge) session-reached (ap (take imageSize) (k .out .written) ∙ rw (k .loaded) (room-written (σ .gauge) session-reached room (k .fits))) f session-powered,
+  )
 
 pub demand-2 : Demand2
-demand-2 = record { events = run-exact didOf emptyOf; images = λ d room answer after e k. read-back k }
+demand-2 = record { events = run-exact didOf emptyOf; images = λ d room answer after k. session-images k }
+
+-- Slots
+
+-- a power-on of a slot that has a pack
+did-slot-power-on : (τ : Tray) (room i : ℕ) → Eight τ → i < τ .count → packOf (trayDid τ room (whole 21 (i ∷ [])) .state) i ≡ powerOnOf (packOf τ i)
+unfolding trayDid trayKindOf
+did-slot-power-on τ room i h low =
+    rw (lt-ltb i (τ .count) low, le-ltb room 0 zero-le) (stored-here τ i (powerOnOf (packOf τ i)) h (omega (arith, h .few)))
+
+module _ {d : Call Tray} {i : ℕ} {room : List ℕ} {answer : ℕ} {after : List ℕ} (k : SlotCarried d i room answer after) where
+  abbrev τ : Tray
+  τ = d .ran .state
+
+  filled : Filled τ
+  filled = rw (running trayDid emptyTray (k .run) .state) (end-filled (length (d .room)) (recsOf (d .bytes)))
+
+  held : slotHeld τ i ≡ true
+  held = rw (lt-ltb i 8 (omega (arith, k .pack, filled .eight .few)), lt-ltb i (τ .count) (k .pack)) refl
+
+  slot-powered : (h : Gauge) → SlotPowersOn i d h → h ≡ powerOnOf (packOf τ i)
+  slot-powered h x =
+      let n = leftOf trayDid emptyTray (length (d .room)) (recsOf (d .bytes)) in
+      sym (x .leaves) ∙ ap (λ (y : Tray). packOf y i) (powered-state (k .run) x) ∙ did-slot-power-on τ n i (filled .eight) (k .pack)
+
+  slot-images : (answer ≡ 0) × ((e : Call Session) → Fresh after e → ReadBack (packOf τ i) (SlotPowersOn i d) e)
+  slot-images = (
+    k .out .number ∙ rw (held, le-leb imageSize (length room) (k .fits)) refl,
+    λ e f.
+        read-back (packOf τ i) (filled .reached i (k .pack))
+        (ap (take imageSize) (k .out .written) ∙ rw held (room-written (packOf τ i) (filled .reached i (k .pack)) room (k .fits)))
+        f slot-powered,
+  )
+
+pub tray-demand-2 : TrayDemand2
+tray-demand-2 = record { events = run-exact trayDid emptyTray; images = λ d i room answer after k. slot-images k }

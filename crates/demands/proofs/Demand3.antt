@@ -1,7 +1,7 @@
 -- Demand 3, proved.
 use mathlib.Core.Path.{_≡_, refl, sym, ap, _∙_}
 use mathlib.Core.Bool.{Bool, true, false}
-use mathlib.Core.List.{List, [], _∷_, zip, zipWith}
+use mathlib.Core.List.{List, [], _∷_, _++_, zip, zipWith}
 use Prim.Native.Nat.{ℕ, _-_}
 use native.Mathlib.Omega.{arith}
 use lib.Dec.{eqb}
@@ -10,19 +10,21 @@ use Rattle.numbers.specs.Choice.{pick}
 use Rattle.gauge.specs.declared.Gauge.{Gauge}
 use Rattle.pack.specs.Image.{imageOf}
 use Rattle.events.specs.declared.Event.the-variants.{Image}
+use Rattle.events.specs.declared.Taken.{Taken}
 use Rattle.events.specs.declared.Taken.the-variants.{Run, Refused}
+use Rattle.replies.specs.Reply.{selectedOf}
 use Rattle.events.specs.declared.Refusal.the-variants.{Size, Order}
 use Rattle.events.specs.Image.{imageSize, imageAddress}
 use Rattle.events.specs.Record.{kindOf, judgedOf, takenOf}
-use Rattle.runs.specs.Record.{Rec, whole}
+use Rattle.runs.specs.Record.{Rec, whole, recsOf}
 use Rattle.runs.specs.Run.{Did, silently, Line, lineOf}
 use Rattle.steps.specs.declared.Session.{Session}
 use Rattle.steps.specs.Step.{loadedWith, didOf}
 use Rattle.records.specs.Run.{emptyOf}
 use Rattle.demands.specs.Call.{Call, gotOf}
-use Rattle.demands.specs.Sections.{Class, labelling, gauging, fence, only, more}
-use Rattle.demands.specs.Class.{takenClass, classOf}
-use Rattle.demands.specs.Demand3.{Starts, Mixed, Demand3}
+use Rattle.demands.specs.Sections.{Class, labelling, gauging, fence, only, Sections, more}
+use Rattle.demands.specs.Class.{Selects, takenClass, classBy, sessionAsked, classOf}
+use Rattle.demands.specs.Demand3.{Starts, Mixed, KeptApart, SessionsMixed, Demand3}
 use Rattle.demands.proofs.Choice.{contrary}
 use Rattle.demands.proofs.Moments.{running, tells}
 use Rattle.demands.proofs.Demand2.{did-image}
@@ -56,28 +58,57 @@ module _ (address : List ℕ) where
         second = ap (λ (x : Gauge). out x b) ga ∙ outs b m (l .part) (g .label);
       }
 
+-- Two runs with the same opening, of which each record is a fence
+
+module _ {S : Type 0} (did : S → ℕ → Rec → Did S) (start : S) (asked : ℕ → List ℕ → Taken) (selects : Selects) where
+  abbrev pub class : Rec × Line → Class
+  class e = classBy asked selects (e .0)
+
+  -- the opening with its lines
+  abbrev pub Fences : List (Rec × Line) → Type 0
+  Fences [] = Unit
+  Fences (o ∷ os) = (class o ≡ fence) × Fences os
+
+  opened : (os : List (Rec × Line)) → Fences os → {us vs : List (Rec × Line)} → Sections class us vs → Sections class (os ++ us) (os ++ vs)
+  opened [] f s = s
+  opened (o ∷ os) f s = more {xs = []} {ys = []} (record { one = refl; other = refl; labels = refl; gauges = refl }) (f .0) (opened os (f .1) s)
+
+  pub kept-apart : {opening xs ys : List Rec} {us vs : List (Rec × Line)} {a b : Call S} (os : List (Rec × Line)) → Fences os
+      → Mixed did start asked selects opening xs ys a b → gotOf did start a ≡ os ++ us → gotOf did start b ≡ os ++ vs → Sections class us vs
+      → a .ran .state ≡ b .ran .state → KeptApart did start asked selects a b
+  kept-apart os f m one other s same = record {
+    events = rw (one, other) (opened os f s);
+    one = tells did start (m .one .within);
+    other = tells did start (m .other .within);
+    state = same;
+  }
+
 -- One session
 
 abbrev imageGot : List ℕ → Rec × Line
 imageGot p = (whole 1 p, lineOf (whole 1 p) (silently (loadedWith (imageOf p)) 0))
 
-module _ {p : List ℕ} {rs : List Rec} {c : Call Session} (accepted : takenOf 1 false p ≡ Run Image) (s : Starts p rs c) where
+module _ {p : List ℕ} {rs : List Rec} {c : Call Session} (accepted : takenOf 1 false p ≡ Run Image)
+    (s : Starts didOf emptyOf sessionAsked (selectedOf (imageAddress p)) (whole 1 p ∷ []) rs c) where
   freed : Free (imageOf p) (length (c .room) - 0) rs
-  freed = free (imageOf p) (length (c .room) - 0) rs (omega (arith, s .asked))
+  freed = free (imageOf p) (length (c .room) - 0) rs (omega (arith, s .room))
+
+  first : recsOf (c .bytes) ≡ whole 1 p ∷ rs
+  first = s .first
 
   ends : c .ran .state ≡ loadedWith (endFrom step out (imageOf p) rs)
-  ends = running didOf emptyOf (s .within) .state ∙ rw (s .first, did-image p (length (c .room)) accepted) (freed .end)
+  ends = running didOf emptyOf (s .within) .state ∙ rw (first, did-image p (length (c .room)) accepted) (freed .end)
 
   gets : gotOf didOf emptyOf c ≡ imageGot p ∷ gotFrom step out (imageOf p) rs
   unfolding zip zipWith
-  gets = rw (s .first, did-image p (length (c .room)) accepted) (ap (λ (l : List (Rec × Line)). imageGot p ∷ l) (freed .got))
+  gets = rw (first, did-image p (length (c .room)) accepted) (ap (λ (l : List (Rec × Line)). imageGot p ∷ l) (freed .got))
 
 -- the image is a fence, as the class judges it: one that comes after another
 image-class : (address p : List ℕ) → takenOf 1 false p ≡ Run Image → classOf address (whole 1 p) ≡ fence
 unfolding takenOf kindOf
 image-class address p e = go (eqb (length p) imageSize) e
   where
-    go : (t : Bool) → pick t (judgedOf p) (Refused Size) ≡ Run Image → takenClass address p (pick t (Refused Order) (Refused Size)) ≡ fence
+    go : (t : Bool) → pick t (judgedOf p) (Refused Size) ≡ Run Image → takenClass (selectedOf address) p (pick t (Refused Order) (Refused Size)) ≡ fence
     go true f = refl
     go false f = contrary cc
 
@@ -85,19 +116,14 @@ image-class address p e = go (eqb (length p) imageSize) e
 
 pub demand-3 : Demand3
 unfolding imageOf
-demand-3 p xs ys a b m =
+demand-3 p xs ys a b accepted m =
     let k = imageAddress p in
     let h = apart step out (classOf k) (Owned k) (step-owned k) (swaps k) (m .sections) (imageOf p) refl in
-    record {
-      events =
-          rw (gets (m .accepted) (m .one), gets (m .accepted) (m .other))
-          (more {xs = []} {ys = []} (record { one = refl; other = refl; labels = refl; gauges = refl }) (image-class k p (m .accepted)) (h .sections));
-      one = tells didOf emptyOf (m .one .within);
-      other = tells didOf emptyOf (m .other .within);
-      state = ends (m .accepted) (m .one) ∙ ap loadedWith (h .end) ∙ sym (ends (m .accepted) (m .other));
-    }
+    kept-apart didOf emptyOf sessionAsked (selectedOf k) (imageGot p ∷ []) (image-class k p accepted, tt) m
+    (gets accepted (m .one)) (gets accepted (m .other)) (h .sections)
+    (ends accepted (m .one) ∙ ap loadedWith (h .end) ∙ sym (ends accepted (m .other)))
 
 -- so of each class the whole session's events, with what they got, are the same list
-pub demand-3-by-class : (p : List ℕ) (xs ys : List Rec) (a b : Call Session) → Mixed p xs ys a b
+pub demand-3-by-class : (p : List ℕ) (xs ys : List Rec) (a b : Call Session) → takenOf 1 false p ≡ Run Image → SessionsMixed p xs ys a b
     → (k : Class) → only (λ e. classOf (imageAddress p) (e .0)) k (gotOf didOf emptyOf a) ≡ only (λ e. classOf (imageAddress p) (e .0)) k (gotOf didOf emptyOf b)
-demand-3-by-class p xs ys a b m k = sections-only _ k (demand-3 p xs ys a b m .events)
+demand-3-by-class p xs ys a b accepted m k = sections-only _ k (demand-3 p xs ys a b accepted m .events)

@@ -29,12 +29,12 @@ record Stands {S : Type 0} (did : S → ℕ → Rec → Did S) (start : S) (room
   told : d .told ≡ put answers 0 (codesOf (linesAfter did start (length room) rs))
 
 -- what is asked of each record: it is numbered, one that is cut is answered 2, and where it is refused the state stays, and there is no reply
-pub record Lawful {S : Type 0} (did : S → ℕ → Rec → Did S) : Type 0 where
-  pub numbered : (σ : S) (room kind : ℕ) (p : List ℕ) → Numbered (did σ room (whole kind p) .answer)
+pub record Lawful (most : ℕ) {S : Type 0} (did : S → ℕ → Rec → Did S) : Type 0 where
+  pub numbered : (σ : S) (room kind : ℕ) (p : List ℕ) → Numbered most (did σ room (whole kind p) .answer)
   pub cuts : (σ : S) (room : ℕ) → did σ room cut ≡ silently σ 2
   pub still : (σ : S) (room : ℕ) (r : Rec) → (did σ room r .answer ≡ 0 → ⊥) → (did σ room r .state ≡ σ) × (did σ room r .reply ≡ [])
 
-answered-length : (hs : List Header) (ls : List Line) → Answered hs ls → length ls ≡ length hs
+answered-length : {most : ℕ} (hs : List Header) (ls : List Line) → Answered most hs ls → length ls ≡ length hs
 answered-length hs ls none = refl
 answered-length hs ls (stops e) = refl
 answered-length hs ls (next k n r) = ap suc (answered-length _ _ r)
@@ -106,25 +106,25 @@ module _ {S : Type 0} (did : S → ℕ → Rec → Did S) (start : S) where
   pub run-exact : AfterEach did start
   run-exact = record { moments = λ n c d w s. moment w s; events = λ c w r l a b t. exact w t }
 
-  module _ (law : Lawful did) where
+  module _ (most : ℕ) (law : Lawful most did) where
     -- One line for each header
 
-    cut-answered : (σ : S) (room : ℕ) → Answered (demand.cut ∷ []) (linesAfter did σ room (cut ∷ []))
+    cut-answered : (σ : S) (room : ℕ) → Answered most (demand.cut ∷ []) (linesAfter did σ room (cut ∷ []))
     cut-answered σ room = stops (ap (λ (d : Did S). d .answer) (law .cuts σ room))
 
     -- the line of a record whose header stands there, and those of the rest
     four : (σ : S) (room n m i j : ℕ) (s : List ℕ)
-        → ((τ : S) (left : ℕ) → Answered (headersFrom (n + 256 * m) s) (linesAfter did τ left (recsFrom (n + 256 * m) s)))
+        → ((τ : S) (left : ℕ) → Answered most (headersFrom (n + 256 * m) s) (linesAfter did τ left (recsFrom (n + 256 * m) s)))
         → (b : Bool) → leb (n + 256 * m) (length s) ≡ b
-        → Answered (headersOf (n ∷ m ∷ i ∷ j ∷ s)) (linesAfter did σ room (recsOf (n ∷ m ∷ i ∷ j ∷ s)))
+        → Answered most (headersOf (n ∷ m ∷ i ∷ j ∷ s)) (linesAfter did σ room (recsOf (n ∷ m ∷ i ∷ j ∷ s)))
     four σ room n m i j s rest true e =
         rw e
-        (subst (λ (rs : List Rec). Answered (demand.kind (i + 256 * j) ∷ headersFrom (n + 256 * m) s) (linesAfter did σ room rs)) (sym (recs-kind n m i j s e))
+        (subst (λ (rs : List Rec). Answered most (demand.kind (i + 256 * j) ∷ headersFrom (n + 256 * m) s) (linesAfter did σ room rs)) (sym (recs-kind n m i j s e))
         (next refl (law .numbered σ room (i + 256 * j) _) (rest _ _)))
     four σ room n m i j s rest false e =
-        rw e (subst (λ (rs : List Rec). Answered (demand.cut ∷ []) (linesAfter did σ room rs)) (sym (recs-cut n m i j s e)) (cut-answered σ room))
+        rw e (subst (λ (rs : List Rec). Answered most (demand.cut ∷ []) (linesAfter did σ room rs)) (sym (recs-cut n m i j s e)) (cut-answered σ room))
 
-    answered : (σ : S) (room k : ℕ) (s : List ℕ) → Answered (headersFrom k s) (linesAfter did σ room (recsFrom k s))
+    answered : (σ : S) (room k : ℕ) (s : List ℕ) → Answered most (headersFrom k s) (linesAfter did σ room (recsFrom k s))
     unfolding recOf sizeOf wholeOf
     answered σ room zero [] = none
     answered σ room (suc k) [] = none
@@ -134,10 +134,10 @@ module _ {S : Type 0} (did : S → ℕ → Rec → Did S) (start : S) where
     answered σ room zero (n ∷ m ∷ i ∷ []) = cut-answered σ room
     answered σ room zero (n ∷ m ∷ i ∷ j ∷ s) = four σ room n m i j s (λ τ left. answered τ left (n + 256 * m) s) (leb (n + 256 * m) (length s)) refl
 
-    pub run-sound : Demand1 did start
+    pub run-sound : Demand1 most did start
     run-sound = record {
       answers = λ c w.
-          let h : Answered (headersOf (c .bytes)) (linesAfter did start (length (c .room)) (recsOf (c .bytes))) = answered start (length (c .room)) 0 (c .bytes) in
+          let h : Answered most (headersOf (c .bytes)) (linesAfter did start (length (c .room)) (recsOf (c .bytes))) = answered start (length (c .room)) 0 (c .bytes) in
           record { told = tells did start w; count = running did start w .lines ∙ answered-length _ _ h; answered = h };
       refusals = λ c w r l a b t other.
           let e = exact w t in

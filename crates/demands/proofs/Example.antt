@@ -2,10 +2,9 @@
 use mathlib.Core.Path.{_≡_, refl, ap}
 use mathlib.Core.Bool.{true}
 use mathlib.Core.List.{List, [], _∷_, _++_}
-use Prim.Native.Nat.{ℕ, _+_, _/_, _≤_}
+use Prim.Native.Nat.{ℕ, _+_, _≤_}
 use native.Mathlib.Omega.{arith}
 use lib.ListN.{length, getD, take, replicate, length-take}
-use Rattle.parts.specs.Parts.{put}
 use Rattle.crc.specs.Crc as crc
 use Rattle.meter.specs.State.{poweredOf}
 use Rattle.meter.specs.Convert.{flowedOf, convertOf}
@@ -18,82 +17,43 @@ use Rattle.gauge.specs.Gauge.{conversionOf, powerOnOf, writtenOf, copiedOf}
 use Rattle.replies.specs.Reply.{readByte, selectedOf, sourceByte}
 use Rattle.gauge.specs.Act.{ranOf, actOf, replyOf}
 use Rattle.pack.specs.Image.{imageOf}
-use Rattle.events.specs.Image.{imageSize}
-use Rattle.events.specs.Record.{kindOf, addressedOf, orderedOf, judgedOf, takenOf}
+use Rattle.events.specs.Image.{imageSize, imageAddress}
+use Rattle.events.specs.Record.{kindOf, addressedOf, orderedOf, judgedAmong, takenOf}
 use Rattle.programming.specs.declared.Written.the-variants as Written
 use Rattle.programming.specs.Programming.{programmingOf, answerOf, Granted}
 use Rattle.runs.specs.declared.Outcome.the-variants.{Done}
-use Rattle.runs.specs.Record.{Rec, whole, cut, wholeOf, recOf, sizeOf, recsOf, recordOf}
-use Rattle.runs.specs.Run.{Line, linesAfter, endAfter, repliesOf, codesOf}
-use Rattle.runs.proofs.Ends.{within-done}
+use Rattle.runs.specs.Record.{Rec, whole, wholeOf, recOf, sizeOf, recsOf}
+use Rattle.runs.specs.Run.{Line}
 use Rattle.steps.specs.declared.Session.{Session}
 use Rattle.steps.specs.Step.{didOf}
 use Rattle.records.specs.Run.{emptyOf, sessionOf, takeOutNumber, takeOutRoom}
-use Rattle.demands.specs.Call.{Call, Within, firstOf, Stopped}
-use Rattle.demands.specs.Demand2.{Carried, PoweredOn, eepromBreaks, Crossed, AnswersImage}
+use Rattle.demands.specs.Call.{Call, Within}
+use Rattle.demands.specs.Demand2.{Fresh, eepromBreaks, Crossed, AnswersImage, Carried, PowersOn}
 use Rattle.demands.specs.Sections.{last, more}
-use Rattle.demands.specs.Class.{blockOf, touchedOf, labelsOf, touchedClass}
+use Rattle.demands.specs.Class.{blockOf, touchedOf, labelsOf, touchedClass, sessionAsked}
 use Rattle.demands.specs.Demand3.{asksAll, Starts, Demand3Met}
 use Rattle.demands.specs.Programming.{Bench}
-use Rattle.demands.proofs.Moments.{first-length}
+use Rattle.demands.proofs.Called.{packed, called, called-within}
 use Rattle.demands.proofs.Demand2.{demand-2}
 
--- Any session within the limits has a call, and so has each of its moments
-
--- what the contract of `run` says of any session that it runs
-abbrev pub called : List ℕ → List ℕ → List ℕ → Call Session
-called s room answers = record {
-  bytes = s;
-  room = room;
-  answers = answers;
-  ran = record {
-    outcome = Done;
-    state = endAfter didOf emptyOf (length room) (recsOf s);
-    lines = length (linesAfter didOf emptyOf (length room) (recsOf s));
-    replied = length (repliesOf (linesAfter didOf emptyOf (length room) (recsOf s)));
-  };
-  replies = put room 0 (repliesOf (linesAfter didOf emptyOf (length room) (recsOf s)));
-  told = put answers 0 (codesOf (linesAfter didOf emptyOf (length room) (recsOf s)));
-}
-
-pub called-within : (s room answers : List ℕ) → length s ≤ 32768 → (length s + 3) / 4 ≤ length answers → Within didOf emptyOf (called s room answers)
-called-within s room answers short lent = record {
-  allowed =
-      rw (within-done (length s) (length answers) short lent)
-      (record { number = refl; outcome = refl; state = refl; lines = refl; replied = refl; replies = refl; answered = refl });
-  short = short;
-  lent = lent;
-}
-
-pub called-stopped : (n : ℕ) (c : Call Session) → Within didOf emptyOf c → Stopped didOf emptyOf n c (called (firstOf n (c .bytes)) (c .room) (c .answers))
-called-stopped n c w =
-    let e = first-length n (c .bytes) in
-    record {
-      allowed = called-within (firstOf n (c .bytes)) (c .room) (c .answers) (omega (arith, w .short)) (omega (arith, w .lent)) .allowed;
-      bytes = refl;
-      room = refl;
-      answers = refl;
-    }
-
--- and an image can be taken out of the state that is left, and given to a fresh gauge
+-- An image can be taken out of the state that is left, and given to a fresh gauge
 module _ (d : Call Session) (w : Within didOf emptyOf d) (loaded : d .ran .state .loaded ≡ true) (room : List ℕ) (fits : imageSize ≤ length room) where
   abbrev after : List ℕ
   after = takeOutRoom (d .ran .state) room
 
   abbrev fresh : Call Session
-  fresh = called (imageSize ∷ 0 ∷ 1 ∷ 0 ∷ take imageSize after) [] (replicate 16 0)
+  fresh = called didOf emptyOf (imageSize ∷ 0 ∷ 1 ∷ 0 ∷ take imageSize after) [] (replicate 16 0)
 
-  pub called-carried : Carried d room (takeOutNumber (d .ran .state) room) after fresh
-  called-carried = record {
-    run = w;
-    loaded = loaded;
-    fits = fits;
-    out = record { number = refl; written = refl };
-    fresh =
-        called-within (imageSize ∷ 0 ∷ 1 ∷ 0 ∷ take imageSize after) [] (replicate 16 0)
-        (omega (arith, length-take imageSize after)) (omega (arith, length-take imageSize after));
-    image = refl;
-  }
+  pub called-carried : Carried d room (takeOutNumber (d .ran .state) room) after × Fresh after fresh
+  called-carried = (
+    record { run = w; loaded = loaded; fits = fits; out = record { number = refl; written = refl } },
+    record {
+      run =
+          called-within didOf emptyOf (imageSize ∷ 0 ∷ 1 ∷ 0 ∷ take imageSize after) [] (replicate 16 0)
+          (omega (arith, length-take imageSize after)) (omega (arith, length-take imageSize after));
+      image = refl;
+    },
+  )
 
 -- The example that 01 prints: a power-on before an image, an unknown kind, and a record that is cut
 
@@ -135,30 +95,24 @@ ones = writing ∷ copying ∷ converting ∷ power-on ∷ reading ∷ convertin
 abbrev others : List Rec
 others = converting ∷ writing ∷ copying ∷ power-on ∷ converting ∷ reading ∷ measuring ∷ []
 
--- the bytes of records
-abbrev packed : List Rec → List ℕ
-packed [] = []
-packed (whole kind p ∷ rs) = recordOf kind p ++ packed rs
-packed (cut ∷ rs) = []
-
 -- a session of the image and then these, run with 4 bytes of reply room
 abbrev call : List Rec → Call Session
-call rs = called (packed (whole 1 image ∷ rs)) (replicate 4 0) (replicate 32 0)
+call rs = called didOf emptyOf (packed (whole 1 image ∷ rs)) (replicate 4 0) (replicate 32 0)
 
 call-within : (rs : List Rec) → length (packed (whole 1 image ∷ rs)) ≤ 128 → Within didOf emptyOf (call rs)
-call-within rs short = called-within (packed (whole 1 image ∷ rs)) (replicate 4 0) (replicate 32 0) (omega arith) (omega arith)
+call-within rs short = called-within didOf emptyOf (packed (whole 1 image ∷ rs)) (replicate 4 0) (replicate 32 0) (omega arith) (omega arith)
 
-call-starts : (rs : List Rec) → length (packed (whole 1 image ∷ rs)) ≤ 128 → asksAll rs ≤ 4
-    → recsOf (packed (whole 1 image ∷ rs)) ≡ whole 1 image ∷ rs → Starts image rs (call rs)
+call-starts : (rs : List Rec) → length (packed (whole 1 image ∷ rs)) ≤ 128 → asksAll sessionAsked rs ≤ 4
+    → recsOf (packed (whole 1 image ∷ rs)) ≡ whole 1 image ∷ rs → Starts didOf emptyOf sessionAsked (selectedOf (imageAddress image)) (whole 1 image ∷ []) rs (call rs)
 call-starts rs short asks holds = record {
   within = call-within rs short;
   first = holds;
-  asked = asks;
+  room = asks;
 }
 
 -- THE HYPOTHESIS OF DEMAND 3 CAN BE MET
 pub demand-3-met : Demand3Met
-unfolding recOf sizeOf wholeOf takenOf kindOf judgedOf addressedOf orderedOf crc.bitOf crc.eightOf crc.nextOf
+unfolding recOf sizeOf wholeOf takenOf kindOf judgedAmong addressedOf orderedOf crc.bitOf crc.eightOf crc.nextOf
     askedOf askedAt romBy commandOf touchedClass labelsOf touchedOf selectedOf inLabel blockOf
 demand-3-met = record {
   image = image;
@@ -166,8 +120,8 @@ demand-3-met = record {
   others = others;
   one = call ones;
   other = call others;
+  accepted = refl;
   mixed = record {
-    accepted = refl;
     one = call-starts ones (omega arith) (omega arith) refl;
     other = call-starts others (omega arith) (omega arith) refl;
     sections =
@@ -182,7 +136,7 @@ demand-3-met = record {
 -- and their events do something: after the power-on the label that was written and copied is read back, and so is CURRENT
 pub answers : sessionOf (call ones .bytes) 4
     ≡ line 1 0 [] ∷ line 4 0 [] ∷ line 4 0 [] ∷ line 3 0 [] ∷ line 5 0 [] ∷ line 4 0 (0x5a ∷ 0xa5 ∷ []) ∷ line 3 0 [] ∷ line 4 0 (0xfc ∷ 0x18 ∷ []) ∷ []
-unfolding sessionOf recOf sizeOf wholeOf didOf takenOf kindOf judgedOf addressedOf orderedOf crc.bitOf crc.eightOf crc.nextOf
+unfolding sessionOf recOf sizeOf wholeOf didOf takenOf kindOf judgedAmong addressedOf orderedOf crc.bitOf crc.eightOf crc.nextOf
     imageOf poweredOf conversionOf convertOf flowedOf powerOnOf
     askedOf askedAt romBy commandOf selectedOf actOf ranOf writtenOf labelWrittenOf laidOf meterWrittenOf blockWrittenOf copiedOf labelCopiedOf meterCopiedOf blockCopiedOf
     replyOf sourceByte readByte inLabel inBlock labelByte meterByte registersOf
@@ -190,31 +144,35 @@ answers = refl
 
 -- the image that the first of them leaves can be taken out, and a power-on can follow it
 pub loads : call ones .ran .state .loaded ≡ true
-unfolding recOf sizeOf wholeOf didOf takenOf kindOf judgedOf addressedOf orderedOf crc.bitOf crc.eightOf crc.nextOf
+unfolding recOf sizeOf wholeOf didOf takenOf kindOf judgedAmong addressedOf orderedOf crc.bitOf crc.eightOf crc.nextOf
     askedOf askedAt romBy commandOf replyOf
 loads = refl
 
-pub powers-on : PoweredOn (call ones) (call (ones ++ (power-on ∷ [])))
-unfolding recOf sizeOf wholeOf
-powers-on = record { run = call-within (ones ++ (power-on ∷ [])) (omega arith); room = refl; last = refl }
+abbrev longer : Call Session
+longer = call (ones ++ (power-on ∷ []))
+
+pub powers-on : PowersOn (call ones) (longer .ran .state .gauge)
+unfolding recOf sizeOf wholeOf didOf takenOf kindOf judgedAmong addressedOf orderedOf crc.bitOf crc.eightOf crc.nextOf
+    askedOf askedAt romBy commandOf replyOf
+powers-on = record { longer = longer; run = call-within (ones ++ (power-on ∷ [])) (omega arith); room = refl; last = refl; leaves = refl }
 
 -- that image has its breakpoints in order; one that is taken out after TBP34 was written below TBP23, and copied, has not, and is refused
 abbrev crossing : List Rec
 crossing = whole 4 (0 ∷ 0xcc ∷ 0x6c ∷ 0x7c ∷ 0xff ∷ []) ∷ whole 4 (0 ∷ 0xcc ∷ 0x48 ∷ 0x7c ∷ []) ∷ []
 
-pub in-order : orderedOf (eepromBreaks (call ones)) ≡ true
-unfolding recOf sizeOf wholeOf didOf takenOf kindOf judgedOf addressedOf orderedOf crc.bitOf crc.eightOf crc.nextOf
+pub in-order : orderedOf (eepromBreaks (call ones .ran .state .gauge)) ≡ true
+unfolding recOf sizeOf wholeOf didOf takenOf kindOf judgedAmong addressedOf orderedOf crc.bitOf crc.eightOf crc.nextOf
     imageOf poweredOf conversionOf convertOf flowedOf powerOnOf
     askedOf askedAt romBy commandOf selectedOf actOf ranOf writtenOf meterWrittenOf blockWrittenOf laidOf copiedOf meterCopiedOf blockCopiedOf replyOf inLabel inBlock
 in-order = refl
 
-pub crosses : (call crossing .ran .state .loaded ≡ true) × Crossed (call crossing)
-unfolding recOf sizeOf wholeOf didOf takenOf kindOf judgedOf addressedOf orderedOf crc.bitOf crc.eightOf crc.nextOf
+pub crosses : (call crossing .ran .state .loaded ≡ true) × Crossed (call crossing .ran .state .gauge)
+unfolding recOf sizeOf wholeOf didOf takenOf kindOf judgedAmong addressedOf orderedOf crc.bitOf crc.eightOf crc.nextOf
     imageOf poweredOf askedOf askedAt romBy commandOf selectedOf actOf ranOf writtenOf meterWrittenOf blockWrittenOf laidOf copiedOf meterCopiedOf blockCopiedOf replyOf inLabel inBlock
 crosses = (refl, refl)
 
-pub image-declined : (room : List ℕ) (answer : ℕ) (after : List ℕ) (e : Call Session) → Carried (call crossing) room answer after e → AnswersImage e 10
-image-declined room answer after e k = demand-2 .images _ room answer after e k .declined (crosses .1) .refused
+pub image-declined : (room : List ℕ) (answer : ℕ) (after : List ℕ) (e : Call Session) → Carried (call crossing) room answer after → Fresh after e → AnswersImage e 10
+image-declined room answer after e k f = demand-2 .images _ room answer after k .1 e f .declined (crosses .1) .refused
 
 -- A session that is written at the bench
 
@@ -223,18 +181,18 @@ abbrev wanted : List ℕ
 wanted = replicate 31 0x28 ++ (0x5a ∷ [])
 
 abbrev programmed : Call Session
-programmed = called (programmingOf image wanted) (replicate 32 0) (replicate 30 0)
+programmed = called didOf emptyOf (programmingOf image wanted) (replicate 32 0) (replicate 30 0)
 
 -- THE HYPOTHESES OF THE THEOREM ON PROGRAMMING CAN BE MET
 pub granted-met : Granted image wanted 120
-unfolding judgedOf addressedOf orderedOf crc.bitOf crc.eightOf crc.nextOf
+unfolding judgedAmong addressedOf orderedOf crc.bitOf crc.eightOf crc.nextOf
 granted-met = record { accepted = refl; all = refl; unlocked = refl; fits = omega arith }
 
 pub bench-met : Bench image wanted (replicate 120 0) Written.Done (programmingOf image wanted) programmed
-unfolding answerOf judgedOf addressedOf orderedOf crc.bitOf crc.eightOf crc.nextOf
+unfolding answerOf judgedAmong addressedOf orderedOf crc.bitOf crc.eightOf crc.nextOf
 bench-met = record {
   wrote = record { number = refl; answer = refl; written = refl };
   session = refl;
-  run = called-within (programmingOf image wanted) (replicate 32 0) (replicate 30 0) (omega arith) (omega arith) .allowed;
+  run = called-within didOf emptyOf (programmingOf image wanted) (replicate 32 0) (replicate 30 0) (omega arith) (omega arith) .allowed;
   lent = omega arith;
 }

@@ -192,7 +192,7 @@ module _ (c : Common) where
 -- A record, of a class that is judged by the gauge's own address
 
 module _ (c : Common) where
-  transact-class : {k : Class} (p : List ℕ) (t : Transaction) → takenClass (c .address) p (Run (Transact t)) ≡ k
+  transact-class : {k : Class} (p : List ℕ) (t : Transaction) → takenClass (selectedOf (c .address)) p (Run (Transact t)) ≡ k
       → touchedClass (t .command)
       (pick (selectedOf (c .address) t (masterOf t p)) (touchedBy (t .command) (t .address) (t .count) (length (drop (t .from) (masterOf t p)))) [])
       ≡ k
@@ -205,7 +205,7 @@ module _ (c : Common) where
   no-label (change.Sample raw tick) e = contrary cc
   no-label change.PowerOn e = contrary cc
 
-  label-taken : (l : Label) (p : List ℕ) (t : Taken) → takenClass (c .address) p t ≡ labelling
+  pub label-taken : (l : Label) (p : List ℕ) (t : Taken) → takenClass (selectedOf (c .address)) p t ≡ labelling
       → Form (labelled c) l (timedDid p t)
   label-taken l p (Run Image) e = contrary cc
   label-taken l p (Run (Changed x)) e = no-label x e
@@ -232,7 +232,7 @@ module _ (c : Common) where
   change-form m p (change.Sample raw tick) e = same-form (λ l. refl) (sample-form m p raw tick (timelyOf (m .flow .tick) tick))
   change-form m p change.PowerOn e = contrary cc
 
-  gauge-taken : (m : Meter) (p : List ℕ) (t : Taken) → takenClass (c .address) p t ≡ gauging
+  pub gauge-taken : (m : Meter) (p : List ℕ) (t : Taken) → takenClass (selectedOf (c .address)) p t ≡ gauging
       → Form (metered c) m (timedDid p t)
   gauge-taken m p (Run Image) e = contrary cc
   gauge-taken m p (Run (Changed x)) e = change-form m p x e
@@ -243,7 +243,7 @@ module _ (c : Common) where
 
   -- a cut record is a fence
   free-form : {A B : Type 0} {make : A → B → Gauge} {x : A} (k : Class) → (fence ≡ k → ⊥)
-      → ((p : List ℕ) (t : Taken) → takenClass (c .address) p t ≡ k → Form make x (timedDid p t))
+      → ((p : List ℕ) (t : Taken) → takenClass (selectedOf (c .address)) p t ≡ k → Form make x (timedDid p t))
       → (r : Rec) → classOf (c .address) r ≡ k → Form make x (λ g. freeOf g r)
   free-form k none taken (whole kind p) e = taken p (takenOf kind true p) e
   free-form k none taken cut e = absurd (none e)

@@ -12,12 +12,20 @@ use Rattle.records.proofs.take_out
 use Rattle.programming.specs.Programming.{Programming}
 use Rattle.programming.proofs.write
 use Rattle.demands.specs.Call.{Call, Allowed}
-use Rattle.demands.specs.Demand1.{Demand1}
-use Rattle.demands.specs.Demand2.{Demand2}
-use Rattle.demands.specs.Demand3.{Demand3}
-use Rattle.demands.proofs.Demand1.{demand-1}
-use Rattle.demands.proofs.Demand2.{demand-2}
+use Rattle.demands.specs.Demand1.{sessionMost, trayMost, Demand1}
+use Rattle.demands.specs.Demand2.{Demand2, TrayDemand2}
+use Rattle.demands.specs.Demand3.{Demand3, TrayDemand3}
+use Rattle.demands.specs.Alone.{Alone}
+use Rattle.demands.specs.Slots.{SlotsAsOld}
+use Rattle.demands.specs.Isolation.{Isolation}
+use Rattle.slots.specs.Tray.{emptyTray, trayDid}
+use Rattle.demands.proofs.Demand1.{demand-1, tray-demand-1}
+use Rattle.demands.proofs.Demand2.{demand-2, tray-demand-2}
 use Rattle.demands.proofs.Demand3.{demand-3}
+use Rattle.demands.proofs.TrayDemand3.{tray-demand-3}
+use Rattle.demands.proofs.Alone.{alone}
+use Rattle.demands.proofs.Slots.{slots-as-old}
+use Rattle.demands.proofs.Isolation.{isolation}
 
 module _ (κs : Lfts (run.ended .signature .lifetimes)) (a : Args (run.ended .signature) κs) (r : Res (run.ended .signature) κs) (w : Lasts run.ended κs a) where
   -- what was passed and lent, what came back, and what room and answers hold at the end
@@ -49,5 +57,9 @@ pub write-wrote : (κs : Lfts (write.ended .signature .lifetimes)) (a : Args (wr
     → write.Reads.Learnt κs a r (atExit write.ended κs a w) → Programming (now (a .0)) (now (a .1 .0)) (now (a .1 .1 .0)) r (w .1 .1 .0)
 write-wrote κs a r w h = h
 
-pub demands : Demand1 didOf emptyOf × Demand2 × Demand3
+pub demands : Demand1 sessionMost didOf emptyOf × Demand2 × Demand3
 demands = (demand-1, demand-2, demand-3)
+
+-- and of trays
+pub tray-demands : Demand1 trayMost trayDid emptyTray × TrayDemand2 × TrayDemand3 × SlotsAsOld × Alone × Isolation
+tray-demands = (tray-demand-1, tray-demand-2, tray-demand-3, slots-as-old, alone, isolation)

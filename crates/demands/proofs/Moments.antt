@@ -71,7 +71,7 @@ module _ {S : Type 0} (did : S → ℕ → Rec → Did S) where
   abbrev pub leftOf : S → ℕ → List Rec → ℕ
   leftOf σ room rs = room - length (repliesOf (linesAfter did σ room rs))
 
-  left-cons : (σ : S) (room : ℕ) (r : Rec) (rs : List Rec)
+  pub left-cons : (σ : S) (room : ℕ) (r : Rec) (rs : List Rec)
       → leftOf (did σ room r .state) (room - length (did σ room r .reply)) rs ≡ leftOf σ room (r ∷ rs)
   left-cons σ room r rs =
       let d = did σ room r in

@@ -1,40 +1,36 @@
 -- What is taken comes at its time; so once an image was accepted, the gauge of a session is one that events reach from it.
 use mathlib.Core.Path.{_≡_}
-use mathlib.Core.Bool.{true}
+use mathlib.Core.Bool.{true, false}
 use mathlib.Core.List.{List, [], _∷_}
 use Prim.Native.Nat.{ℕ, _-_}
-use lib.Dec.{ltb}
 use lib.ListN.{length}
-use Rattle.numbers.proofs.Bounds.{picked}
 use Rattle.pack.specs.Reach.{Reached, accepted, changed, acted-on}
 use Rattle.events.specs.declared.Event.the-variants.{Image, Change, Transact}
 use Rattle.events.specs.declared.Taken.{Taken}
 use Rattle.events.specs.declared.Taken.the-variants.{Run, Refused}
-use Rattle.events.specs.Record.{masterOf, takenOf, timedOf, asksOf, fittedOf}
+use Rattle.events.specs.Record.{masterOf, takenOf, timedOf}
 use Rattle.events.proofs.Fits.{Taking, timed-taking}
 use Rattle.runs.specs.Record.{Rec, whole, cut}
 use Rattle.runs.specs.Run.{endAfter}
 use Rattle.steps.specs.declared.Session.{Session}
 use Rattle.steps.specs.Step.{lastTick, takenDid, didOf}
+use Rattle.demands.proofs.Fitted.{fitted-has}
 
 abbrev pub Loaded : Session → Type 0
 Loaded σ = σ .loaded ≡ true → Reached (σ .gauge)
 
 module _ (σ : Session) (room : ℕ) (g : Loaded σ) where
-  taken-reached : (p : List ℕ) (t : Taken) → Taking (σ .loaded) p t → Loaded (takenDid σ p t .state)
+  taken-reached : (p : List ℕ) (t : Taken) → Taking false (σ .loaded) p t → Loaded (takenDid σ p t .state)
   taken-reached p (Run Image) h = λ e. accepted p (h .1)
   taken-reached p (Run (Change c)) h = λ e. changed (σ .gauge) c (g h)
   taken-reached p (Run (Transact t)) h = λ e. acted-on (σ .gauge) t (masterOf t p) (g (h .0))
   taken-reached p (Refused r) h = g
 
-  fitted-reached : (p : List ℕ) (t : Taken) → Taking (σ .loaded) p t → Loaded (takenDid σ p (fittedOf room t) .state)
-  fitted-reached p (Run e) h =
-      picked (λ (t : Taken). Loaded (takenDid σ p t .state)) (ltb room (asksOf e)) _ _ (λ full. g) (λ fits. taken-reached p (Run e) h)
-  fitted-reached p (Refused r) h = g
-
   did-reached : (r : Rec) → Loaded (didOf σ room r .state)
   unfolding didOf
-  did-reached (whole kind p) = fitted-reached p (timedOf (lastTick σ) (takenOf kind (σ .loaded) p)) (timed-taking (σ .loaded) p (lastTick σ) kind)
+  did-reached (whole kind p) =
+      let t = timedOf (lastTick σ) (takenOf kind (σ .loaded) p) in
+      fitted-has (λ x. Loaded (takenDid σ p x .state)) g room t (taken-reached p t (timed-taking (σ .loaded) p (lastTick σ) kind))
   did-reached cut = g
 
 pub end-reached : (σ : Session) (room : ℕ) (rs : List Rec) → Loaded σ → Loaded (endAfter didOf σ room rs)

@@ -19,6 +19,7 @@ use Rattle.runs.specs.Run.{Did, silently, Line, lineOf, linesAfter, endAfter}
 use Rattle.steps.specs.declared.Session.{Session}
 use Rattle.steps.specs.Step.{loadedWith, lastTick, takenDid, didOf}
 use Rattle.steps.proofs.Steps.{reply-length}
+use Rattle.demands.specs.Class.{sessionAsked}
 use Rattle.demands.specs.Demand3.{takenAsks, recAsks, asksAll}
 use Rattle.demands.proofs.Mix.{endFrom, gotFrom}
 use Rattle.demands.proofs.Address.{Stays, taken-stays}
@@ -33,17 +34,17 @@ abbrev pub freeOf : Gauge → Rec → Did Session
 freeOf g (whole kind p) = timedDid p (takenOf kind true p) g
 freeOf g cut = silently (loadedWith g) 2
 
-taken-room : (room : ℕ) (t : Taken) → takenAsks t ≤ room → fittedOf room t ≡ t
+pub taken-room : (room : ℕ) (t : Taken) → takenAsks t ≤ room → fittedOf room t ≡ t
 taken-room room (Run e) h = rw (le-ltb room (asksOf e) h) refl
 taken-room room (Refused r) h = refl
 
-timed-asks : (last : Tick) (t : Taken) → takenAsks (timedOf last t) ≡ takenAsks t
+pub timed-asks : (last : Tick) (t : Taken) → takenAsks (timedOf last t) ≡ takenAsks t
 timed-asks last (Run Image) = refl
 timed-asks last (Run (Change c)) = picked (λ (t : Taken). takenAsks t ≡ 0) (changeTimely last c) _ _ (λ timely. refl) (λ other. refl)
 timed-asks last (Run (Transact t)) = refl
 timed-asks last (Refused r) = refl
 
-did-room : (g : Gauge) (room : ℕ) (r : Rec) → recAsks r ≤ room → didOf (loadedWith g) room r ≡ freeOf g r
+did-room : (g : Gauge) (room : ℕ) (r : Rec) → recAsks sessionAsked r ≤ room → didOf (loadedWith g) room r ≡ freeOf g r
 unfolding didOf
 did-room g room (whole kind p) h =
     let t = timedOf (lastTick (loadedWith g)) (takenOf kind true p) in
@@ -56,7 +57,7 @@ taken-reply g p (Run (Change c)) = refl
 taken-reply g p (Run (Transact t)) = reply-length g t (masterOf t p)
 taken-reply g p (Refused r) = refl
 
-free-reply : (g : Gauge) (r : Rec) → length (freeOf g r .reply) ≡ recAsks r
+free-reply : (g : Gauge) (r : Rec) → length (freeOf g r .reply) ≡ recAsks sessionAsked r
 free-reply g (whole kind p) =
     let last = lastTick (loadedWith g) in
     taken-reply g p (timedOf last (takenOf kind true p)) ∙ timed-asks last (takenOf kind true p)
@@ -82,7 +83,7 @@ pub record Free (g : Gauge) (room : ℕ) (rs : List Rec) : Type 0 where
   pub end : endAfter didOf (loadedWith g) room rs ≡ loadedWith (endFrom step out g rs)
   pub got : zip rs (linesAfter didOf (loadedWith g) room rs) ≡ gotFrom step out g rs
 
-pub free : (g : Gauge) (room : ℕ) (rs : List Rec) → asksAll rs ≤ room → Free g room rs
+pub free : (g : Gauge) (room : ℕ) (rs : List Rec) → asksAll sessionAsked rs ≤ room → Free g room rs
 unfolding zip zipWith
 free g room [] h = record { end = refl; got = refl }
 free g room (r ∷ rs) h =

@@ -1,5 +1,5 @@
--- "Three classes" of document 01, of a record in a session whose image was accepted. A class looks at the record and at the net address, and
--- at nothing else.
+-- "Three classes" of document 01, of a record in a session whose image was accepted, and in a tray whose images were. A class looks at the
+-- record and at the net addresses, and at nothing else.
 use mathlib.Core.Bool.{Bool, true, false, not}
 use mathlib.Core.List.{List, [], _∷_}
 use Prim.Native.Nat.{ℕ, zero, suc, _+_}
@@ -19,6 +19,8 @@ use Rattle.events.specs.declared.Taken.{Taken}
 use Rattle.events.specs.declared.Taken.the-variants.{Run, Refused}
 use Rattle.runs.specs.Record.{Rec, whole, cut}
 use Rattle.events.specs.Record.{refusalNumber, masterOf, takenOf}
+use Rattle.ticks.specs.Ticks.{noTick}
+use Rattle.slots.specs.Tray.{trayAskedAt}
 use Rattle.demands.specs.Sections.{Class, labelling, gauging, fence}
 
 -- ---- what a transaction touches
@@ -42,10 +44,14 @@ touchedBy Recall a count bytes = blockOf a
 touchedBy Lock a count bytes = blockOf a
 touchedBy Nothing a count bytes = []
 
+-- whether a transaction of these master bytes selects a pack
+abbrev pub Selects : Type 0
+Selects = Transaction → List ℕ → Bool
+
 -- "an unselected transaction, a net address read .. touches none"
-unfoldable pub touchedOf : List ℕ → Transaction → List ℕ → List ℕ
-touchedOf address t master =
-    pick (selectedOf address t master)
+unfoldable pub touchedOf : Selects → Transaction → List ℕ → List ℕ
+touchedOf selects t master =
+    pick (selects t master)
     (touchedBy (t .command) (t .address) (t .count) (length (drop (t .from) master)))
     []
 
@@ -88,20 +94,42 @@ changeClass (change.Conversion raw) = gauging
 changeClass (change.Sample raw tick) = gauging
 changeClass change.PowerOn = fence
 
-abbrev pub eventClass : List ℕ → List ℕ → Event → Class
-eventClass address p event.Image = fence
-eventClass address p (event.Change c) = changeClass c
-eventClass address p (event.Transact t) = touchedClass (t .command) (touchedOf address t (masterOf t p))
+abbrev pub eventClass : Selects → List ℕ → Event → Class
+eventClass selects p event.Image = fence
+eventClass selects p (event.Change c) = changeClass c
+eventClass selects p (event.Transact t) = touchedClass (t .command) (touchedOf selects t (masterOf t p))
 
 -- "Gauge event: .. a record refused with 3, 4 or 8"
 abbrev pub refusedClass : ℕ → Class
 refusedClass n = pick (either (eqb n 3) (either (eqb n 4) (eqb n 8))) gauging fence
 
-abbrev pub takenClass : List ℕ → List ℕ → Taken → Class
-takenClass address p (Run e) = eventClass address p e
-takenClass address p (Refused r) = refusedClass (refusalNumber r)
+abbrev pub takenClass : Selects → List ℕ → Taken → Class
+takenClass selects p (Run e) = eventClass selects p e
+takenClass selects p (Refused r) = refusedClass (refusalNumber r)
 
--- a cut record is answered with 2 and so is a fence. The accepted image itself is one too, though it is judged here as one that comes after
+-- by what a record of a kind and a payload asks. A cut record is answered with 2 and so is a fence
+abbrev pub classBy : (ℕ → List ℕ → Taken) → Selects → Rec → Class
+classBy asked selects (whole kind p) = takenClass selects p (asked kind p)
+classBy asked selects cut = fence
+
+-- ---- in a session: the image was accepted. It is a fence too, though it is judged here as one that comes after
+
+abbrev pub sessionAsked : ℕ → List ℕ → Taken
+sessionAsked kind p = takenOf kind true p
+
 abbrev pub classOf : List ℕ → Rec → Class
-classOf address (whole kind p) = takenClass address p (takenOf kind true p)
-classOf address cut = fence
+classOf address = classBy sessionAsked (selectedOf address)
+
+-- ---- in a tray: as many images were accepted as there are addresses, and the opening is closed
+
+-- a sample is judged as the first, so that none is refused with 11
+abbrev pub trayAsked : ℕ → ℕ → List ℕ → Taken
+trayAsked count kind p = trayAskedAt count true false noTick kind p
+
+-- "class is judged by the packs selected": the matched one, or all with CCh
+abbrev pub someSelected : List (List ℕ) → Selects
+someSelected [] t master = false
+someSelected (address ∷ rest) t master = either (selectedOf address t master) (someSelected rest t master)
+
+abbrev pub trayClass : List (List ℕ) → Rec → Class
+trayClass addresses = classBy (trayAsked (length addresses)) (someSelected addresses)

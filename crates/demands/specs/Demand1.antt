@@ -38,16 +38,22 @@ headersFrom zero (n ∷ m ∷ i ∷ j ∷ s) =
 abbrev pub headersOf : List ℕ → List Header
 headersOf s = headersFrom 0 s
 
--- "done", or one of 3 to 11, after which "the next record is taken"
-abbrev pub Numbered : ℕ → Type 0
-Numbered answer = (answer ≡ 0) ⊎ ((3 ≤ answer) × (answer ≤ 11))
+-- "done", or one of 3 to the highest number, which is 11 of a session and 12 of a tray, after which "the next record is taken"
+abbrev pub Numbered : ℕ → ℕ → Type 0
+Numbered most answer = (answer ≡ 0) ⊎ ((3 ≤ answer) × (answer ≤ most))
+
+abbrev pub sessionMost : ℕ
+sessionMost = 11
+
+abbrev pub trayMost : ℕ
+trayMost = 12
 
 -- one line for each header, in order. After 2 "the session stops"; 1 is the answer of no record; "an empty session has no answers"
-pub data Answered : List Header → List Line → Type 0 where
-  none : Answered [] []
-  stops : {l : Line} → l .answer ≡ 2 → Answered (cut ∷ []) (l ∷ [])
-  next : {k : ℕ} {l : Line} {hs : List Header} {ls : List Line} → l .kind ≡ k → Numbered (l .answer) → Answered hs ls
-      → Answered (kind k ∷ hs) (l ∷ ls)
+pub data Answered (most : ℕ) : List Header → List Line → Type 0 where
+  none : Answered most [] []
+  stops : {l : Line} → l .answer ≡ 2 → Answered most (cut ∷ []) (l ∷ [])
+  next : {k : ℕ} {l : Line} {hs : List Header} {ls : List Line} → l .kind ≡ k → Numbered most (l .answer) → Answered most hs ls
+      → Answered most (kind k ∷ hs) (l ∷ ls)
 
 -- ---- "changes neither the gauge nor the reply room": the state, what the room holds, and where in it the next reply starts
 
@@ -56,12 +62,12 @@ pub record Unchanged {S : Type 0} (a b : Call S) : Type 0 where
   pub room : b .replies ≡ a .replies
   pub next : b .ran .replied ≡ a .ran .replied
 
-module _ {S : Type 0} (did : S → ℕ → Rec → Did S) (start : S) where
+module _ (most : ℕ) {S : Type 0} (did : S → ℕ → Rec → Did S) (start : S) where
   -- room and answers hold these lines
   pub record Sound (c : Call S) : Type 0 where
     pub told : Told did start c
     pub count : c .ran .lines ≡ length (headersOf (c .bytes))
-    pub answered : Answered (headersOf (c .bytes)) (linesIn did start c)
+    pub answered : Answered most (headersOf (c .bytes)) (linesIn did start c)
 
   -- ---- the demand
 

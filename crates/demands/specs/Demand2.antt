@@ -8,11 +8,12 @@
 use mathlib.Core.Path.{_≡_}
 use mathlib.Core.Bool.{true, false}
 use mathlib.Core.List.{List, [], _∷_, _++_}
-use Prim.Native.Nat.{ℕ, _+_, _-_, _≤_}
+use Prim.Native.Nat.{ℕ, _+_, _-_, _≤_, _<_}
 use lib.ListN.{length, take}
 use Rattle.parts.specs.Parts.{put}
 use Rattle.params.specs.declared.Breaks.{Breaks}
 use Rattle.params.specs.Params.{breaksOf}
+use Rattle.gauge.specs.declared.Gauge.{Gauge}
 use Rattle.gauge.specs.Gauge.{powerOnOf}
 use Rattle.events.specs.Image.{imageSize}
 use Rattle.events.specs.Record.{orderedOf}
@@ -21,6 +22,9 @@ use Rattle.runs.specs.Run.{Did, Line, lineOf, endAfter, codesOf}
 use Rattle.steps.specs.declared.Session.{Session}
 use Rattle.steps.specs.Step.{didOf, loadedWith}
 use Rattle.records.specs.Run.{emptyOf, TakenOut}
+use Rattle.slots.specs.declared.Tray.{Tray}
+use Rattle.slots.specs.Tray.{emptyTray, packOf, trayDid}
+use Rattle.trays.specs.Run.{SlotOut}
 use Rattle.demands.specs.Call.{Call, Within, gotOf, linesIn, Told, Stopped, Taking}
 
 -- ---- "after each event", of every run
@@ -50,30 +54,19 @@ module _ {S : Type 0} (did : S → ℕ → Rec → Did S) (start : S) where
     pub moments : (n : ℕ) (c d : Call S) → Within did start c → Stopped did start n c d → Moment n c d
     pub events : (c : Call S) → Within did start c → (r : Rec) (l : Line) (a b : Call S) → Taking did start c r l a b → Exact r l a b
 
--- ---- "the image taken out at any moment, read into a fresh gauge"
+-- ---- "the image taken out at any moment, read into a fresh gauge", of any gauge
 
--- `take_out` of the state that a run left, stopped anywhere after an image was accepted, into a room of 60 bytes or more; and a session whose
--- only record is the image that the room then holds
-pub record Carried (d : Call Session) (room : List ℕ) (answer : ℕ) (after : List ℕ) (e : Call Session) : Type 0 where
-  pub run : Within didOf emptyOf d
-  pub loaded : d .ran .state .loaded ≡ true
-  pub fits : imageSize ≤ length room
-  pub out : TakenOut (d .ran .state) room answer after
-  pub fresh : Within didOf emptyOf e
+-- a session whose only record is the image that the first 60 bytes of a room hold
+pub record Fresh (after : List ℕ) (e : Call Session) : Type 0 where
+  pub run : Within didOf emptyOf e
   pub image : e .bytes ≡ imageSize ∷ 0 ∷ 1 ∷ 0 ∷ take imageSize after
 
--- "a power-on .. there": the same session with a power-on at its end
-pub record PoweredOn (d f : Call Session) : Type 0 where
-  pub run : Within didOf emptyOf f
-  pub room : f .room ≡ d .room
-  pub last : recsOf (f .bytes) ≡ recsOf (d .bytes) ++ (whole 5 [] ∷ [])
+-- the breakpoints in the EEPROM are not "TBP12 ≤ TBP23 ≤ TBP34 ≤ 40 as signed bytes"
+abbrev pub eepromBreaks : Gauge → Breaks
+eepromBreaks g = breaksOf (g .meter .cells .block .eeprom)
 
--- the breakpoints in the EEPROM there, and that they are not "TBP12 ≤ TBP23 ≤ TBP34 ≤ 40 as signed bytes"
-abbrev pub eepromBreaks : Call Session → Breaks
-eepromBreaks d = breaksOf (d .ran .state .gauge .meter .cells .block .eeprom)
-
-abbrev pub Crossed : Call Session → Type 0
-Crossed d = orderedOf (eepromBreaks d) ≡ false
+abbrev pub Crossed : Gauge → Type 0
+Crossed g = orderedOf (eepromBreaks g) ≡ false
 
 -- what the fresh gauge answers to the image
 abbrev pub AnswersImage : Call Session → ℕ → Type 0
@@ -84,23 +77,59 @@ pub record Declined (e : Call Session) : Type 0 where
   pub refused : AnswersImage e 10
   pub state : e .ran .state ≡ emptyOf
 
+-- "a power-on .. there": the same records with a power-on at their end, which leaves the gauge h
+pub record PoweredOn {S : Type 0} (did : S → ℕ → Rec → Did S) (start : S) (powerOn : Rec) (Leaves : S → Gauge → Type 0) (d : Call S) (h : Gauge) : Type 0 where
+  pub longer : Call S
+  pub run : Within did start longer
+  pub room : longer .room ≡ d .room
+  pub last : recsOf (longer .bytes) ≡ recsOf (d .bytes) ++ (powerOn ∷ [])
+  pub leaves : Leaves (longer .ran .state) h
+
 -- it is accepted, and "gives the state that a power-on would have given there"
-pub record Restored (d e : Call Session) : Type 0 where
+pub record Restored (g : Gauge) (There : Gauge → Type 0) (e : Call Session) : Type 0 where
   pub accepted : AnswersImage e 0
-  pub state : e .ran .state ≡ loadedWith (powerOnOf (d .ran .state .gauge))
-  pub there : (f : Call Session) → PoweredOn d f → e .ran .state ≡ f .ran .state
+  pub state : e .ran .state ≡ loadedWith (powerOnOf g)
+  pub there : (h : Gauge) → There h → e .ran .state ≡ loadedWith h
 
 -- the answer is 10 exactly where the breakpoints are crossed, and it is what the fresh gauge tells
-pub record ReadBack (d : Call Session) (answer : ℕ) (e : Call Session) : Type 0 where
-  pub taken : answer ≡ 0
+pub record ReadBack (g : Gauge) (There : Gauge → Type 0) (e : Call Session) : Type 0 where
   pub told : Told didOf emptyOf e
-  pub declined : Crossed d → Declined e
-  pub crossed : AnswersImage e 10 → Crossed d
-  pub restored : (Crossed d → ⊥) → Restored d e
+  pub declined : Crossed g → Declined e
+  pub crossed : AnswersImage e 10 → Crossed g
+  pub restored : (Crossed g → ⊥) → Restored g There e
+
+-- ---- of a session
+
+-- `take_out` of the state that a run left, stopped anywhere after an image was accepted, into a room of 60 bytes or more
+pub record Carried (d : Call Session) (room : List ℕ) (answer : ℕ) (after : List ℕ) : Type 0 where
+  pub run : Within didOf emptyOf d
+  pub loaded : d .ran .state .loaded ≡ true
+  pub fits : imageSize ≤ length room
+  pub out : TakenOut (d .ran .state) room answer after
+
+abbrev pub PowersOn : Call Session → Gauge → Type 0
+PowersOn = PoweredOn didOf emptyOf (whole 5 []) (λ σ h. σ ≡ loadedWith h)
+
+-- ---- of a slot
+
+-- `take_out` of a slot that has a pack
+pub record SlotCarried (d : Call Tray) (i : ℕ) (room : List ℕ) (answer : ℕ) (after : List ℕ) : Type 0 where
+  pub run : Within trayDid emptyTray d
+  pub pack : i < d .ran .state .count
+  pub fits : imageSize ≤ length room
+  pub out : SlotOut (d .ran .state) i room answer after
+
+abbrev pub SlotPowersOn : ℕ → Call Tray → Gauge → Type 0
+SlotPowersOn i = PoweredOn trayDid emptyTray (whole 21 (i ∷ [])) (λ τ h. packOf τ i ≡ h)
 
 -- ---- the demand
 
 pub record Demand2 : Type 0 where
   pub events : AfterEach didOf emptyOf
-  pub images : (d : Call Session) (room : List ℕ) (answer : ℕ) (after : List ℕ) (e : Call Session) → Carried d room answer after e
-      → ReadBack d answer e
+  pub images : (d : Call Session) (room : List ℕ) (answer : ℕ) (after : List ℕ) → Carried d room answer after
+      → (answer ≡ 0) × ((e : Call Session) → Fresh after e → ReadBack (d .ran .state .gauge) (PowersOn d) e)
+
+pub record TrayDemand2 : Type 0 where
+  pub events : AfterEach trayDid emptyTray
+  pub images : (d : Call Tray) (i : ℕ) (room : List ℕ) (answer : ℕ) (after : List ℕ) → SlotCarried d i room answer after
+      → (answer ≡ 0) × ((e : Call Session) → Fresh after e → ReadBack (packOf (d .ran .state) i) (SlotPowersOn i d) e)

@@ -5,8 +5,8 @@
 -- same order, mixed differently: each event gets the same answer and reply bytes in both, those that demand 2 gives, and both end in the same
 -- state." Document 01 names the three classes.
 use mathlib.Core.Path.{_≡_}
-use mathlib.Core.Bool.{true, false}
-use mathlib.Core.List.{List, [], _∷_}
+use mathlib.Core.Bool.{false}
+use mathlib.Core.List.{List, [], _∷_, _++_, map}
 use Prim.Native.Nat.{ℕ, _+_, _≤_}
 use lib.ListN.{length}
 use Rattle.events.specs.declared.Event.the-variants.{Image}
@@ -15,50 +15,63 @@ use Rattle.events.specs.declared.Taken.the-variants.{Run, Refused}
 use Rattle.events.specs.Image.{imageAddress}
 use Rattle.events.specs.Record.{takenOf, asksOf}
 use Rattle.runs.specs.Record.{Rec, whole, cut, recsOf}
+use Rattle.runs.specs.Run.{Did}
+use Rattle.replies.specs.Reply.{selectedOf}
+use Rattle.pack.specs.Image.{imageOf}
 use Rattle.steps.specs.declared.Session.{Session}
 use Rattle.steps.specs.Step.{didOf}
 use Rattle.records.specs.Run.{emptyOf}
+use Rattle.slots.specs.declared.Tray.{Tray}
+use Rattle.slots.specs.Tray.{emptyTray, packJoined, trayTold, trayDid}
 use Rattle.demands.specs.Call.{Call, Within, gotOf, Told}
 use Rattle.demands.specs.Sections.{Sections}
-use Rattle.demands.specs.Class.{classOf}
+use Rattle.demands.specs.Class.{Selects, classBy, sessionAsked, trayAsked, someSelected}
 
--- what a record asks, after an image was accepted: of a transaction that is not refused, the read count
+-- what a record asks, after the images were accepted: of a transaction that is not refused, the read count
 abbrev pub takenAsks : Taken → ℕ
 takenAsks (Run e) = asksOf e
 takenAsks (Refused r) = 0
 
-abbrev pub recAsks : Rec → ℕ
-recAsks (whole kind p) = takenAsks (takenOf kind true p)
-recAsks cut = 0
+module _ (asked : ℕ → List ℕ → Taken) where
+  abbrev pub recAsks : Rec → ℕ
+  recAsks (whole kind p) = takenAsks (asked kind p)
+  recAsks cut = 0
 
-abbrev pub asksAll : List Rec → ℕ
-asksAll [] = 0
-asksAll (r ∷ rs) = recAsks r + asksAll rs
+  abbrev pub asksAll : List Rec → ℕ
+  asksAll [] = 0
+  asksAll (r ∷ rs) = recAsks r + asksAll rs
 
--- a session of the image p first, then the records rs, with "room for all they ask"
-pub record Starts (p : List ℕ) (rs : List Rec) (c : Call Session) : Type 0 where
-  pub within : Within didOf emptyOf c
-  pub first : recsOf (c .bytes) ≡ whole 1 p ∷ rs
-  pub asked : asksAll rs ≤ length (c .room)
+-- of any run: what a record asks after the opening, and whom a transaction selects, give the classes
+module _ {S : Type 0} (did : S → ℕ → Rec → Did S) (start : S) (asked : ℕ → List ℕ → Taken) (selects : Selects) where
+  -- a session of the opening, then the records rs, with "room for all they ask"
+  pub record Starts (opening rs : List Rec) (c : Call S) : Type 0 where
+    pub within : Within did start c
+    pub first : recsOf (c .bytes) ≡ opening ++ rs
+    pub room : asksAll asked rs ≤ length (c .room)
 
--- "the same accepted image first", and then the same events, "mixed differently"
-pub record Mixed (p : List ℕ) (xs ys : List Rec) (a b : Call Session) : Type 0 where
-  pub accepted : takenOf 1 false p ≡ Run Image
-  pub one : Starts p xs a
-  pub other : Starts p ys b
-  pub sections : Sections (classOf (imageAddress p)) xs ys
+  -- the same opening, and then the same events, "mixed differently"
+  pub record Mixed (opening xs ys : List Rec) (a b : Call S) : Type 0 where
+    pub one : Starts opening xs a
+    pub other : Starts opening ys b
+    pub sections : Sections (classBy asked selects) xs ys
 
--- "Each event gets the same answer and reply bytes in both": paired with what they got, the events still agree section by section,
--- so that the k-th label event of a section gets in one what the k-th gets in the other, and so do gauge events and fences.
--- "Those that demand 2 gives, and both end in the same state."
-pub record KeptApart (address : List ℕ) (a b : Call Session) : Type 0 where
-  pub events : Sections (λ e. classOf address (e .0)) (gotOf didOf emptyOf a) (gotOf didOf emptyOf b)
-  pub one : Told didOf emptyOf a
-  pub other : Told didOf emptyOf b
-  pub state : a .ran .state ≡ b .ran .state
+  -- "Each event gets the same answer and reply bytes in both": paired with what they got, the events still agree section by section,
+  -- so that the k-th label event of a section gets in one what the k-th gets in the other, and so do gauge events and fences.
+  -- "Those that demand 2 gives, and both end in the same state."
+  pub record KeptApart (a b : Call S) : Type 0 where
+    pub events : Sections (λ e. classBy asked selects (e .0)) (gotOf did start a) (gotOf did start b)
+    pub one : Told did start a
+    pub other : Told did start b
+    pub state : a .ran .state ≡ b .ran .state
+
+-- ---- of sessions: "the same accepted image first"
+
+abbrev pub SessionsMixed : List ℕ → List Rec → List Rec → Call Session → Call Session → Type 0
+SessionsMixed p = Mixed didOf emptyOf sessionAsked (selectedOf (imageAddress p)) (whole 1 p ∷ [])
 
 abbrev pub Demand3 : Type 0
-Demand3 = (p : List ℕ) (xs ys : List Rec) (a b : Call Session) → Mixed p xs ys a b → KeptApart (imageAddress p) a b
+Demand3 = (p : List ℕ) (xs ys : List Rec) (a b : Call Session) → takenOf 1 false p ≡ Run Image → SessionsMixed p xs ys a b
+    → KeptApart didOf emptyOf sessionAsked (selectedOf (imageAddress p)) a b
 
 -- and it speaks of something: there are such sessions that differ
 pub record Demand3Met : Type 0 where
@@ -67,5 +80,46 @@ pub record Demand3Met : Type 0 where
   pub others : List Rec
   pub one : Call Session
   pub other : Call Session
-  pub mixed : Mixed image ones others one other
+  pub accepted : takenOf 1 false image ≡ Run Image
+  pub mixed : SessionsMixed image ones others one other
+  pub differ : one .bytes ≡ other .bytes → ⊥
+
+-- ---- of trays: the same images accepted first, one to eight, and no other
+
+-- each image is accepted in its turn
+abbrev pub Opens : Tray → List (List ℕ) → Type 0
+Opens τ [] = Unit
+Opens τ (p ∷ ps) = (trayTold τ 1 p ≡ Run Image) × Opens (packJoined τ (imageOf p)) ps
+
+abbrev pub imageRecords : List (List ℕ) → List Rec
+imageRecords ps = map (λ p. whole 1 p) ps
+
+abbrev pub addressesOf : List (List ℕ) → List (List ℕ)
+addressesOf ps = map (λ p. imageAddress p) ps
+
+-- the packs of the opening are those that a class is judged by
+abbrev pub openedAsked : List (List ℕ) → ℕ → List ℕ → Taken
+openedAsked ps = trayAsked (length (addressesOf ps))
+
+-- two tray sessions that end with as many packs as they opened with
+pub record TraysMixed (ps : List (List ℕ)) (xs ys : List Rec) (a b : Call Tray) : Type 0 where
+  pub opens : Opens emptyTray ps
+  pub one : a .ran .state .count ≡ length (addressesOf ps)
+  pub other : b .ran .state .count ≡ length (addressesOf ps)
+  pub mixed : Mixed trayDid emptyTray (openedAsked ps) (someSelected (addressesOf ps)) (imageRecords ps) xs ys a b
+
+-- "Demand 3 holds for the tray's whole state": all packs, their number, and whether the opening is closed
+abbrev pub TrayDemand3 : Type 0
+TrayDemand3 = (ps : List (List ℕ)) (xs ys : List Rec) (a b : Call Tray) → TraysMixed ps xs ys a b
+    → KeptApart trayDid emptyTray (openedAsked ps) (someSelected (addressesOf ps)) a b
+
+-- and it speaks of something
+pub record TrayDemand3Met : Type 0 where
+  pub images : List (List ℕ)
+  pub ones : List Rec
+  pub others : List Rec
+  pub one : Call Tray
+  pub other : Call Tray
+  pub mixed : TraysMixed images ones others one other
+  pub several : 2 ≤ length images
   pub differ : one .bytes ≡ other .bytes → ⊥

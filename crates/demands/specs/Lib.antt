@@ -4,5 +4,8 @@ pub mod Class
 pub mod Demand1
 pub mod Demand2
 pub mod Demand3
+pub mod Alone
+pub mod Slots
+pub mod Isolation
 pub mod Programming
 pub mod Slow

@@ -1,6 +1,6 @@
 -- What a record that is taken has: its time and a payload of its kind's size; and what the state decides of which kind.
 use mathlib.Core.Path.{_≡_, refl, _∙_}
-use mathlib.Core.Bool.{Bool, true, false}
+use mathlib.Core.Bool.{Bool, true, false, not}
 use mathlib.Core.List.{List}
 use Prim.Native.Nat.{ℕ, _-_, _≤_, zero-le}
 use native.Mathlib.Omega.{arith}
@@ -23,27 +23,28 @@ use Rattle.events.specs.declared.Event.the-variants.{Image, Change, Tran
 use Rattle.events.specs.declared.Taken.{Taken}
 use Rattle.events.specs.declared.Taken.the-variants.{Run, Refused}
 use Rattle.events.specs.Image.{imageSize, imageAddress, imageBreaks}
-use Rattle.events.specs.Record.{kindOf, knownOf, sizedOf, dueOf, addressedOf, lockableOf, orderedOf, judgedOf, transactionOf, eventOf, takenBy, takenOf, eventTimely, timedOf, fittedOf, Mastered}
+use Rattle.events.specs.Record.{refusalNumber, kindOf, knownOf, sizedOf, dueOf, addressedOf, lockableOf, orderedOf, judgedAmong, judgedOf, transactionOf, eventOf, takenBy, takenOf, eventTimely, timedOf, fittedOf, Mastered}
 
 -- ---- what is taken: refused, or the event of its kind's size at its time
 
-module _ (loaded : Bool) (p : List ℕ) (P : Taken → Type 0) where
-  taken-has : ((r : Refusal) → P (Refused r)) → (k : Kind) → (sizedOf k (length p) ≡ true → dueOf k loaded ≡ true → P (eventOf k p))
-      → P (takenBy k loaded p)
-  taken-has none k h =
+module _ (again loaded : Bool) (p : List ℕ) (P : Taken → Type 0) where
+  taken-has : P (Refused refusal.Kind) → P (Refused refusal.Size) → P (Refused refusal.Order)
+      → (k : Kind) → (sizedOf k (length p) ≡ true → dueOf k loaded ≡ true → P (eventOf again k p)) → P (takenBy again k loaded p)
+  taken-has kind size order k h =
       picked P (knownOf k) _ _
       (λ known. picked P (sizedOf k (length p)) _ _
-      (λ sized. picked P (dueOf k loaded) _ _ (λ due. h sized due) (λ other. none refusal.Order))
-      (λ other. none refusal.Size))
-      (λ other. none refusal.Kind)
+      (λ sized. picked P (dueOf k loaded) _ _ (λ due. h sized due) (λ other. order))
+      (λ other. size))
+      (λ other. kind)
 
--- ---- an image is taken where none was accepted before, and only one that the judge accepts; any other event after one was
+-- ---- an image is taken where none was accepted before, and only one that the judge accepts and whose address no other pack has; any other event
+-- after one was
 
-abbrev pub Taking : Bool → List ℕ → Taken → Type 0
-Taking loaded p (Run Image) = (loaded ≡ false) × (judgedOf p ≡ Run Image) × (length p ≡ imageSize)
-Taking loaded p (Run (Change c)) = loaded ≡ true
-Taking loaded p (Run (Transact t)) = (loaded ≡ true) × Mastered t p
-Taking loaded p (Refused r) = Unit
+abbrev pub Taking : Bool → Bool → List ℕ → Taken → Type 0
+Taking again loaded p (Run Image) = (loaded ≡ false) × (judgedAmong again p ≡ Run Image) × (length p ≡ imageSize)
+Taking again loaded p (Run (Change c)) = loaded ≡ true
+Taking again loaded p (Run (Transact t)) = (loaded ≡ true) × Mastered t p
+Taking again loaded p (Refused r) = Unit
 
 -- the judge accepts an image, or refuses
 abbrev Verdict : Taken → Type 0
@@ -52,37 +53,40 @@ Verdict (Run (Change c)) = ⊥
 Verdict (Run (Transact t)) = ⊥
 Verdict (Refused r) = Unit
 
-verdict : (p : List ℕ) → Verdict (judgedOf p)
-unfolding judgedOf
-verdict p =
+verdict : (again : Bool) (p : List ℕ) → Verdict (judgedAmong again p)
+unfolding judgedAmong
+verdict again p =
     picked Verdict (eqb (length p) imageSize) _ _
     (λ a. picked Verdict (addressedOf (imageAddress p)) _ _
-    (λ b. picked Verdict (lockableOf p) _ _ (λ c. picked Verdict (orderedOf (imageBreaks p)) _ _ (λ d. tt) (λ d. tt)) (λ c. tt))
+    (λ b. picked Verdict (lockableOf p) _ _
+    (λ c. picked Verdict (not again) _ _ (λ d. picked Verdict (orderedOf (imageBreaks p)) _ _ (λ f. tt) (λ f. tt)) (λ d. tt))
+    (λ c. tt))
     (λ b. tt))
     (λ a. tt)
 
-module _ (loaded : Bool) (p : List ℕ) where
-  image-taking : (t : Taken) → Verdict t → judgedOf p ≡ t → loaded ≡ false → length p ≡ imageSize → Taking loaded p t
+module _ (again loaded : Bool) (p : List ℕ) where
+  image-taking : (t : Taken) → Verdict t → judgedAmong again p ≡ t → loaded ≡ false → length p ≡ imageSize → Taking again loaded p t
   image-taking (Run Image) v e l s = (l, e, s)
   image-taking (Run (Change c)) v e l s = absurd v
   image-taking (Run (Transact t)) v e l s = absurd v
   image-taking (Refused r) v e l s = tt
 
-  mastered : 1 ≤ length p → Mastered (askedOf 1 (getD p 0 0) (drop 1 p)) p
-  mastered h =
+  mastered : 1 ≤ length p → getD p 0 0 ≤ 64 → Mastered (askedOf 1 (getD p 0 0) (drop 1 p)) p
+  mastered h few =
       let a = asked-placed 1 (getD p 0 0) (drop 1 p) in
       record {
         starts = omega (arith, a .starts);
         within = rw (a .starts) (a .within);
         near = omega (arith, a .starts);
+        few = omega (arith, a .counts);
       }
 
-  transaction-taking : 1 ≤ length p → loaded ≡ true → Taking loaded p (transactionOf p)
-  transaction-taking h l = picked (Taking loaded p) (leb (getD p 0 0) 64) _ _ (λ few. (l, mastered h)) (λ many. tt)
+  transaction-taking : 1 ≤ length p → loaded ≡ true → Taking again loaded p (transactionOf p)
+  transaction-taking h l = picked (Taking again loaded p) (leb (getD p 0 0) 64) _ _ (λ few. (l, mastered h (leb-true (getD p 0 0) 64 few))) (λ many. tt)
 
-  event-taking : (k : Kind) → sizedOf k (length p) ≡ true → dueOf k loaded ≡ true → Taking loaded p (eventOf k p)
+  event-taking : (k : Kind) → sizedOf k (length p) ≡ true → dueOf k loaded ≡ true → Taking again loaded p (eventOf again k p)
   event-taking kind.Image sized due =
-      image-taking (judgedOf p) (verdict p) refl (not-true loaded due) (eqb-true (length p) imageSize sized)
+      image-taking (judgedAmong again p) (verdict again p) refl (not-true loaded due) (eqb-true (length p) imageSize sized)
   event-taking kind.Reading sized due = due
   event-taking kind.Conversion sized due = due
   event-taking kind.Transaction sized due = transaction-taking (leb-true 1 (length p) (both-true (leb 1 (length p)) (leb (length p) 65) sized .0)) due
@@ -90,21 +94,68 @@ module _ (loaded : Bool) (p : List ℕ) where
   event-taking kind.Sample sized due = due
   event-taking kind.Unknown sized due = tt
 
-  pub taking : (n : ℕ) → Taking loaded p (takenOf n loaded p)
-  unfolding takenOf
-  taking n = taken-has loaded p (Taking loaded p) (λ r. tt) (kindOf n) (event-taking (kindOf n))
+  taking : (k : Kind) → Taking again loaded p (takenBy again k loaded p)
+  taking k = taken-has again loaded p (Taking again loaded p) tt tt tt k (event-taking k)
 
   -- and where the tick is asked too
-  pub timed-taking : (last : Tick) (n : ℕ) → Taking loaded p (timedOf last (takenOf n loaded p))
-  timed-taking last n = timed (takenOf n loaded p) (taking n)
+  pub timed-by : (last : Tick) (k : Kind) → Taking again loaded p (timedOf last (takenBy again k loaded p))
+  timed-by last k = timed (takenBy again k loaded p) (taking k)
     where
-      timed : (t : Taken) → Taking loaded p t → Taking loaded p (timedOf last t)
-      timed (Run e) h = picked (Taking loaded p) (eventTimely last e) (Run e) _ (λ timely. h) (λ other. tt)
+      timed : (t : Taken) → Taking again loaded p t → Taking again loaded p (timedOf last t)
+      timed (Run e) h = picked (Taking again loaded p) (eventTimely last e) (Run e) _ (λ timely. h) (λ other. tt)
       timed (Refused r) h = tt
+
+-- which event a kind asks, if it is not refused: an image, a change or a transaction
+
+abbrev pub kindSort : Kind → ℕ
+kindSort kind.Image = 0
+kindSort kind.Reading = 1
+kindSort kind.Conversion = 1
+kindSort kind.Transaction = 2
+kindSort kind.PowerOn = 1
+kindSort kind.Sample = 1
+kindSort kind.Unknown = 3
+
+abbrev pub eventSort : Event → ℕ
+eventSort Image = 0
+eventSort (Change c) = 1
+eventSort (Transact t) = 2
+
+abbrev pub Sorted : Kind → Taken → Type 0
+Sorted k (Run e) = eventSort e ≡ kindSort k
+Sorted k (Refused r) = Unit
+
+module _ (again loaded : Bool) (p : List ℕ) (last : Tick) where
+  judged-sorted : (t : Taken) → Verdict t → Sorted kind.Image t
+  judged-sorted (Run Image) v = refl
+  judged-sorted (Run (Change c)) v = absurd v
+  judged-sorted (Run (Transact t)) v = absurd v
+  judged-sorted (Refused r) v = tt
+
+  event-sorted : (k : Kind) → Sorted k (eventOf again k p)
+  event-sorted kind.Image = judged-sorted (judgedAmong again p) (verdict again p)
+  event-sorted kind.Reading = refl
+  event-sorted kind.Conversion = refl
+  event-sorted kind.Transaction = picked (Sorted kind.Transaction) (leb (getD p 0 0) 64) _ _ (λ few. refl) (λ many. tt)
+  event-sorted kind.PowerOn = refl
+  event-sorted kind.Sample = refl
+  event-sorted kind.Unknown = tt
+
+  pub sorted-by : (k : Kind) → Sorted k (timedOf last (takenBy again k loaded p))
+  sorted-by k = timed (takenBy again k loaded p) (taken-has again loaded p (Sorted k) tt tt tt k (λ sized due. event-sorted k))
+    where
+      timed : (t : Taken) → Sorted k t → Sorted k (timedOf last t)
+      timed (Run e) h = picked (Sorted k) (eventTimely last e) (Run e) _ (λ timely. h) (λ other. tt)
+      timed (Refused r) h = tt
+
+-- of a plain session
+pub timed-taking : (loaded : Bool) (p : List ℕ) (last : Tick) (n : ℕ) → Taking false loaded p (timedOf last (takenOf n loaded p))
+unfolding takenOf
+timed-taking loaded p last n = timed-by false loaded p last (kindOf n)
 
 -- what the judge accepts is an image
 pub judged-image : (p : List ℕ) {e : Event} → judgedOf p ≡ Run e → judgedOf p ≡ Run Image
-judged-image p {e} h = h ∙ by e (rw h at (verdict p))
+judged-image p {e} h = h ∙ by e (rw h at (verdict false p))
   where
     by : (e : Event) → Verdict (Run e) → Run e ≡ Run Image
     by Image v = refl
@@ -113,7 +164,7 @@ judged-image p {e} h = h ∙ by e (rw h at (verdict p))
 
 -- and it has an image's size
 pub judged-sized : (p : List ℕ) {e : Event} → judgedOf p ≡ Run e → length p ≡ imageSize
-unfolding judgedOf
+unfolding judgedAmong
 judged-sized p {e} h = by (eqb (length p) imageSize) refl
   where
     by : (b : Bool) → eqb (length p) imageSize ≡ b → length p ≡ imageSize
@@ -131,11 +182,11 @@ Stateless kind.PowerOn = Unit
 Stateless kind.Sample = ⊥
 Stateless kind.Unknown = Unit
 
-module _ (last : Tick) (loaded : Bool) (p : List ℕ) where
-  pub transaction-timely : takenBy kind.Transaction loaded p ≡ timedOf last (takenBy kind.Transaction loaded p)
+module _ (last : Tick) (again loaded : Bool) (p : List ℕ) where
+  pub transaction-timely : takenBy again kind.Transaction loaded p ≡ timedOf last (takenBy again kind.Transaction loaded p)
   transaction-timely =
       let Timely : Taken → Type 0 = λ t. t ≡ timedOf last t in
-      taken-has loaded p Timely (λ r. refl) kind.Transaction (λ sized due. picked Timely (leb (getD p 0 0) 64) _ _ (λ few. refl) (λ many. refl))
+      taken-has again loaded p Timely refl refl refl kind.Transaction (λ sized due. picked Timely (leb (getD p 0 0) 64) _ _ (λ few. refl) (λ many. refl))
 
   module _ (room : ℕ) where
     abbrev Passes : Taken → Type 0
@@ -150,8 +201,8 @@ module _ (last : Tick) (loaded : Bool) (p : List ℕ) where
     verdict-passes (Run (Transact t)) v = absurd v
     verdict-passes (Refused r) v = refl
 
-    event-passes : (k : Kind) → Stateless k → Passes (eventOf k p)
-    event-passes kind.Image h = verdict-passes (judgedOf p) (verdict p)
+    event-passes : (k : Kind) → Stateless k → Passes (eventOf again k p)
+    event-passes kind.Image h = verdict-passes (judgedAmong again p) (verdict again p)
     event-passes kind.Reading h = rw no-room refl
     event-passes kind.Conversion h = rw no-room refl
     event-passes kind.Transaction h = absurd h
@@ -159,10 +210,72 @@ module _ (last : Tick) (loaded : Bool) (p : List ℕ) where
     event-passes kind.Sample h = absurd h
     event-passes kind.Unknown h = refl
 
-    pub passes : (k : Kind) → Stateless k → Passes (takenBy k loaded p)
-    passes k h = taken-has loaded p Passes (λ r. refl) k (λ sized due. event-passes k h)
+    pub passes : (k : Kind) → Stateless k → Passes (takenBy again k loaded p)
+    passes k h = taken-has again loaded p Passes refl refl refl k (λ sized due. event-passes k h)
 
-    pub sample-fits : timedOf last (takenBy kind.Sample loaded p) ≡ fittedOf room (timedOf last (takenBy kind.Sample loaded p))
+    pub sample-fits : timedOf last (takenBy again kind.Sample loaded p) ≡ fittedOf room (timedOf last (takenBy again kind.Sample loaded p))
     sample-fits =
-        taken-has loaded p (λ t. timedOf last t ≡ fittedOf room (timedOf last t)) (λ r. refl) kind.Sample
+        taken-has again loaded p (λ t. timedOf last t ≡ fittedOf room (timedOf last t)) refl refl refl kind.Sample
         (λ sized due. picked (λ t. t ≡ fittedOf room t) (timelyOf last (pairAt p 4)) _ _ (λ few. rw no-room refl) (λ many. refl))
+
+-- ---- the numbers of refusals
+
+pub refusal-range : (r : Refusal) → (3 ≤ refusalNumber r) × (refusalNumber r ≤ 12)
+refusal-range refusal.Kind = (omega arith, omega arith)
+refusal-range refusal.Size = (omega arith, omega arith)
+refusal-range refusal.Order = (omega arith, omega arith)
+refusal-range refusal.Address = (omega arith, omega arith)
+refusal-range refusal.Locks = (omega arith, omega arith)
+refusal-range refusal.Count = (omega arith, omega arith)
+refusal-range refusal.Room = (omega arith, omega arith)
+refusal-range refusal.Breaks = (omega arith, omega arith)
+refusal-range refusal.Interval = (omega arith, omega arith)
+refusal-range refusal.Repeated = (omega arith, omega arith)
+
+-- an event, or a refusal whose number is at most so much
+abbrev pub NumberedTo : ℕ → Taken → Type 0
+NumberedTo most (Run e) = Unit
+NumberedTo most (Refused r) = refusalNumber r ≤ most
+
+-- 12 is answered in no plain session
+plain-event : (k : Kind) (p : List ℕ) → NumberedTo 11 (eventOf false k p)
+unfolding judgedAmong
+plain-event kind.Image p =
+    let To : Taken → Type 0 = NumberedTo 11 in
+    picked To (eqb (length p) imageSize) _ _
+    (λ a. picked To (addressedOf (imageAddress p)) _ _
+    (λ b. picked To (lockableOf p) _ _ (λ c. picked To (orderedOf (imageBreaks p)) _ _ (λ d. tt) (λ d. omega arith)) (λ c. omega arith))
+    (λ b. omega arith))
+    (λ a. omega arith)
+plain-event kind.Reading p = tt
+plain-event kind.Conversion p = tt
+plain-event kind.Transaction p = picked (NumberedTo 11) (leb (getD p 0 0) 64) _ _ (λ few. tt) (λ many. omega arith)
+plain-event kind.PowerOn p = tt
+plain-event kind.Sample p = tt
+plain-event kind.Unknown p = omega arith
+
+pub plain-numbered : (last : Tick) (n : ℕ) (loaded : Bool) (p : List ℕ) → NumberedTo 11 (timedOf last (takenOf n loaded p))
+unfolding takenOf
+plain-numbered last n loaded p =
+    timed (takenBy false (kindOf n) loaded p)
+    (taken-has false loaded p (NumberedTo 11) (omega arith) (omega arith) (omega arith) (kindOf n) (λ sized due. plain-event (kindOf n) p))
+  where
+    timed : (t : Taken) → NumberedTo 11 t → NumberedTo 11 (timedOf last t)
+    timed (Run e) h = picked (NumberedTo 11) (eventTimely last e) (Run e) _ (λ timely. h) (λ other. omega arith)
+    timed (Refused r) h = h
+
+-- an image that is accepted beside others is one that is accepted by itself
+pub judged-alone : (again : Bool) (p : List ℕ) → judgedAmong again p ≡ Run Image → (again ≡ false) × (judgedOf p ≡ Run Image)
+unfolding judgedAmong
+judged-alone false p e = (refl, e)
+judged-alone true p e = absurd (rw e at (never p))
+  where
+    Never : Taken → Type 0
+    Never (Run e) = ⊥
+    Never (Refused r) = Unit
+
+    never : (p : List ℕ) → Never (judgedAmong true p)
+    never p =
+        picked Never (eqb (length p) imageSize) _ _
+        (λ a. picked Never (addressedOf (imageAddress p)) _ _ (λ b. picked Never (lockableOf p) _ _ (λ c. tt) (λ c. tt)) (λ b. tt))
+        (λ a. tt)

@@ -3,6 +3,7 @@ use mathlib.Core.Path.{refl, sym, _∙_}
 use Rattle.once.specs.Once.{Once}
 use Rattle.events.proofs.number
 use Rattle.events.proofs.judged
+use Rattle.events.proofs.«fitted_by»
 use Rattle.events.proofs.fitted
 
 pub number-once : Once number.ended number.Reads.Pre number.Reads.Learnt
@@ -10,6 +11,9 @@ number-once κs a r r′ w w′ p h h′ = (h ∙ sym h′, refl)
 
 pub judged-once : Once judged.ended judged.Reads.Pre judged.Reads.Learnt
 judged-once κs a r r′ w w′ p h h′ = (h ∙ sym h′, refl)
+
+pub fitted-by-once : Once «fitted_by».ended «fitted_by».Reads.Pre «fitted_by».Reads.Learnt
+fitted-by-once κs a r r′ w w′ p h h′ = (h ∙ sym h′, refl)
 
 pub fitted-once : Once fitted.ended fitted.Reads.Pre fitted.Reads.Learnt
 fitted-once κs a r r′ w w′ p h h′ = (h ∙ sym h′, refl)

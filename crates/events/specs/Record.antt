@@ -38,6 +38,7 @@ refusalNumber refusal.Count = 8
 refusalNumber refusal.Room = 9
 refusalNumber refusal.Breaks = 10
 refusalNumber refusal.Interval = 11
+refusalNumber refusal.Repeated = 12
 
 abbrev pub numberOf : Taken → ℕ
 numberOf (Run e) = 0
@@ -98,16 +99,23 @@ lockableOf p = leb (imageLocks p) 3
 unfoldable pub orderedOf : Breaks → Bool
 orderedOf b = both (leb (b .b12) (b .b23)) (both (leb (b .b23) (b .b34)) (leb (b .b34) (zeroAt 7 + 40)))
 
--- 4, 6, 7, 10: the first refusal that applies, in the order of checking
-unfoldable pub judgedOf : List ℕ → Taken
-judgedOf p =
+-- 4, 6, 7, 12, 10: the first refusal that applies, in the order of checking. 12, "after 7 and before 10, for a repeated address": where another
+-- pack of the tray has the image's address
+unfoldable pub judgedAmong : Bool → List ℕ → Taken
+judgedAmong again p =
     pick (eqb (length p) imageSize)
     (pick (addressedOf (imageAddress p))
     (pick (lockableOf p)
+    (pick (not again)
     (pick (orderedOf (imageBreaks p)) (Run Image) (Refused refusal.Breaks))
+    (Refused refusal.Repeated))
     (Refused refusal.Locks))
     (Refused refusal.Address))
     (Refused refusal.Size)
+
+-- by itself
+abbrev pub judgedOf : List ℕ → Taken
+judgedOf p = judgedAmong false p
 
 -- ---- what a payload says
 
@@ -123,29 +131,29 @@ masterOf t p = drop (t .start) p
 abbrev pub transactionOf : List ℕ → Taken
 transactionOf p = pick (leb (getD p 0 0) 64) (Run (Transact (askedOf 1 (getD p 0 0) (drop 1 p)))) (Refused refusal.Count)
 
--- the event of a record of its kind's size, at its time
-abbrev pub eventOf : Kind → List ℕ → Taken
-eventOf kind.Image p = judgedOf p
-eventOf kind.Reading p = Run (Change (change.Reading (countAt p 0) (countAt p 4)))
-eventOf kind.Conversion p = Run (Change (change.Conversion (countAt p 0)))
-eventOf kind.Transaction p = transactionOf p
-eventOf kind.PowerOn p = Run (Change change.PowerOn)
-eventOf kind.Sample p = Run (Change (change.Sample (countAt p 0) (pairAt p 4)))
-eventOf kind.Unknown p = Refused refusal.Kind
+-- the event of a record of its kind's size, at its time; of an image by whether another pack has its address
+abbrev pub eventOf : Bool → Kind → List ℕ → Taken
+eventOf again kind.Image p = judgedAmong again p
+eventOf again kind.Reading p = Run (Change (change.Reading (countAt p 0) (countAt p 4)))
+eventOf again kind.Conversion p = Run (Change (change.Conversion (countAt p 0)))
+eventOf again kind.Transaction p = transactionOf p
+eventOf again kind.PowerOn p = Run (Change change.PowerOn)
+eventOf again kind.Sample p = Run (Change (change.Sample (countAt p 0) (pairAt p 4)))
+eventOf again kind.Unknown p = Refused refusal.Kind
 
 -- ---- the first refusal that applies, or the event
 
-abbrev pub takenBy : Kind → Bool → List ℕ → Taken
-takenBy k loaded p =
+abbrev pub takenBy : Bool → Kind → Bool → List ℕ → Taken
+takenBy again k loaded p =
     pick (knownOf k)
     (pick (sizedOf k (length p))
-    (pick (dueOf k loaded) (eventOf k p) (Refused refusal.Order))
+    (pick (dueOf k loaded) (eventOf again k p) (Refused refusal.Order))
     (Refused refusal.Size))
     (Refused refusal.Kind)
 
 -- 3 to 8 and 10, by the record and whether an image was accepted
 unfoldable pub takenOf : ℕ → Bool → List ℕ → Taken
-takenOf n loaded p = takenBy (kindOf n) loaded p
+takenOf n loaded p = takenBy false (kindOf n) loaded p
 
 -- ---- the refusals that the state decides
 
@@ -183,6 +191,7 @@ pub record Mastered (t : Transaction) (p : List ℕ) : Type 0 where
   pub starts : t .start ≤ length p
   pub within : t .from ≤ length (masterOf t p)
   pub near : t .start ≤ 1
+  pub few : t .count ≤ 64
 
 abbrev pub Fitting : Event → List ℕ → Type 0
 Fitting Image p = length p ≡ imageSize

@@ -2,9 +2,10 @@
 use bus::Transaction;
 use params::Breaks;
 use ticks::Tick;
+ghost use mathlib.Core.Bool.{false};
 ghost use mathlib.Core.Path.{_≡_};
 ghost use lib.ListN.{length};
-ghost use Rattle.events.specs.Record.{numberOf, kindOf, addressedOf, orderedOf, judgedOf, takenBy, takenOf, timedOf, fittedOf};
+ghost use Rattle.events.specs.Record.{numberOf, kindOf, addressedOf, orderedOf, judgedAmong, judgedOf, takenBy, takenOf, timedOf, fittedOf};
 
 // The pack image: its size, and where its parts stand.
 pub const IMAGE_SIZE: usize = 60;
@@ -43,6 +44,7 @@ pub enum Refusal {
     Room,
     Breaks,
     Interval,
+    Repeated,
 }
 
 // What changes a gauge and asks for no reply. Readings, conversions and samples hold signed counts, as z + 2^31; a sample its tick too.
@@ -82,6 +84,7 @@ pub fn number(t: Taken) -> u8
             Refusal::Room => 9,
             Refusal::Breaks => 10,
             Refusal::Interval => 11,
+            Refusal::Repeated => 12,
         },
     }
 }
@@ -117,9 +120,9 @@ fn ordered(b: Breaks) -> bool
     numbers::and(b.b12 <= b.b23, upper)
 }
 
-// An image, judged by itself: whether it comes in its time is not asked here.
-pub fn judged(p: &[u8]) -> Taken
-    ensures { λ r. ⌜ r ≡ judgedOf (now (p .entry)) ⌝ }
+// An image, judged by itself and by whether another pack has its address: whether it comes in its time is not asked here.
+fn judged_among(again: bool, p: &[u8]) -> Taken
+    ensures { λ r. ⌜ r ≡ judgedAmong again (now (p .entry)) ⌝ }
 {
     let mut taken = Taken::Refused(Refusal::Size);
     if p.len() == IMAGE_SIZE {
@@ -127,10 +130,13 @@ pub fn judged(p: &[u8]) -> Taken
         if addressed(&p[ADDRESS_AT..LABEL_AT]) {
             taken = Taken::Refused(Refusal::Locks);
             if p[LOCKS_AT] <= 3 {
-                taken = Taken::Refused(Refusal::Breaks);
-                let block = parts::thirty_two(p, BLOCK_AT);
-                if ordered(Breaks::of(&block)) {
-                    taken = Taken::Run(Event::Image);
+                taken = Taken::Refused(Refusal::Repeated);
+                if !again {
+                    taken = Taken::Refused(Refusal::Breaks);
+                    let block = parts::thirty_two(p, BLOCK_AT);
+                    if ordered(Breaks::of(&block)) {
+                        taken = Taken::Run(Event::Image);
+                    }
                 }
             }
         }
@@ -138,22 +144,29 @@ pub fn judged(p: &[u8]) -> Taken
     taken
 }
 
+// An image, judged by itself.
+pub fn judged(p: &[u8]) -> Taken
+    ensures { λ r. ⌜ r ≡ judgedOf (now (p .entry)) ⌝ }
+{
+    judged_among(false, p)
+}
+
 // ---- a reader for each kind
 
-fn image_taken(loaded: bool, p: &[u8]) -> Taken
-    ensures { λ r. ⌜ r ≡ takenBy Kind.Image loaded (now (p .entry)) ⌝ }
+fn image_taken(again: bool, loaded: bool, p: &[u8]) -> Taken
+    ensures { λ r. ⌜ r ≡ takenBy again Kind.Image loaded (now (p .entry)) ⌝ }
 {
     if p.len() != IMAGE_SIZE {
         return Taken::Refused(Refusal::Size);
     }
     if !loaded {
-        return judged(p);
+        return judged_among(again, p);
     }
     Taken::Refused(Refusal::Order)
 }
 
 fn reading_taken(loaded: bool, p: &[u8]) -> Taken
-    ensures { λ r. ⌜ r ≡ takenBy Kind.Reading loaded (now (p .entry)) ⌝ }
+    ensures { λ r. ⌜ r ≡ takenBy false Kind.Reading loaded (now (p .entry)) ⌝ }
 {
     if p.len() != 8 {
         return Taken::Refused(Refusal::Size);
@@ -167,7 +180,7 @@ fn reading_taken(loaded: bool, p: &[u8]) -> Taken
 }
 
 fn conversion_taken(loaded: bool, p: &[u8]) -> Taken
-    ensures { λ r. ⌜ r ≡ takenBy Kind.Conversion loaded (now (p .entry)) ⌝ }
+    ensures { λ r. ⌜ r ≡ takenBy false Kind.Conversion loaded (now (p .entry)) ⌝ }
 {
     if p.len() != 4 {
         return Taken::Refused(Refusal::Size);
@@ -181,7 +194,7 @@ fn conversion_taken(loaded: bool, p: &[u8]) -> Taken
 
 // The read count, which the room that is left must hold, and what the master bytes after it ask.
 fn transaction_taken(loaded: bool, room: usize, p: &[u8]) -> Taken
-    ensures { λ r. ⌜ r ≡ fittedOf room (takenBy Kind.Transaction loaded (now (p .entry))) ⌝ }
+    ensures { λ r. ⌜ r ≡ fittedOf room (takenBy false Kind.Transaction loaded (now (p .entry))) ⌝ }
 {
     if p.len() < 1 {
         return Taken::Refused(Refusal::Size);
@@ -204,7 +217,7 @@ fn transaction_taken(loaded: bool, room: usize, p: &[u8]) -> Taken
 }
 
 fn power_on_taken(loaded: bool, p: &[u8]) -> Taken
-    ensures { λ r. ⌜ r ≡ takenBy Kind.PowerOn loaded (now (p .entry)) ⌝ }
+    ensures { λ r. ⌜ r ≡ takenBy false Kind.PowerOn loaded (now (p .entry)) ⌝ }
 {
     let mut taken = Taken::Refused(Refusal::Size);
     if p.len() == 0 {
@@ -218,7 +231,7 @@ fn power_on_taken(loaded: bool, p: &[u8]) -> Taken
 
 // A sample, which comes 1 to 64 ticks after the one remembered.
 fn sample_taken(loaded: bool, last: Tick, p: &[u8]) -> Taken
-    ensures { λ r. ⌜ r ≡ timedOf last (takenBy Kind.Sample loaded (now (p .entry))) ⌝ }
+    ensures { λ r. ⌜ r ≡ timedOf last (takenBy false Kind.Sample loaded (now (p .entry))) ⌝ }
 {
     if p.len() != 6 {
         return Taken::Refused(Refusal::Size);
@@ -234,13 +247,13 @@ fn sample_taken(loaded: bool, last: Tick, p: &[u8]) -> Taken
     Taken::Refused(Refusal::Order)
 }
 
-// The event of a record, or the first refusal that applies, with a tick that is remembered and so many bytes of reply room left.
-pub fn fitted(kind: u16, loaded: bool, last: Tick, room: usize, p: &[u8]) -> Taken
-    ensures { λ r. ⌜ r ≡ fittedOf room (timedOf last (takenOf kind loaded (now (p .entry)))) ⌝ }
+// The event of a record of a kind, or the first refusal that applies, with a tick that is remembered and so many bytes of reply room left; an
+// image by whether another pack has its address.
+pub fn fitted_by(k: Kind, again: bool, loaded: bool, last: Tick, room: usize, p: &[u8]) -> Taken
+    ensures { λ r. ⌜ r ≡ fittedOf room (timedOf last (takenBy again k loaded (now (p .entry)))) ⌝ }
 {
-    let k = kind_of(kind);
     match k {
-        Kind::Image => image_taken(loaded, p),
+        Kind::Image => image_taken(again, loaded, p),
         Kind::Reading => reading_taken(loaded, p),
         Kind::Conversion => conversion_taken(loaded, p),
         Kind::Transaction => transaction_taken(loaded, room, p),
@@ -248,4 +261,12 @@ pub fn fitted(kind: u16, loaded: bool, last: Tick, room: usize, p: &[u8]) -> Tak
         Kind::Sample => sample_taken(loaded, last, p),
         Kind::Unknown => Taken::Refused(Refusal::Kind),
     }
+}
+
+// The same of a record of a plain session.
+pub fn fitted(kind: u16, loaded: bool, last: Tick, room: usize, p: &[u8]) -> Taken
+    ensures { λ r. ⌜ r ≡ fittedOf room (timedOf last (takenOf kind loaded (now (p .entry)))) ⌝ }
+{
+    let k = kind_of(kind);
+    fitted_by(k, false, loaded, last, room, p)
 }

@@ -14,43 +14,23 @@ use Rattle.streams.specs.Streams.{Saying, error, refusedText}
 use Rattle.pack.specs.Image.{bytesOf}
 use Rattle.steps.specs.declared.Session.{Session}
 use Rattle.runs.specs.declared.Outcome.{Outcome}
-use Rattle.runs.specs.declared.Outcome.the-variants.{Done, Over, Short}
-use Rattle.runs.specs.Record.{recsOf}
-use Rattle.runs.specs.Run.{endAfter, Result, outcomeOf, outcomeNumber, RunsTo, Runs}
+use Rattle.runs.specs.declared.Outcome.the-variants.{Done, Over}
+use Rattle.runs.specs.Run.{outcomeNumber}
 use Rattle.steps.specs.Step.{didOf}
 use Rattle.records.specs.declared.Ran.{Ran}
 use Rattle.records.specs.Run.{emptyOf, resultOf, TakenOut}
+use Rattle.text.specs.Text.{overWords}
 use Rattle.text.proofs.Printed.{outcome-told}
-use Rattle.image.specs.Image.{overWords, lastOf, imageSpeech, takenSpeech}
+use Rattle.text.proofs.Ended.{Ended}
+use Rattle.image.specs.Image.{lastOf, imageSpeech, takenSpeech}
 
--- ---- the outcome of a session, and its end where it was run
-
-pub record Ended (s : List ℕ) (r : Ran) : Type 0 where
-  pub outcome : outcomeOf (length s) 8192 ≡ r .outcome
-  pub session : r .outcome ≡ Done → lastOf s ≡ r .session
-
-module _ (s replies answers : List ℕ) (r : Ran) (after told : List ℕ) where
-  outcome : (o : Outcome) → RunsTo didOf emptyOf o s replies answers (resultOf r) after told → o ≡ r .outcome
-  outcome Done run = sym (run .outcome)
-  outcome Over idle = ap (λ (x : Result Session). x .outcome) (sym (idle .result))
-  outcome Short idle = ap (λ (x : Result Session). x .outcome) (sym (idle .result))
-
-  end : (o : Outcome) → o ≡ Done → RunsTo didOf emptyOf o s replies answers (resultOf r) after told → endAfter didOf emptyOf (length replies) (recsOf s) ≡ r .session
-  end Done e run = sym (run .state)
-  end Over e idle = cc
-  end Short e idle = cc
-
-  pub ended : 8192 ≡ length answers → 65536 ≡ length replies → Runs didOf emptyOf s replies answers (resultOf r) after told → Ended s r
-  unfolding lastOf
-  ended few fits runs =
-      let o = outcome (outcomeOf (length s) (length answers)) runs in
-      record { outcome = rw few o; session = λ e. rw fits (end (outcomeOf (length s) (length answers)) (o ∙ e) runs) }
+-- ---- the end of a session
 
 -- what is said of a session that was run, and of one that was not
-module _ {s room after : List ℕ} {r : Ran} {x : Said} (h : Ended s r) where
+module _ {s room after : List ℕ} {r : Ran} {x : Said} (h : Ended didOf emptyOf s (resultOf r)) where
   pub done : r .outcome ≡ Done → Saying (imageSpeech Done (r .session)) room x after → Saying (takenSpeech s) room x after
-  unfolding takenSpeech
-  done e w = rw (h .outcome ∙ e, h .session e) w
+  unfolding takenSpeech lastOf
+  done e w = rw (h .outcome ∙ e, h .state e) w
 
   pub idle : (o : Outcome) → r .outcome ≡ o → Saying (imageSpeech o (lastOf s)) room x after → Saying (takenSpeech s) room x after
   unfolding takenSpeech

@@ -15,22 +15,13 @@ use Rattle.runs.specs.Record.{recsOf}
 use Rattle.runs.specs.Run.{endAfter, outcomeOf, outcomeNumber}
 use Rattle.steps.specs.Step.{didOf}
 use Rattle.records.specs.Run.{emptyOf}
+use Rattle.text.specs.Text.{overWords, shortWords}
 
 -- image
 abbrev pub imageName : List ℕ
 imageName = 105 ∷ 109 ∷ 97 ∷ 103 ∷ 101 ∷ []
 
 -- ---- what the refusals mean
-
--- the session is over 32,768 bytes
-abbrev pub overWords : List ℕ
-overWords =
-    116 ∷ 104 ∷ 101 ∷ 32
-    ∷ 115 ∷ 101 ∷ 115 ∷ 115 ∷ 105 ∷ 111 ∷ 110 ∷ 32
-    ∷ 105 ∷ 115 ∷ 32
-    ∷ 111 ∷ 118 ∷ 101 ∷ 114 ∷ 32
-    ∷ 51 ∷ 50 ∷ 44 ∷ 55 ∷ 54 ∷ 56 ∷ 32
-    ∷ 98 ∷ 121 ∷ 116 ∷ 101 ∷ 115 ∷ []
 
 -- no image was accepted
 abbrev pub orderWords : List ℕ
@@ -39,18 +30,6 @@ orderWords =
     ∷ 105 ∷ 109 ∷ 97 ∷ 103 ∷ 101 ∷ 32
     ∷ 119 ∷ 97 ∷ 115 ∷ 32
     ∷ 97 ∷ 99 ∷ 99 ∷ 101 ∷ 112 ∷ 116 ∷ 101 ∷ 100 ∷ []
-
--- the room for the answers is too small
-abbrev pub shortWords : List ℕ
-shortWords =
-    116 ∷ 104 ∷ 101 ∷ 32
-    ∷ 114 ∷ 111 ∷ 111 ∷ 109 ∷ 32
-    ∷ 102 ∷ 111 ∷ 114 ∷ 32
-    ∷ 116 ∷ 104 ∷ 101 ∷ 32
-    ∷ 97 ∷ 110 ∷ 115 ∷ 119 ∷ 101 ∷ 114 ∷ 115 ∷ 32
-    ∷ 105 ∷ 115 ∷ 32
-    ∷ 116 ∷ 111 ∷ 111 ∷ 32
-    ∷ 115 ∷ 109 ∷ 97 ∷ 108 ∷ 108 ∷ []
 
 -- ---- what is said
 

@@ -18,7 +18,7 @@ use Rattle.events.specs.declared.Event.the-variants.{Image}
 use Rattle.events.specs.declared.Refusal.the-variants.{Breaks}
 use Rattle.events.specs.declared.Taken.the-variants.{Run, Refused}
 use Rattle.events.specs.Image.{imageSize, imageAddress, imageLabel, imageBlock, acrAt}
-use Rattle.events.specs.Record.{addressedOf, orderedOf, judgedOf}
+use Rattle.events.specs.Record.{addressedOf, orderedOf, judgedAmong, judgedOf}
 use Rattle.gauge.specs.Gauge.{Sized, powerOnOf}
 use Rattle.pack.specs.Image.{imageOf, lockByte, tailOf, bytesOf}
 
@@ -101,7 +101,7 @@ round-trip g z =
 -- and judged by the breakpoints in the EEPROM, where the address is one
 pub image-judged : (g : Gauge) → Sized g → addressedOf (g .common .address) ≡ true
     → judgedOf (bytesOf g) ≡ pick (orderedOf (breaksOf (g .meter .cells .block .eeprom))) (Run Image) (Refused Breaks)
-unfolding judgedOf
+unfolding judgedAmong
 image-judged g z h =
     let p = image-holds g z in
     rw (eq-eqb (length (bytesOf g)) imageSize (p .size), p .address, h, p .block, p .byte 3, bits (g .meter .cells .locks .bl1) (g .common .bl0) .2) refl

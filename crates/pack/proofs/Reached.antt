@@ -23,7 +23,7 @@ use Rattle.events.specs.declared.Event.the-variants.{Image}
 use Rattle.events.specs.declared.Taken.{Taken}
 use Rattle.events.specs.declared.Taken.the-variants.{Run, Refused}
 use Rattle.events.specs.Image.{imageSize, imageAddress}
-use Rattle.events.specs.Record.{addressedOf, orderedOf, judgedOf}
+use Rattle.events.specs.Record.{addressedOf, orderedOf, judgedAmong, judgedOf}
 use Rattle.pack.specs.Image.{imageOf, bytesOf}
 use Rattle.pack.specs.Reach.{Reached}
 use Rattle.pack.specs.Reach.Reached.{accepted, changed, acted-on}
@@ -38,7 +38,7 @@ pass false t r e = (cc, cc)
 
 module _ (p : List ℕ) (e : judgedOf p ≡ Run Image) where
   passed : (eqb (length p) imageSize ≡ true) × (addressedOf (imageAddress p) ≡ true)
-  unfolding judgedOf
+  unfolding judgedAmong
   passed = let size = pass (eqb (length p) imageSize) _ _ e in (size .0, pass (addressedOf (imageAddress p)) _ _ (size .1) .0)
 
   pub accepted-length : length p ≡ imageSize

@@ -14,7 +14,7 @@ use Rattle.events.specs.declared.Refusal.the-variants.{Size}
 use Rattle.events.specs.declared.Taken.{Taken}
 use Rattle.events.specs.declared.Taken.the-variants as taken
 use Rattle.events.specs.Image.{imageSize}
-use Rattle.events.specs.Record.{judgedOf}
+use Rattle.events.specs.Record.{judgedAmong, judgedOf}
 use Rattle.events.proofs.Fits.{judged-sized}
 use Rattle.programming.specs.declared.Why.{Why}
 use Rattle.programming.specs.declared.Why.the-variants.{Image}
@@ -56,7 +56,7 @@ module _ {image wanted room after : List ℕ} {answer : Written} (w : Programmin
 -- ---- of a file that is too long the bytes do not matter
 
 pub long-image : (wanted image : List ℕ) → imageSize < length image → presetSpeech image wanted ≡ presetBy (Refused (Image Size)) [] []
-unfolding presetSpeech answerOf judgedOf
+unfolding presetSpeech answerOf judgedAmong
 long-image wanted image long = rw (ne-eqb (length image) imageSize (λ e. omega arith)) refl
 
 pub long-wanted : (image wanted : List ℕ) → 32 < length wanted → presetSpeech image wanted ≡ presetSpeech image []

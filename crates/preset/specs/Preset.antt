@@ -118,6 +118,7 @@ imageWords refusal.Order = otherWords
 imageWords refusal.Count = otherWords
 imageWords refusal.Room = otherWords
 imageWords refusal.Interval = otherWords
+imageWords refusal.Repeated = otherWords
 
 abbrev pub whyWords : Why → List ℕ
 whyWords (Image r) = imageWords r

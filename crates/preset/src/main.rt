@@ -41,6 +41,7 @@ fn put_judged(number: u8, r: Refusal, room: &mut [u8]) -> Said
         Refusal::Count => streams::put_refused(number, b"the image is refused", room),
         Refusal::Room => streams::put_refused(number, b"the image is refused", room),
         Refusal::Interval => streams::put_refused(number, b"the image is refused", room),
+        Refusal::Repeated => streams::put_refused(number, b"the image is refused", room),
     }
 }
 

@@ -1,6 +1,6 @@
 -- What the arms of the match leave of a session: whether an image was accepted, a gauge that is well-formed, and the room.
 use mathlib.Core.Path.{_≡_, refl, sym, ap, subst, _∙_}
-use mathlib.Core.Bool.{Bool, true}
+use mathlib.Core.Bool.{Bool, true, false}
 use mathlib.Core.List.{List, _++_}
 use Prim.Native.Nat.{ℕ, _+_, _-_, _≤_}
 use lib.ListN.{length, take, drop}
@@ -38,8 +38,8 @@ Stands start s room₀ answers₀ loaded gauge = every.Stands ofSession didOf di
 
 -- an event that was taken came at its time, with a payload of its kind's size
 pub ran-taking : {σ : Session} {room : ℕ} {l : List ℕ} {used : ℕ} {e : Event} → Ran ofSession σ room l used e
-    → Taking (σ .loaded) (payloadOf used l) (taken.Run e)
-ran-taking {σ} {l = l} {used} x = subst (Taking (σ .loaded) (payloadOf used l)) (x .told) (timed-taking (σ .loaded) (payloadOf used l) (lastTick σ) (pairAt l 2))
+    → Taking false (σ .loaded) (payloadOf used l) (taken.Run e)
+ran-taking {σ} {l = l} {used} x = subst (Taking false (σ .loaded) (payloadOf used l)) (x .told) (timed-taking (σ .loaded) (payloadOf used l) (lastTick σ) (pairAt l 2))
 
 -- a state in which an image was accepted
 with-gauge : {loaded : Bool} {gauge g h : Gauge} → GaugeWF g → loaded ≡ true → gauge ≡ g → g ≡ h

@@ -90,7 +90,7 @@ fn reply_source(shadow: &[u8; 32], t: Transaction, chosen: bool) -> Source
 // ---- the reply, which fills a room
 
 // FFh alone.
-fn idle(room: &mut [u8])
+pub fn idle(room: &mut [u8])
     ensures { λ _. ⌜ now (room .exit) ≡ listed (λ i. 0xff) 0 (length (now (room .entry))) ⌝ }
 {
     let mut i = 0;

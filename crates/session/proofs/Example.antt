@@ -9,7 +9,7 @@ use Rattle.steps.specs.Step.{didOf}
 use Rattle.records.specs.Run.{sessionOf}
 use Rattle.digits.specs.Digits.{hexOf, shownText, decimalText}
 use Rattle.line.specs.Line.{kindText, replyText, startText, endText}
-use Rattle.text.specs.Text.{headerText}
+use Rattle.text.specs.Text.{headerText, runText}
 use Rattle.session.specs.Session.{sessionText}
 
 abbrev pub input : List ℕ
@@ -28,5 +28,5 @@ abbrev pub third : List ℕ
 third = 51 ∷ 32 ∷ 45 ∷ 45 ∷ 45 ∷ 45 ∷ 32 ∷ 50 ∷ 32 ∷ 45 ∷ 10 ∷ []
 
 pub example : sessionText input ≡ headerText ++ (first ++ (second ++ third))
-unfolding sessionText outcomeOf sessionOf didOf takenOf kindOf recOf sizeOf wholeOf hexOf shownText decimalText kindText replyText startText endText
+unfolding runText outcomeOf sessionOf didOf takenOf kindOf recOf sizeOf wholeOf hexOf shownText decimalText kindText replyText startText endText
 example = refl

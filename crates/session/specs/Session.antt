@@ -2,20 +2,17 @@
 use mathlib.Core.Bool.{Bool}
 use mathlib.Core.List.{List, [], _∷_}
 use Prim.Native.Nat.{ℕ}
-use lib.ListN.{length}
 use Rattle.numbers.specs.Choice.{pick}
-use Rattle.runs.specs.Run.{outcomeOf}
 use Rattle.records.specs.Run.{sessionOf}
-use Rattle.text.specs.Text.{textOf}
+use Rattle.text.specs.Text.{runText}
 use Rattle.streams.specs.Streams.{Speech, output, error, unreadText}
 
 -- session
 abbrev pub sessionName : List ℕ
 sessionName = 115 ∷ 101 ∷ 115 ∷ 115 ∷ 105 ∷ 111 ∷ 110 ∷ []
 
--- with 65,536 bytes of reply room, and an answer lent for each record that 32,768 bytes can hold
-unfoldable pub sessionText : List ℕ → List ℕ
-sessionText s = textOf (outcomeOf (length s) 8192) (sessionOf s 65536)
+abbrev pub sessionText : List ℕ → List ℕ
+sessionText s = runText sessionOf s
 
 -- what is said of standard input s, or where a read of it failed
 abbrev pub printedOf : Bool → List ℕ → Speech

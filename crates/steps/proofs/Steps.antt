@@ -13,13 +13,12 @@ use Rattle.bus.specs.declared.Transaction.{Transaction}
 use Rattle.replies.proofs.Listed.{listed-length}
 use Rattle.gauge.specs.declared.Gauge.{Gauge}
 use Rattle.gauge.specs.Act.{replyOf}
-use Rattle.events.specs.declared.Refusal.{Refusal}
-use Rattle.events.specs.declared.Refusal.the-variants.{Kind, Size, Order, Address, Locks, Count, Room, Breaks, Interval}
 use Rattle.events.specs.declared.Event.{Event}
 use Rattle.events.specs.declared.Event.the-variants.{Image, Change, Transact}
 use Rattle.events.specs.declared.Taken.{Taken}
 use Rattle.events.specs.declared.Taken.the-variants as taken
 use Rattle.events.specs.Record.{refusalNumber, numberOf, masterOf, asksOf, fittedOf}
+use Rattle.events.proofs.Fits.{refusal-range}
 use Rattle.runs.specs.Record.{Rec, whole, cut, wholeOf}
 use Rattle.runs.specs.Run.{Did}
 use Rattle.runs.proofs.Records.{rec-whole, size-whole, rec-cut, size-cut}
@@ -46,17 +45,6 @@ module _ (told : ℕ → List ℕ → Taken) (room : ℕ) (l : List ℕ) where
 
 -- ---- the answer is a byte, and the reply fits the room that is left
 
-pub refusal-small : (r : Refusal) → refusalNumber r < 256
-refusal-small Kind = omega arith
-refusal-small Size = omega arith
-refusal-small Order = omega arith
-refusal-small Address = omega arith
-refusal-small Locks = omega arith
-refusal-small Count = omega arith
-refusal-small Room = omega arith
-refusal-small Breaks = omega arith
-refusal-small Interval = omega arith
-
 -- each event is answered 0, and its reply has the bytes that it asks
 pub record Replying {S : Type 0} (k : Steps S) : Type 0 where
   pub answer : (σ : S) (p : List ℕ) (e : Event) → k .event σ p e .answer ≡ 0
@@ -72,7 +60,7 @@ module _ {S : Type 0} (k : Steps S) (h : Replying k) where
       picked (λ (t : Taken). Small room (answeredBy k σ p t)) (ltb room (asksOf e)) _ _
       (λ full. record { answer = omega arith; reply = zero-le })
       (λ fits. record { answer = omega (arith, h .answer σ p e); reply = omega (arith, h .reply σ p e, ltb-false room (asksOf e) fits) })
-  taken-small σ room p (taken.Refused r) = record { answer = refusal-small r; reply = zero-le }
+  taken-small σ room p (taken.Refused r) = record { answer = omega (arith, refusal-range r .1); reply = zero-le }
 
   small : (σ : S) (room : ℕ) (r : Rec) → Small room (recordBy k σ room r)
   small σ room (whole kind p) = taken-small σ room p (k .told σ kind p)

@@ -2,9 +2,9 @@
 use mathlib.Core.Path.{_≡_, refl, sym, ap, _∙_}
 use mathlib.Core.Bool.{Bool, true, false}
 use mathlib.Core.List.{List, [], _∷_, _++_, append-nil}
-use Prim.Native.Nat.{ℕ, suc, _+_, _-_, _/_, _≤_}
+use Prim.Native.Nat.{ℕ, suc, _+_, _-_, _/_, _≤_, _<_}
 use native.Mathlib.Omega.{arith}
-use borrow.Author.Tests.{le-leb, le-ltb, ltb-false}
+use borrow.Author.Tests.{le-leb, le-ltb, lt-ltb, ltb-false}
 use lib.Dec.{ltb}
 use lib.ListN.{length, take, length-take}
 use Rattle.numbers.specs.Choice.{pick}
@@ -17,7 +17,7 @@ use Rattle.runs.specs.Run.{Did, Line, linesAfter, codesOf, repliesOf, Result, o
 use Rattle.runs.proofs.Records.{Bytes}
 use Rattle.runs.proofs.Lines.{Fits, lines-coded, lines-few, lines-fit}
 use Rattle.runs.proofs.Ends.{done-within}
-use Rattle.text.specs.Text.{headerText, codedText, textOf, mostOf, fitsOf, reportOf}
+use Rattle.text.specs.Text.{headerText, overText, codedText, textOf, runText, mostOf, fitsOf, reportOf}
 use Rattle.text.proofs.Lines.{codes-lines}
 
 -- as many numbers as lines
@@ -91,3 +91,8 @@ outcome-told s = by (ltb 32768 (length s)) refl
     by false h =
         let few : (length s + 3) / 4 ≤ 8192 = omega (arith, ltb-false 32768 (length s) h) in
         rw (le-ltb 8192 ((length s + 3) / 4) few)
+
+-- the text of a session that is over 32,768 bytes does not depend on its bytes
+pub over-alike : (lines : List ℕ → ℕ → List Line) (s : List ℕ) → 32768 < length s → runText lines s ≡ headerText ++ overText
+unfolding runText
+over-alike lines s h = rw (outcome-told s, lt-ltb 32768 (length s) h)

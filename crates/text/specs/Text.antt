@@ -1,4 +1,4 @@
--- What the session program prints: a header and a line per record, as bytes of text.
+-- What a program prints of a run: a header and a line per record, as bytes of text; and what it says where nothing is run.
 use mathlib.Core.Path.{_≡_}
 use mathlib.Core.Bool.{Bool}
 use mathlib.Core.List.{List, [], _∷_, _++_}
@@ -11,7 +11,7 @@ use Rattle.digits.specs.Digits.{decimalText}
 use Rattle.line.specs.Line.{space, newline, dash, lineText, endText}
 use Rattle.runs.specs.declared.Outcome.{Outcome}
 use Rattle.runs.specs.declared.Outcome.the-variants.{Done, Over, Short}
-use Rattle.runs.specs.Run.{Line, outcomeNumber}
+use Rattle.runs.specs.Run.{Line, outcomeNumber, outcomeOf}
 
 -- ---- the lines
 
@@ -37,6 +37,11 @@ abbrev pub textOf : Outcome → List Line → List ℕ
 textOf Done lines = headerText ++ linesText 1 lines
 textOf Over lines = headerText ++ overText
 textOf Short lines = []
+
+-- the text of a session s, by the lines that it has with so much reply room: with 65,536 bytes of it, and an answer lent for each record that
+-- 32,768 bytes can hold
+unfoldable pub runText : (List ℕ → ℕ → List Line) → List ℕ → List ℕ
+runText lines s = textOf (outcomeOf (length s) 8192) (lines s 65536)
 
 -- ---- the same of lines as `run` hands them back: each a number, and the replies one after the other
 
@@ -87,3 +92,27 @@ pub record Reporting (text before : List ℕ) (count : ℕ) (after : List ℕ) :
   pub written : after ≡ put before 0 text
   pub within : count ≤ length after
   pub whole : count ≡ length (take count after)
+
+-- ---- why a session is not run, in words
+
+-- the session is over 32,768 bytes
+abbrev pub overWords : List ℕ
+overWords =
+    116 ∷ 104 ∷ 101 ∷ 32
+    ∷ 115 ∷ 101 ∷ 115 ∷ 115 ∷ 105 ∷ 111 ∷ 110 ∷ 32
+    ∷ 105 ∷ 115 ∷ 32
+    ∷ 111 ∷ 118 ∷ 101 ∷ 114 ∷ 32
+    ∷ 51 ∷ 50 ∷ 44 ∷ 55 ∷ 54 ∷ 56 ∷ 32
+    ∷ 98 ∷ 121 ∷ 116 ∷ 101 ∷ 115 ∷ []
+
+-- the room for the answers is too small
+abbrev pub shortWords : List ℕ
+shortWords =
+    116 ∷ 104 ∷ 101 ∷ 32
+    ∷ 114 ∷ 111 ∷ 111 ∷ 109 ∷ 32
+    ∷ 102 ∷ 111 ∷ 114 ∷ 32
+    ∷ 116 ∷ 104 ∷ 101 ∷ 32
+    ∷ 97 ∷ 110 ∷ 115 ∷ 119 ∷ 101 ∷ 114 ∷ 115 ∷ 32
+    ∷ 105 ∷ 115 ∷ 32
+    ∷ 116 ∷ 111 ∷ 111 ∷ 32
+    ∷ 115 ∷ 109 ∷ 97 ∷ 108 ∷ 108 ∷ []

@@ -1,12 +1,8 @@
-use mathlib.Core.Path.{_≡_, sym, _∙_}
-use mathlib.Core.Bool.{true, false}
-use mathlib.Core.List.{List}
-use Prim.Native.Nat.{ℕ, _+_, _-_, _≤_, _<_}
-use native.Mathlib.Omega.{arith}
-use borrow.Author.Tests.{eq-eqb, ne-eqb}
-use lib.ListN.{length, getD, drop, drop-of-length-le}
+use mathlib.Core.Path.{_≡_}
+use Prim.Native.Nat.{_-_, _≤_}
+use lib.ListN.{length, drop}
 use Rattle.bus.specs.Ask.{sameBytes}
-use Rattle.bus.proofs.Laws.{same-more}
+use Rattle.bus.proofs.Laws.{differs, agrees, ended}
 use borrow.Author.Needs.{needs}
 use Rattle.bus.proofs.same_bytes.Statement.{statement}
 use Rattle.bus.proofs.same_bytes.Tie as tie
@@ -16,19 +12,6 @@ Inv-loop a b i₀ i = (i ≤ length a) × (sameBytes (drop i a) (drop i b) ≡ s
 
 abbrev μ-loop : tie.MeasureT-loop
 μ-loop a b i₀ i = length a - i
-
--- a byte differs, a byte agrees, none is left
-module _ (a b : List ℕ) (i : ℕ) (size : length a ≡ length b) (so-far : sameBytes (drop i a) (drop i b) ≡ sameBytes a b) where
-  differs : i < length a → (getD a i 0 ≡ getD b i 0 → ⊥) → false ≡ sameBytes a b
-  differs h d = sym (same-more a b i h (omega arith) ∙ simp (ne-eqb _ _ d)) ∙ so-far
-
-  agrees : i < length a → getD a i 0 ≡ getD b i 0 → sameBytes (drop (i + 1) a) (drop (i + 1) b) ≡ sameBytes a b
-  agrees h d = sym (same-more a b i h (omega arith) ∙ simp (eq-eqb _ _ d)) ∙ so-far
-
-  ended : length a ≤ i → true ≡ sameBytes a b
-  ended h =
-      let k : length b ≤ i = omega arith in
-      rw (drop-of-length-le a h, drop-of-length-le b k) at so-far
 
 loop-holds : tie.Need-loop-holds Inv-loop μ-loop
 loop-holds c = search needs

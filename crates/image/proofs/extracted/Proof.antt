@@ -7,7 +7,8 @@ use Rattle.runs.specs.declared.Outcome.the-variants.{Over}
 use Rattle.runs.specs.Run.{outcomeNumber}
 use Rattle.streams.specs.Streams.{error, refusedText}
 use Rattle.streams.proofs.Laws.{cut, seen}
-use Rattle.image.specs.Image.{overWords, takenSpeech}
+use Rattle.text.specs.Text.{overWords}
+use Rattle.image.specs.Image.{takenSpeech}
 use Rattle.image.proofs.Laws.{alike}
 use borrow.Author.Needs.{needs}
 use Rattle.image.proofs.extracted.Statement.{statement}

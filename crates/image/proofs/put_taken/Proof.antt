@@ -4,14 +4,17 @@ use Prim.Native.Nat.{ℕ}
 use lib.ListN.{replicate, length-replicate}
 use denote.Ref.{now}
 use Rattle.runs.specs.declared.Outcome.the-variants.{Over, Short}
-use Rattle.image.proofs.Laws.{Ended, ended, done, idle}
+use Rattle.steps.specs.Step.{didOf}
+use Rattle.records.specs.Run.{emptyOf, resultOf}
+use Rattle.text.proofs.Ended.{Ended, ended}
+use Rattle.image.proofs.Laws.{done, idle}
 use borrow.Author.Needs.{needs}
 use Rattle.image.proofs.put_taken.Statement.{statement}
 use Rattle.image.proofs.put_taken.Tie as tie
 
-at-end : (c : tie.After-run) → Ended (now (c .before .before .before .before .before .args .s)) (c .run .result)
+at-end : (c : tie.After-run) → Ended didOf emptyOf (now (c .before .before .before .before .before .args .s)) (resultOf (c .run .result))
 at-end c =
-    ended (now (c .before .before .before .before .before .args .s)) (replicate 65536 0) (replicate 8192 0) (c .run .result) (c .run .last .1 .0) (c .run .last .1 .1 .0)
+    ended didOf emptyOf (now (c .before .before .before .before .before .args .s)) (resultOf (c .run .result)) (replicate 65536 0) (replicate 8192 0) (c .run .last .1 .0) (c .run .last .1 .1 .0)
     (sym (length-replicate {A = ℕ} 8192 0)) (sym (length-replicate {A = ℕ} 65536 0)) (c .run .ensures)
 
 returns : tie.Need-returns

@@ -30,10 +30,16 @@ returns-8 c = rw (c .before .before .before .before .before .enum-told8 .given .
 returns-9 : tie.Need-returns-9
 returns-9 c = rw (c .before .before .before .before .before .enum-told9 .given .1) (c .before .before .put-refused9 .ensures)
 
+returns-10 : tie.Need-returns-10
+returns-10 c = rw (c .before .before .before .before .before .enum-told10 .given .1) (c .before .before .put-refused10 .ensures)
+
 pub put-judged-spec : {M : Type 1} → statement M
 put-judged-spec =
     tie.close
     (tie.spec
+    (λ c. search needs)
+    (λ c. search needs)
+    (λ c κs. search needs)
     (λ c. search needs)
     (λ c. search needs)
     (λ c κs. search needs)
@@ -78,4 +84,6 @@ put-judged-spec =
     (λ c. search needs)
     returns-8
     (λ c. search needs)
-    returns-9)
+    returns-9
+    (λ c. search needs)
+    returns-10)

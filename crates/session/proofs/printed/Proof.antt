@@ -4,10 +4,11 @@ use mathlib.Core.List.{_++_}
 use native.Mathlib.Omega.{arith}
 use lib.ListN.{length}
 use denote.Ref.{now}
+use Rattle.records.specs.Run.{sessionOf}
 use Rattle.text.specs.Text.{headerText, overText}
+use Rattle.text.proofs.Printed.{over-alike}
 use Rattle.streams.proofs.Laws.{cut, seen}
 use Rattle.session.specs.Session.{sessionText}
-use Rattle.session.proofs.Laws.{alike}
 use borrow.Author.Needs.{needs}
 use Rattle.session.proofs.printed.Statement.{statement}
 use Rattle.session.proofs.printed.Tie as tie
@@ -20,7 +21,7 @@ returns-2 c =
     let size : length (now (c .before .before .before .before .before .before .before .args .input)) ≡ 32769 = omega arith in
     let read = ap sessionText (cut (c .before .before .before .before .within .ensures)) in (
       λ s front.
-          rw (c .before .before .before .before .before .before .if1 .left, ← read ∙ seen sessionText (headerText ++ overText) 32768 alike size front)
+          rw (c .before .before .before .before .before .before .if1 .left, ← read ∙ seen sessionText (headerText ++ overText) 32768 (over-alike sessionOf) size front)
           (record { stream = refl; counted = c .put-session .ensures .counted; written = c .put-session .ensures .written }),
       search needs,
     )

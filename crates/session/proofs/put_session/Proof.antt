@@ -9,9 +9,8 @@ use Rattle.runs.specs.Run.{outcomeOf}
 use Rattle.steps.specs.Step.{didOf}
 use Rattle.steps.proofs.Steps.{did-fits}
 use Rattle.records.specs.Run.{emptyOf, resultOf, sessionOf}
-use Rattle.text.specs.Text.{textOf, mostOf, reportOf}
+use Rattle.text.specs.Text.{textOf, runText, mostOf, reportOf}
 use Rattle.text.proofs.Printed.{counts-within, session-text}
-use Rattle.session.specs.Session.{sessionText}
 use borrow.Author.Needs.{needs}
 use Rattle.session.proofs.put_session.Statement.{statement}
 use Rattle.session.proofs.put_session.Tie as tie
@@ -42,7 +41,7 @@ slice-aggregate-report-2 : tie.Need-slice-aggregate-report-2
 slice-aggregate-report-2 c = sym (length-take-le _ (c .before .before .before .before .run .last .1 .0) (counts (c .before .before .before .before) .1))
 
 returns : tie.Need-returns
-unfolding sessionText
+unfolding runText
 returns c =
     rw (← told (c .before .before .before .before .before .before .before .before) (length (now (c .before .before .before .before .before .before .before .before .before .before .before .before .before .args .out))) (omega arith)) (c .before .before .report .ensures)
 

@@ -1,0 +1,77 @@
+-- A slot's event and a matched transaction leave every other pack as it was.
+use mathlib.Core.Path.{_≡_, refl, sym, ap, _∙_}
+use mathlib.Core.Bool.{Bool, true, false}
+use mathlib.Core.List.{List}
+use Prim.Native.Nat.{ℕ}
+use native.Mathlib.Omega.{arith}
+use borrow.Author.Tests.{eqb-true}
+use lib.Dec.{eqb}
+use Rattle.numbers.specs.Choice.{either}
+use Rattle.bus.specs.declared.Transaction.{Transaction}
+use Rattle.gauge.specs.Change.{changedOf}
+use Rattle.gauge.specs.Act.{actOf}
+use Rattle.events.specs.declared.Kind.{Kind}
+use Rattle.events.specs.declared.Kind.the-variants as kind
+use Rattle.events.specs.declared.Event.the-variants.{Image, Change, Transact}
+use Rattle.events.specs.declared.Taken.{Taken}
+use Rattle.events.specs.declared.Taken.the-variants.{Run, Refused}
+use Rattle.events.specs.Record.{masterOf}
+use Rattle.steps.specs.Steps.{answeredBy}
+use Rattle.slots.specs.declared.Tray.{Tray}
+use Rattle.slots.specs.Tray.{packOf, trayKindOf, aheadOf, slotIn, Reach, one, trayReach, trayActed, trayTold, ofTray, trayDid}
+use Rattle.demands.specs.Alone.{slotEvent, reachIn, slotted, matched, Alone}
+use Rattle.demands.proofs.Choice.{contrary}
+use Rattle.demands.proofs.Fitted.{fitted-has}
+use Rattle.slots.proofs.Laws.{stored-other}
+use Rattle.demands.proofs.Asked.{Asks, tray-asks}
+
+-- A slot's event has a slot byte ahead
+
+pub slot-ahead : (n : ℕ) → slotEvent n ≡ true → aheadOf (trayKindOf n) ≡ 1
+unfolding trayKindOf
+slot-ahead n = go (eqb n 18) (eqb n 19) (eqb n 21) (eqb n 22) refl refl refl refl
+  where
+    is : (m : ℕ) → eqb n m ≡ true → aheadOf (trayKindOf m) ≡ 1 → aheadOf (trayKindOf n) ≡ 1
+    is m e h = ap (λ (x : ℕ). aheadOf (trayKindOf x)) (eqb-true n m e) ∙ h
+
+    go : (a b c d : Bool) → eqb n 18 ≡ a → eqb n 19 ≡ b → eqb n 21 ≡ c → eqb n 22 ≡ d → either a (either b (either c d)) ≡ true
+        → aheadOf (trayKindOf n) ≡ 1
+    go true b c d ea eb ec ed h = is 18 ea refl
+    go false true c d ea eb ec ed h = is 19 eb refl
+    go false false true d ea eb ec ed h = is 21 ec refl
+    go false false false true ea eb ec ed h = is 22 ed refl
+    go false false false false ea eb ec ed h = contrary cc
+
+pub transaction-kind : trayKindOf 4 ≡ kind.Transaction
+unfolding trayKindOf
+transaction-kind = refl
+
+-- One record, refused or not
+
+module _ (τ : Tray) (i j : ℕ) (other : j ≡ i → ⊥) (p : List ℕ) where
+  abbrev Stays : Taken → Type 0
+  Stays t = packOf (answeredBy ofTray τ p t .state) j ≡ packOf τ j
+
+  slot-stays : (k : Kind) → aheadOf k ≡ 1 → slotIn p ≡ i → (t : Taken) → Asks τ k p t → Stays t
+  slot-stays k ahead slot (Run Image) a = let z : _≡_ {A = ℕ} 1 0 = sym ahead ∙ ap aheadOf (a .kind) in absurd (omega arith)
+  slot-stays k ahead slot (Run (Change c)) a =
+      stored-other τ (slotIn p) j (changedOf (packOf τ (slotIn p)) c) (λ e. other (e ∙ slot))
+  slot-stays k ahead slot (Run (Transact t)) a = let z : _≡_ {A = ℕ} 1 0 = sym ahead ∙ ap aheadOf (a .kind) in absurd (omega arith)
+  slot-stays k ahead slot (Refused r) a = refl
+
+  acted-stays : (t : Transaction) (reach : Reach) → reach ≡ one i → packOf (trayActed t (masterOf t p) reach τ) j ≡ packOf τ j
+  acted-stays t reach e = rw e (stored-other τ i j (actOf (packOf τ i) t (masterOf t p)) other)
+
+  matched-stays : (k : Kind) → k ≡ kind.Transaction → reachIn τ p ≡ one i → (t : Taken) → Asks τ k p t → Stays t
+  matched-stays k is reach (Run Image) a = let z = sym (a .kind) ∙ is in contrary cc
+  matched-stays k is reach (Run (Change c)) a = let z : _≡_ {A = ℕ} 1 0 = sym (a .ahead) ∙ ap aheadOf is in absurd (omega arith)
+  matched-stays k is reach (Run (Transact t)) a =
+      acted-stays t (trayReach τ t (masterOf t p)) (ap (λ (x : Transaction). trayReach τ x (masterOf x p)) (a .asked) ∙ reach)
+  matched-stays k is reach (Refused r) a = refl
+
+pub alone : Alone
+unfolding trayDid
+alone τ room r i j (slotted {n} {p} e slot) other =
+    fitted-has (Stays τ i j other p) refl room (trayTold τ n p) (slot-stays τ i j other p (trayKindOf n) (slot-ahead n e) slot (trayTold τ n p) (tray-asks τ n p))
+alone τ room r i j (matched {p} reach) other =
+    fitted-has (Stays τ i j other p) refl room (trayTold τ 4 p) (matched-stays τ i j other p (trayKindOf 4) transaction-kind reach (trayTold τ 4 p) (tray-asks τ 4 p))

@@ -1,0 +1,55 @@
+-- Any session within the limits has a call, and so has each of its moments, of every run.
+use mathlib.Core.Path.{refl}
+use mathlib.Core.List.{List, [], _∷_, _++_}
+use Prim.Native.Nat.{ℕ, _+_, _/_, _≤_}
+use native.Mathlib.Omega.{arith}
+use lib.ListN.{length}
+use Rattle.parts.specs.Parts.{put}
+use Rattle.runs.specs.declared.Outcome.the-variants.{Done}
+use Rattle.runs.specs.Record.{Rec, whole, cut, recsOf, recordOf}
+use Rattle.runs.specs.Run.{Did, linesAfter, endAfter, repliesOf, codesOf}
+use Rattle.runs.proofs.Ends.{within-done}
+use Rattle.demands.specs.Call.{Call, Within, firstOf, Stopped}
+use Rattle.demands.proofs.Moments.{first-length}
+
+-- the bytes of records
+abbrev pub packed : List Rec → List ℕ
+packed [] = []
+packed (whole kind p ∷ rs) = recordOf kind p ++ packed rs
+packed (cut ∷ rs) = []
+
+module _ {S : Type 0} (did : S → ℕ → Rec → Did S) (start : S) where
+  -- what the contract of a run says of any session that it runs
+  abbrev pub called : List ℕ → List ℕ → List ℕ → Call S
+  called s room answers = record {
+    bytes = s;
+    room = room;
+    answers = answers;
+    ran = record {
+      outcome = Done;
+      state = endAfter did start (length room) (recsOf s);
+      lines = length (linesAfter did start (length room) (recsOf s));
+      replied = length (repliesOf (linesAfter did start (length room) (recsOf s)));
+    };
+    replies = put room 0 (repliesOf (linesAfter did start (length room) (recsOf s)));
+    told = put answers 0 (codesOf (linesAfter did start (length room) (recsOf s)));
+  }
+
+  pub called-within : (s room answers : List ℕ) → length s ≤ 32768 → (length s + 3) / 4 ≤ length answers → Within did start (called s room answers)
+  called-within s room answers short lent = record {
+    allowed =
+        rw (within-done (length s) (length answers) short lent)
+        (record { number = refl; outcome = refl; state = refl; lines = refl; replied = refl; replies = refl; answered = refl });
+    short = short;
+    lent = lent;
+  }
+
+  pub called-stopped : (n : ℕ) (c : Call S) → Within did start c → Stopped did start n c (called (firstOf n (c .bytes)) (c .room) (c .answers))
+  called-stopped n c w =
+      let e = first-length n (c .bytes) in
+      record {
+        allowed = called-within (firstOf n (c .bytes)) (c .room) (c .answers) (omega (arith, w .short)) (omega (arith, w .lent)) .allowed;
+        bytes = refl;
+        room = refl;
+        answers = refl;
+      }

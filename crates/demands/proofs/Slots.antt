@@ -1,0 +1,112 @@
+-- A slot's pack does what a gauge does, proved.
+use mathlib.Core.Path.{_≡_, refl, sym, ap, subst, _∙_}
+use mathlib.Core.Bool.{true, false}
+use mathlib.Core.List.{List, _∷_}
+use Prim.Native.Nat.{ℕ, _<_, zero-le}
+use native.Mathlib.Omega.{arith}
+use borrow.Author.Tests.{lt-ltb, le-leb}
+use lib.Dec.{ltb}
+use lib.ListN.{length}
+use Rattle.bus.specs.declared.Transaction.{Transaction}
+use Rattle.gauge.specs.Change.{changedOf}
+use Rattle.gauge.specs.Act.{actOf, replyOf}
+use Rattle.events.specs.declared.Kind.{Kind}
+use Rattle.events.specs.declared.Kind.the-variants as kind
+use Rattle.events.specs.declared.Event.the-variants.{Image, Change, Transact}
+use Rattle.events.specs.declared.Taken.{Taken}
+use Rattle.events.specs.declared.Taken.the-variants.{Run, Refused}
+use Rattle.events.specs.Record.{kindOf, masterOf, takenOf, timedOf}
+use Rattle.events.proofs.Fits.{transaction-timely}
+use Rattle.runs.specs.Record.{whole, recsOf}
+use Rattle.steps.specs.Steps.{answeredBy}
+use Rattle.steps.specs.Step.{loadedWith, lastTick, takenDid, didOf}
+use Rattle.slots.specs.declared.Tray.{Tray}
+use Rattle.slots.specs.Tray.{emptyTray, packOf, trayKindOf, aheadOf, againOf, slotTick, trayTold, Reach, one, trayReach, trayActed, trayReply, ofTray, trayDid}
+use Rattle.demands.specs.Call.{Call, Within}
+use Rattle.demands.specs.Alone.{transactionIn, reachIn}
+use Rattle.demands.specs.Slots.{Stands, reading, conversion, sample, power-on, AsOld, SlotsAsOld}
+use Rattle.demands.proofs.Choice.{contrary}
+use Rattle.demands.proofs.Moments.{running}
+use Rattle.demands.proofs.Fitted.{fitted-has}
+use Rattle.demands.proofs.Packs.{Eight, There, stored-here}
+use Rattle.demands.proofs.Asked.{Asks, tray-asks, reach-there}
+use Rattle.demands.proofs.Filled.{end-filled}
+
+module _ (τ : Tray) (h : Eight τ) (i : ℕ) (low : i < τ .count) (p : List ℕ) where
+  -- what it asks is what the old kind asks of a session whose gauge is the slot's pack
+  abbrev old : ℕ → Taken
+  old m = timedOf (lastTick (loadedWith (packOf τ i))) (takenOf m true p)
+
+  asks-old : (n m : ℕ) → Stands n m → (trayTold τ n (i ∷ p) ≡ old m) × (aheadOf (trayKindOf n) ≡ 1)
+  unfolding trayKindOf takenOf kindOf
+  asks-old n m reading = (rw (le-leb 1 (length (i ∷ p)) (omega arith), lt-ltb i (τ .count) low) refl, refl)
+  asks-old n m conversion = (rw (le-leb 1 (length (i ∷ p)) (omega arith), lt-ltb i (τ .count) low) refl, refl)
+  asks-old n m sample = (rw (le-leb 1 (length (i ∷ p)) (omega arith), lt-ltb i (τ .count) low) refl, refl)
+  asks-old n m power-on = (rw (le-leb 1 (length (i ∷ p)) (omega arith), lt-ltb i (τ .count) low) refl, refl)
+
+  abbrev Same : Taken → Type 0
+  Same t = AsOld i (answeredBy ofTray τ (i ∷ p) t) (takenDid (loadedWith (packOf τ i)) p t)
+
+  taken-old : (k : Kind) → aheadOf k ≡ 1 → (t : Taken) → Asks τ k (i ∷ p) t → Same t
+  taken-old k ahead (Run Image) a = let z : _≡_ {A = ℕ} 1 0 = sym ahead ∙ ap aheadOf (a .kind) in absurd (omega arith)
+  taken-old k ahead (Run (Change c)) a =
+      record { answer = refl; reply = refl; pack = stored-here τ i (changedOf (packOf τ i) c) h (omega (arith, h .few)) }
+  taken-old k ahead (Run (Transact t)) a = let z : _≡_ {A = ℕ} 1 0 = sym ahead ∙ ap aheadOf (a .kind) in absurd (omega arith)
+  taken-old k ahead (Refused r) a = record { answer = refl; reply = refl; pack = refl }
+
+  did-old : (n m : ℕ) → Stands n m → (room : ℕ) → AsOld i (trayDid τ room (whole n (i ∷ p))) (didOf (loadedWith (packOf τ i)) room (whole m p))
+  unfolding trayDid didOf
+  did-old n m s room =
+      let e = asks-old n m s in
+      rw (e .0) (fitted-has Same (record {
+        answer =
+            refl;
+        reply = refl;
+        pack = refl;
+      }) room (old m) (taken-old (trayKindOf n) (e .1) (old m) (rw (e .0) at (tray-asks τ n (i ∷ p)))))
+
+-- A transaction that is matched to a slot
+
+module _ (τ : Tray) (h : Eight τ) (i : ℕ) (p : List ℕ) (reach : reachIn τ p ≡ one i) where
+  there : i < τ .count
+  there = subst (λ (r : Reach). There r (τ .count)) reach (reach-there τ (transactionIn p) (masterOf (transactionIn p) p))
+
+  abbrev matchedOld : Taken
+  matchedOld = timedOf (lastTick (loadedWith (packOf τ i))) (takenOf 4 true p)
+
+  asks-matched : trayTold τ 4 p ≡ matchedOld
+  unfolding trayKindOf takenOf kindOf
+  asks-matched =
+      rw (le-leb 0 (length p) zero-le)
+      (sym (transaction-timely (slotTick τ p) (againOf τ p) (ltb 0 (τ .count)) p)
+      ∙ rw (lt-ltb 0 (τ .count) (omega (arith, there))) refl
+      ∙ transaction-timely (lastTick (loadedWith (packOf τ i))) false true p)
+
+  abbrev Matched : Taken → Type 0
+  Matched t = AsOld i (answeredBy ofTray τ p t) (takenDid (loadedWith (packOf τ i)) p t)
+
+  acted-old : (t : Transaction) (r : Reach) → r ≡ one i
+      → (trayReply t (masterOf t p) r τ ≡ replyOf (packOf τ i) t (masterOf t p)) × (packOf (trayActed t (masterOf t p) r τ) i ≡ actOf (packOf τ i) t (masterOf t p))
+  acted-old t r e = rw e (refl, stored-here τ i (actOf (packOf τ i) t (masterOf t p)) h (omega (arith, there, h .few)))
+
+  taken-matched : (t : Taken) → Asks τ kind.Transaction p t → Matched t
+  taken-matched (Run Image) a = let z = a .kind in contrary cc
+  taken-matched (Run (Change c)) a = let z = a .ahead in contrary cc
+  taken-matched (Run (Transact t)) a =
+      let e = acted-old t (trayReach τ t (masterOf t p)) (ap (λ (x : Transaction). trayReach τ x (masterOf x p)) (a .asked) ∙ reach) in
+      record { answer = refl; reply = e .0; pack = e .1 }
+  taken-matched (Refused r) a = record { answer = refl; reply = refl; pack = refl }
+
+  did-matched : (room : ℕ) → AsOld i (trayDid τ room (whole 4 p)) (didOf (loadedWith (packOf τ i)) room (whole 4 p))
+  unfolding trayDid didOf trayKindOf
+  did-matched room =
+      rw asks-matched (fitted-has Matched (record { answer = refl; reply = refl; pack = refl }) room matchedOld (taken-matched matchedOld (rw asks-matched at (tray-asks τ 4 p))))
+
+left-eight : {c : Call Tray} → Within trayDid emptyTray c → Eight (c .ran .state)
+left-eight {c} w = rw (running trayDid emptyTray w .state) (end-filled (length (c .room)) (recsOf (c .bytes)) .eight)
+
+pub slots-as-old : SlotsAsOld
+slots-as-old = record {
+  events = λ c w i low n m s room p. did-old (c .ran .state) (left-eight w) i low p n m s room;
+  matched = λ c w i room p reach. did-matched (c .ran .state) (left-eight w) i p reach room;
+}

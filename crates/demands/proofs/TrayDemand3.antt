@@ -1,0 +1,143 @@
+-- Demand 3, proved of trays: the images first, then a run that no image joins.
+use mathlib.Core.Path.{_≡_, refl, sym, ap, subst, _∙_}
+use mathlib.Core.Bool.{Bool, true, false}
+use mathlib.Core.List.{List, [], _∷_, _++_, map, append-assoc, append-nil, zip, zipWith}
+use Prim.Native.Nat.{ℕ, _+_, _-_, _<_, zero-le}
+use native.Mathlib.Nat.{sub-zero}
+use native.Mathlib.Omega.{arith}
+use borrow.Author.Tests.{le-ltb, eqb-true, eqb-false}
+use lib.Dec.{eqb}
+use lib.ListN.{length, getD, length-append, List·getD-append}
+use lib.Seq.{getD-append-seam}
+use Rattle.numbers.specs.Choice.{pick}
+use Rattle.gauge.specs.declared.Gauge.{Gauge}
+use Rattle.pack.specs.Image.{imageOf}
+use Rattle.events.specs.declared.Event.the-variants.{Image}
+use Rattle.events.specs.declared.Taken.the-variants.{Run}
+use Rattle.events.specs.Image.{imageSize, imageAddress}
+use Rattle.runs.specs.Record.{Rec, whole}
+use Rattle.runs.specs.Run.{Did, silently, Line, linesAfter, endAfter}
+use Rattle.slots.specs.declared.Tray.{Tray}
+use Rattle.slots.specs.Tray.{emptyTray, packOf, packJoined, againOf, slotTick, trayKindOf, trayTold, trayDid}
+use Rattle.demands.specs.Call.{Call, gotOf}
+use Rattle.demands.specs.Sections.{fence}
+use Rattle.demands.specs.Class.{trayAsked, someSelected, trayClass}
+use Rattle.demands.specs.Demand3.{Starts, Opens, imageRecords, addressesOf, openedAsked, TrayDemand3}
+use Rattle.demands.proofs.Choice.{contrary}
+use Rattle.demands.proofs.Moments.{running}
+use Rattle.demands.proofs.Mix.{endFrom, gotFrom, apart}
+use Rattle.demands.proofs.Demand3.{Fences, kept-apart}
+use Rattle.demands.proofs.Asked.{tray-asks}
+use Rattle.demands.proofs.Filled.{event-pack, event-eight, empty-filled}
+use Rattle.demands.proofs.Shut.{trayStep, trayOut, Owns, step-owns, image-asked, image-size, FreeTray, free-tray}
+use Rattle.demands.proofs.Sides.{tray-swaps}
+
+-- The opening
+
+abbrev joinAll : Tray → List (List ℕ) → Tray
+joinAll τ [] = τ
+joinAll τ (p ∷ ps) = joinAll (packJoined τ (imageOf p)) ps
+
+abbrev imageGot : List ℕ → Rec × Line
+imageGot p = (whole 1 p, record { kind = 1; answer = 0; reply = [] })
+
+did-join : (τ : Tray) (room : ℕ) (p : List ℕ) → trayTold τ 1 p ≡ Run Image → trayDid τ room (whole 1 p) ≡ silently (packJoined τ (imageOf p)) 0
+unfolding trayDid
+did-join τ room p e = rw (e, le-ltb room 0 zero-le) refl
+
+opening-end : (τ : Tray) (room : ℕ) (ps : List (List ℕ)) (rs : List Rec) → Opens τ ps
+    → endAfter trayDid τ room (imageRecords ps ++ rs) ≡ endAfter trayDid (joinAll τ ps) room rs
+opening-end τ room [] rs o = refl
+opening-end τ room (p ∷ ps) rs o =
+    let zero : room - 0 ≡ room = omega arith in
+    ap (λ (d : Did Tray). endAfter trayDid (d .state) (room - length (d .reply)) (imageRecords ps ++ rs)) (did-join τ room p (o .0))
+    ∙ ap (λ (n : ℕ). endAfter trayDid (packJoined τ (imageOf p)) n (imageRecords ps ++ rs)) zero
+    ∙ opening-end (packJoined τ (imageOf p)) room ps rs (o .1)
+
+opening-got : (τ : Tray) (room : ℕ) (ps : List (List ℕ)) (rs : List Rec) → Opens τ ps
+    → zip (imageRecords ps ++ rs) (linesAfter trayDid τ room (imageRecords ps ++ rs)) ≡ map imageGot ps ++ zip rs (linesAfter trayDid (joinAll τ ps) room rs)
+unfolding zip zipWith
+opening-got τ room [] rs o = refl
+opening-got τ room (p ∷ ps) rs o =
+    rw (did-join τ room p (o .0), sub-zero) (ap (λ (l : List (Rec × Line)). imageGot p ∷ l) (opening-got (packJoined τ (imageOf p)) room ps rs (o .1)))
+
+-- each image is a fence, as the class judges it: one that comes after the opening
+image-sized : (τ : Tray) (p : List ℕ) → trayTold τ 1 p ≡ Run Image → eqb (length p) imageSize ≡ true
+unfolding trayKindOf
+image-sized τ p e = go (eqb (length p) imageSize) refl
+  where
+    go : (t : Bool) → eqb (length p) imageSize ≡ t → eqb (length p) imageSize ≡ true
+    go true s = s
+    go false s = let z = sym e ∙ image-size (τ .count) (τ .closed) (againOf τ p) (slotTick τ p) p s in contrary cc
+
+image-fence : (addresses : List (List ℕ)) (τ : Tray) (p : List ℕ) → trayTold τ 1 p ≡ Run Image → trayClass addresses (whole 1 p) ≡ fence
+unfolding trayKindOf
+image-fence addresses τ p e = rw (image-asked (length addresses) p, image-sized τ p e) refl
+
+opening-fences : (addresses : List (List ℕ)) (τ : Tray) (ps : List (List ℕ)) → Opens τ ps
+    → Fences trayDid emptyTray (trayAsked (length addresses)) (someSelected addresses) (map imageGot ps)
+opening-fences addresses τ [] o = tt
+opening-fences addresses τ (p ∷ ps) o = (image-fence addresses τ p (o .0), opening-fences addresses (packJoined τ (imageOf p)) ps (o .1))
+
+-- the tray after it has the addresses of the images
+
+joined-owns : (addresses : List (List ℕ)) (τ : Tray) (p : List ℕ) → Owns addresses τ → trayTold τ 1 p ≡ Run Image
+    → Owns (addresses ++ (imageAddress p ∷ [])) (packJoined τ (imageOf p))
+unfolding imageOf
+joined-owns addresses τ p h e =
+    let a = rw e at (tray-asks τ 1 p) in
+    record {
+      eight = event-eight τ (h .eight) (trayKindOf 1) p Image a;
+      count = omega (arith, h .count, length-append addresses (imageAddress p ∷ []));
+      owned = λ j low.
+          ap (λ (g : Gauge). g .common .address) (event-pack τ (h .eight) (trayKindOf 1) p Image a j)
+          ∙ go j (eqb j (τ .count)) refl low;
+    }
+  where
+    go : (j : ℕ) (t : Bool) → eqb j (τ .count) ≡ t → j < τ .count + 1
+        → pick t (imageOf p) (packOf τ j) .common .address ≡ getD (addresses ++ (imageAddress p ∷ [])) j []
+    go j true f low =
+        let at : j ≡ length addresses = eqb-true j (τ .count) f ∙ h .count in
+        rw at (sym (getD-append-seam addresses (imageAddress p) [] []))
+    go j false f low =
+        let here : j < τ .count = omega (arith, eqb-false j (τ .count) f) in
+        h .owned j here ∙ sym (List·getD-append addresses (imageAddress p ∷ []) [] j (omega (arith, h .count)))
+
+opened-owns : (addresses : List (List ℕ)) (τ : Tray) (ps : List (List ℕ)) → Owns addresses τ → Opens τ ps → Owns (addresses ++ addressesOf ps) (joinAll τ ps)
+opened-owns addresses τ [] h o = rw (append-nil addresses) h
+opened-owns addresses τ (p ∷ ps) h o =
+    subst (λ (l : List (List ℕ)). Owns l (joinAll τ (p ∷ ps))) (append-assoc addresses (imageAddress p ∷ []) (addressesOf ps))
+    (opened-owns (addresses ++ (imageAddress p ∷ [])) (packJoined τ (imageOf p)) ps (joined-owns addresses τ p h (o .0)) (o .1))
+
+-- One session
+
+module _ (ps : List (List ℕ)) (o : Opens emptyTray ps) where
+  abbrev start : Tray
+  start = joinAll emptyTray ps
+
+  owns : Owns (addressesOf ps) start
+  owns = opened-owns [] emptyTray ps (record { eight = empty-filled .eight; count = refl; owned = λ j low. absurd (omega arith) }) o
+
+  module _ {rs : List Rec} {c : Call Tray} (s : Starts trayDid emptyTray (openedAsked ps) (someSelected (addressesOf ps)) (imageRecords ps) rs c)
+      (full : c .ran .state .count ≡ length (addressesOf ps)) where
+    state : c .ran .state ≡ endAfter trayDid start (length (c .room)) rs
+    state = running trayDid emptyTray (s .within) .state ∙ rw (s .first) (opening-end emptyTray (length (c .room)) ps rs o)
+
+    freed : FreeTray start (length (c .room)) rs
+    freed = free-tray (addressesOf ps) start (length (c .room)) rs owns (s .room) (sym (ap (λ (τ : Tray). τ .count) state) ∙ full)
+
+    ends : c .ran .state ≡ endFrom trayStep trayOut start rs
+    ends = state ∙ freed .end
+
+    gets : gotOf trayDid emptyTray c ≡ map imageGot ps ++ gotFrom trayStep trayOut start rs
+    gets = rw (s .first) (opening-got emptyTray (length (c .room)) ps rs o ∙ ap (λ (l : List (Rec × Line)). map imageGot ps ++ l) (freed .got))
+
+-- Both
+
+pub tray-demand-3 : TrayDemand3
+tray-demand-3 ps xs ys a b m =
+    let own = addressesOf ps in
+    let h = apart trayStep trayOut (trayClass own) (Owns own) (λ τ r u. step-owns own τ u r) (tray-swaps own) (m .mixed .sections) (start ps (m .opens)) (owns ps (m .opens)) in
+    kept-apart trayDid emptyTray (openedAsked ps) (someSelected own) (map imageGot ps) (opening-fences own emptyTray ps (m .opens)) (m .mixed)
+    (gets ps (m .opens) (m .mixed .one) (m .one)) (gets ps (m .opens) (m .mixed .other) (m .other)) (h .sections)
+    (ends ps (m .opens) (m .mixed .one) (m .one) ∙ h .end ∙ sym (ends ps (m .opens) (m .mixed .other) (m .other)))

@@ -1,0 +1,193 @@
+-- The theorems on trays speak of something: trays of two packs.
+use mathlib.Core.Path.{_≡_, refl, ap}
+use mathlib.Core.List.{List, [], _∷_, _++_, zip, zipWith}
+use Prim.Native.Nat.{ℕ, _≤_}
+use native.Mathlib.Omega.{arith}
+use lib.ListN.{length, getD, replicate}
+use Rattle.crc.specs.Crc as crc
+use Rattle.parts.specs.Parts.{laidOf}
+use Rattle.ticks.specs.Ticks.{timelyOf}
+use Rattle.meter.specs.State.{poweredOf}
+use Rattle.meter.specs.Convert.{flowedOf, convertOf}
+use Rattle.stores.specs.Stores.{meterWrittenOf, blockWrittenOf}
+use Rattle.label.specs.Label.{inLabel, inBlock, labelByte, labelWrittenOf}
+use Rattle.map.specs.Registers.{registersOf, meterByte}
+use Rattle.bus.specs.Ask.{romBy, commandOf, askedAt, askedOf, ownOf}
+use Rattle.gauge.specs.Gauge.{conversionOf, powerOnOf, writtenOf}
+use Rattle.replies.specs.Reply.{readByte, selectedOf, sourceByte}
+use Rattle.gauge.specs.declared.Gauge.{Gauge}
+use Rattle.gauge.specs.Act.{ranOf, actOf, replyOf}
+use Rattle.pack.specs.Image.{imageOf}
+use Rattle.events.specs.Record.{addressedOf, orderedOf, judgedAmong}
+use Rattle.runs.specs.Record.{Rec, whole, wholeOf, recOf, sizeOf}
+use Rattle.runs.specs.Run.{Line}
+use Rattle.slots.specs.declared.Tray.{Tray}
+use Rattle.slots.specs.Tray.{emptyTray, packOf, searchOf, trayKindOf, matchedOf, trayDid}
+use Rattle.trays.specs.Run.{trayLines, slotOutNumber, slotOutRoom}
+use Rattle.demands.specs.Call.{Call, Within}
+use Rattle.demands.specs.Sections.{last, more}
+use Rattle.demands.specs.Class.{blockOf, touchedOf, labelsOf, touchedClass}
+use Rattle.demands.specs.Demand2.{SlotCarried, SlotPowersOn}
+use Rattle.demands.specs.Demand3.{imageRecords, TrayDemand3Met}
+use Rattle.demands.specs.Isolation.{none, held, here, images, IsolationMet}
+use Rattle.demands.proofs.Called.{packed, called, called-within}
+
+-- Two packs, and the first with another label
+
+abbrev address : List ℕ
+address = 0x3d ∷ 1 ∷ 2 ∷ 3 ∷ 4 ∷ 5 ∷ 7 ∷ 0xf2 ∷ []
+
+abbrev cells : List ℕ
+cells = 100 ∷ 0 ∷ 128 ∷ 0 ∷ []
+
+abbrev zeroth : List ℕ
+zeroth = 0x3d ∷ 1 ∷ 2 ∷ 3 ∷ 4 ∷ 5 ∷ 6 ∷ 0xac ∷ (replicate 48 0 ++ cells)
+
+abbrev relabelled : List ℕ
+relabelled = 0x3d ∷ 1 ∷ 2 ∷ 3 ∷ 4 ∷ 5 ∷ 6 ∷ 0xac ∷ (replicate 16 7 ++ (replicate 32 0 ++ cells))
+
+abbrev first : List ℕ
+first = address ++ (replicate 48 0 ++ cells)
+
+-- to both: two bytes written at 20h and two read; a conversion of -1,000 in a slot; a power-on of slot 0; CURRENT read from the pack in slot 1
+abbrev writing : Rec
+writing = whole 4 (0 ∷ 0xcc ∷ 0x6c ∷ 0x20 ∷ 0x5a ∷ 0xa5 ∷ [])
+
+abbrev reading : Rec
+reading = whole 4 (2 ∷ 0xcc ∷ 0x69 ∷ 0x20 ∷ [])
+
+abbrev converting : ℕ → Rec
+converting slot = whole 19 (slot ∷ 0x18 ∷ 0xfc ∷ 0xff ∷ 0xff ∷ [])
+
+abbrev power-on : Rec
+power-on = whole 21 (0 ∷ [])
+
+abbrev measured : List ℕ
+measured = 2 ∷ 0x55 ∷ (address ++ (0x69 ∷ 0x0e ∷ []))
+
+abbrev measuring : Rec
+measuring = whole 4 measured
+
+-- a session of these records, with 4 bytes of reply room
+abbrev call : List Rec → Call Tray
+call rs = called trayDid emptyTray (packed rs) (replicate 4 0) (replicate 64 0)
+
+call-within : (rs : List Rec) → length (packed rs) ≤ 256 → Within trayDid emptyTray (call rs)
+call-within rs short = called-within trayDid emptyTray (packed rs) (replicate 4 0) (replicate 64 0) (omega arith) (omega arith)
+
+-- Two sessions that are mixed differently
+
+abbrev packs : List (List ℕ)
+packs = zeroth ∷ first ∷ []
+
+abbrev ones : List Rec
+ones = writing ∷ converting 1 ∷ power-on ∷ reading ∷ measuring ∷ []
+
+abbrev others : List Rec
+others = converting 1 ∷ writing ∷ power-on ∷ measuring ∷ reading ∷ []
+
+abbrev opened : List Rec → List Rec
+opened rs = imageRecords packs ++ rs
+
+-- THE HYPOTHESIS OF DEMAND 3 FOR TRAYS CAN BE MET
+pub tray-demand-3-met : TrayDemand3Met
+unfolding recOf sizeOf wholeOf trayDid trayKindOf searchOf matchedOf judgedAmong addressedOf orderedOf crc.bitOf crc.eightOf crc.nextOf imageOf
+    askedOf askedAt romBy commandOf touchedClass labelsOf touchedOf selectedOf ownOf inLabel blockOf timelyOf
+    actOf ranOf writtenOf powerOnOf conversionOf replyOf
+tray-demand-3-met = record {
+  images = packs;
+  ones = ones;
+  others = others;
+  one = call (opened ones);
+  other = call (opened others);
+  mixed = record {
+    opens = (refl, (refl, tt));
+    one = refl;
+    other = refl;
+    mixed = record {
+      one = record { within = call-within (opened ones) (omega arith); first = refl; room = omega arith };
+      other = record { within = call-within (opened others) (omega arith); first = refl; room = omega arith };
+      sections =
+          more {xs = writing ∷ converting 1 ∷ []} {ys = converting 1 ∷ writing ∷ []}
+          (record { one = refl; other = refl; labels = refl; gauges = refl })
+          refl
+          (last (record { one = refl; other = refl; labels = refl; gauges = refl }));
+    };
+  };
+  several = omega arith;
+  differ = λ e. let z : _≡_ {A = ℕ} 6 5 = ap (λ (l : List ℕ). getD l 128 0) e in omega arith;
+}
+
+-- Two sessions that differ in slot 0
+
+abbrev longer : List Rec
+longer = whole 1 zeroth ∷ whole 1 first ∷ converting 0 ∷ converting 1 ∷ []
+
+abbrev shorter : List Rec
+shorter = whole 1 relabelled ∷ whole 1 first ∷ converting 1 ∷ []
+
+-- THE HYPOTHESES OF ISOLATION CAN BE MET
+pub isolation-met : IsolationMet
+unfolding zip zipWith recOf sizeOf wholeOf trayDid trayKindOf searchOf matchedOf judgedAmong addressedOf orderedOf crc.bitOf crc.eightOf crc.nextOf imageOf
+    askedOf askedAt romBy commandOf conversionOf
+isolation-met = record {
+  slot = 0;
+  matched = 1;
+  first = call longer;
+  second = call shorter;
+  twins = record {
+    one = call-within longer (omega arith);
+    other = call-within shorter (omega arith);
+    room = refl;
+    differs = images refl refl refl (held refl (here refl refl (held refl none)));
+  };
+  differ = λ e. let z : _≡_ {A = ℕ} 0 7 = ap (λ (g : Gauge). getD (g .label .shadow) 0 0) e in omega arith;
+  payload = measured;
+  reached = refl;
+  away = λ e. omega arith;
+  done = refl;
+}
+
+-- and slot 1 has a pack whose image can be taken out, and a power-on of it can follow
+abbrev slotRoom : List ℕ
+slotRoom = replicate 60 0
+
+pub slot-carried : SlotCarried (call longer) 1 slotRoom (slotOutNumber (call longer .ran .state) 1 slotRoom) (slotOutRoom (call longer .ran .state) 1 slotRoom)
+unfolding recOf sizeOf wholeOf trayDid trayKindOf searchOf judgedAmong addressedOf orderedOf crc.bitOf crc.eightOf crc.nextOf imageOf
+slot-carried =
+    let two : call longer .ran .state .count ≡ 2 = refl in
+    record { run = call-within longer (omega arith); pack = omega (arith, two); fits = omega arith; out = record { number = refl; written = refl } }
+
+abbrev slot-on : List Rec
+slot-on = longer ++ (whole 21 (1 ∷ []) ∷ [])
+
+pub slot-powers-on : SlotPowersOn 1 (call longer) (packOf (call slot-on .ran .state) 1)
+unfolding recOf sizeOf wholeOf
+slot-powers-on = record { longer = call slot-on; run = call-within slot-on (omega arith); room = refl; last = refl; leaves = refl }
+
+-- A slot's event changes its own pack, and a transaction that every pack hears changes more than one: so neither is said of them
+
+abbrev two-packs : Tray
+two-packs = call (opened []) .ran .state
+
+pub own-changes : packOf (trayDid two-packs 0 (converting 1) .state) 1 ≡ packOf two-packs 1 → ⊥
+unfolding recOf sizeOf wholeOf trayDid trayKindOf searchOf judgedAmong addressedOf orderedOf crc.bitOf crc.eightOf crc.nextOf imageOf poweredOf
+    conversionOf convertOf flowedOf
+own-changes e = let z : _≡_ {A = ℕ} 31768 32768 = ap (λ (g : Gauge). g .meter .flow .trace .last) e in omega arith
+
+pub skip-changes : packOf (trayDid two-packs 0 writing .state) 0 .label .shadow ≡ packOf (trayDid two-packs 0 writing .state) 1 .label .shadow
+unfolding recOf sizeOf wholeOf trayDid trayKindOf searchOf judgedAmong addressedOf orderedOf crc.bitOf crc.eightOf crc.nextOf imageOf
+    askedOf askedAt romBy commandOf actOf selectedOf ranOf writtenOf labelWrittenOf laidOf inLabel
+skip-changes = refl
+
+-- what the first of the two sessions that are mixed differently prints: both labels read alike, and the reply is the AND of both
+abbrev line : ℕ → ℕ → List ℕ → Line
+line kind answer reply = record { kind = kind; answer = answer; reply = reply }
+
+pub tray-answers : trayLines (packed (opened ones)) 4
+    ≡ line 1 0 [] ∷ line 1 0 [] ∷ line 4 0 [] ∷ line 19 0 [] ∷ line 21 0 [] ∷ line 4 0 (0x00 ∷ 0x00 ∷ []) ∷ line 4 0 (0xfc ∷ 0x18 ∷ []) ∷ []
+unfolding trayLines recOf sizeOf wholeOf trayDid trayKindOf searchOf matchedOf judgedAmong addressedOf orderedOf crc.bitOf crc.eightOf crc.nextOf
+    imageOf poweredOf conversionOf convertOf flowedOf powerOnOf
+    askedOf askedAt romBy commandOf selectedOf ownOf actOf ranOf writtenOf labelWrittenOf laidOf meterWrittenOf blockWrittenOf
+    replyOf sourceByte readByte inLabel inBlock labelByte meterByte registersOf
+tray-answers = refl

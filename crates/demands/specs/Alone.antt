@@ -1,0 +1,34 @@
+-- ALONE: "A slot's event, or a matched transaction, changes no other pack."
+use mathlib.Core.Path.{_≡_}
+use mathlib.Core.Bool.{Bool, true}
+use mathlib.Core.List.{List}
+use Prim.Native.Nat.{ℕ}
+use lib.Dec.{eqb}
+use lib.ListN.{getD, drop}
+use Rattle.numbers.specs.Choice.{either}
+use Rattle.bus.specs.declared.Transaction.{Transaction}
+use Rattle.bus.specs.Ask.{askedOf}
+use Rattle.events.specs.Record.{masterOf}
+use Rattle.runs.specs.Record.{Rec, whole}
+use Rattle.slots.specs.declared.Tray.{Tray}
+use Rattle.slots.specs.Tray.{packOf, slotIn, Reach, one, trayReach, trayDid}
+
+-- "Readings, conversions, kind 6 samples and power-ons come as kinds 18, 19, 22 and 21"
+abbrev pub slotEvent : ℕ → Bool
+slotEvent n = either (eqb n 18) (either (eqb n 19) (either (eqb n 21) (eqb n 22)))
+
+-- the transaction of a payload of kind 4, and whom it reaches
+abbrev pub transactionIn : List ℕ → Transaction
+transactionIn p = askedOf 1 (getD p 0 0) (drop 1 p)
+
+abbrev pub reachIn : Tray → List ℕ → Reach
+reachIn τ p = trayReach τ (transactionIn p) (masterOf (transactionIn p) p)
+
+-- a record of the slot i: its event, or a transaction that the search matches to it
+pub data Goes (τ : Tray) (i : ℕ) : Rec → Type 0 where
+  slotted : {n : ℕ} {p : List ℕ} → slotEvent n ≡ true → slotIn p ≡ i → Goes τ i (whole n p)
+  matched : {p : List ℕ} → reachIn τ p ≡ one i → Goes τ i (whole 4 p)
+
+-- of any tray and any room that is left
+abbrev pub Alone : Type 0
+Alone = (τ : Tray) (room : ℕ) (r : Rec) (i j : ℕ) → Goes τ i r → (j ≡ i → ⊥) → packOf (trayDid τ room r .state) j ≡ packOf τ j

@@ -1,0 +1,100 @@
+-- ISOLATION: "Change one pack's image and slot events at will, its address and the acceptance of each record kept: replies to transactions
+-- matched to the others, and the others' states, stay the same."
+use mathlib.Core.Path.{_≡_}
+use mathlib.Core.Bool.{true}
+use mathlib.Core.List.{List, [], _∷_}
+use Prim.Native.Nat.{ℕ, zero, suc, _+_}
+use lib.Dec.{eqb}
+use lib.ListN.{length}
+use Rattle.numbers.specs.Choice.{pick, both}
+use Rattle.events.specs.Image.{imageAddress}
+use Rattle.runs.specs.Record.{Rec, whole, kindIn}
+use Rattle.runs.specs.Run.{Line}
+use Rattle.slots.specs.declared.Tray.{Tray}
+use Rattle.slots.specs.Tray.{emptyTray, packOf, slotIn, one, trayDid}
+use Rattle.demands.specs.Call.{Call, Within, gotOf, Stopped, Taking}
+use Rattle.demands.specs.Alone.{slotEvent, reachIn}
+
+-- ---- two tray sessions that differ in the slot k
+
+-- "the acceptance of each record kept": accepted in both, or refused in both
+abbrev pub Agree : Line → Line → Type 0
+Agree l m = eqb (l .answer) 0 ≡ eqb (m .answer) 0
+
+-- how many images are accepted with a record, where n were before it
+abbrev pub imagesAfter : ℕ → Rec → Line → ℕ
+imagesAfter n r l = pick (both (eqb (kindIn r) 1) (eqb (l .answer) 0)) (n + 1) n
+
+-- the records of both, each with its line, where n images were accepted before them
+pub data Differs (k : ℕ) : ℕ → List (Rec × Line) → List (Rec × Line) → Type 0 where
+  none : {n : ℕ} → Differs k n [] []
+  -- a record that both hold
+  held : {n : ℕ} {r : Rec} {l m : Line} {xs ys : List (Rec × Line)} → Agree l m → Differs k (imagesAfter n r l) xs ys
+      → Differs k n ((r, l) ∷ xs) ((r, m) ∷ ys)
+  -- a slot event of k that one of them holds, whatever it is answered
+  here : {n e : ℕ} {p : List ℕ} {l : Line} {xs ys : List (Rec × Line)} → slotEvent e ≡ true → slotIn p ≡ k → Differs k n xs ys
+      → Differs k n ((whole e p, l) ∷ xs) ys
+  there : {n e : ℕ} {p : List ℕ} {l : Line} {xs ys : List (Rec × Line)} → slotEvent e ≡ true → slotIn p ≡ k → Differs k n xs ys
+      → Differs k n xs ((whole e p, l) ∷ ys)
+  -- two images with the same address, where the slot k is filled
+  images : {n : ℕ} {p q : List ℕ} {l m : Line} {xs ys : List (Rec × Line)} → n ≡ k → imageAddress p ≡ imageAddress q → Agree l m
+      → Differs k (imagesAfter n (whole 1 p) l) xs ys → Differs k n ((whole 1 p, l) ∷ xs) ((whole 1 q, m) ∷ ys)
+
+-- a place in both: i records of the one are before it and j of the other
+abbrev pub Places : {k n : ℕ} {xs ys : List (Rec × Line)} → Differs k n xs ys → ℕ → ℕ → Type 0
+Places none zero zero = Unit
+Places none zero (suc j) = ⊥
+Places none (suc i) j = ⊥
+Places (held agree rest) zero zero = Unit
+Places (held agree rest) zero (suc j) = ⊥
+Places (held agree rest) (suc i) zero = ⊥
+Places (held agree rest) (suc i) (suc j) = Places rest i j
+Places (here slot at rest) zero zero = Unit
+Places (here slot at rest) zero (suc j) = ⊥
+Places (here slot at rest) (suc i) j = Places rest i j
+Places (there slot at rest) zero zero = Unit
+Places (there slot at rest) (suc i) zero = ⊥
+Places (there slot at rest) zero (suc j) = Places rest zero j
+Places (there slot at rest) (suc i) (suc j) = Places rest (suc i) j
+Places (images at address agree rest) zero zero = Unit
+Places (images at address agree rest) zero (suc j) = ⊥
+Places (images at address agree rest) (suc i) zero = ⊥
+Places (images at address agree rest) (suc i) (suc j) = Places rest i j
+
+-- two calls with reply rooms of one size
+pub record Twins (k : ℕ) (c d : Call Tray) : Type 0 where
+  pub one : Within trayDid emptyTray c
+  pub other : Within trayDid emptyTray d
+  pub room : length (c .room) ≡ length (d .room)
+  pub differs : Differs k 0 (gotOf trayDid emptyTray c) (gotOf trayDid emptyTray d)
+
+-- ---- what is the same
+
+-- as many packs, every other slot's pack, and the address of k's
+pub record Others (k : ℕ) (τ σ : Tray) : Type 0 where
+  pub count : τ .count ≡ σ .count
+  pub packs : (j : ℕ) → (j ≡ k → ⊥) → packOf τ j ≡ packOf σ j
+  pub address : packOf τ k .common .address ≡ packOf σ k .common .address
+
+pub record Isolation : Type 0 where
+  -- two such sessions that are stopped at a place in both are two such sessions: so what holds at the end holds after each record that both hold
+  pub stops : (k : ℕ) (c d : Call Tray) (t : Twins k c d) (i j : ℕ) → Places (t .differs) i j
+      → (a e : Call Tray) → Stopped trayDid emptyTray i c a → Stopped trayDid emptyTray j d e → Twins k a e
+  pub states : (k : ℕ) (c d : Call Tray) → Twins k c d → Others k (c .ran .state) (d .ran .state)
+  -- a transaction that both hold, and the runs that stop before it: where the search matches it to another slot it gets the same answer and reply
+  pub replies : (k j : ℕ) (c d : Call Tray) → Within trayDid emptyTray c → Within trayDid emptyTray d
+      → (p : List ℕ) (l m : Line) (a b e f : Call Tray) → Taking trayDid emptyTray c (whole 4 p) l a b → Taking trayDid emptyTray d (whole 4 p) m e f
+      → Twins k a e → reachIn (a .ran .state) p ≡ one j → (j ≡ k → ⊥) → l ≡ m
+
+-- and it speaks of something: two such sessions that differ in the slot's pack, and a transaction that is matched to another slot, and done
+pub record IsolationMet : Type 0 where
+  pub slot : ℕ
+  pub matched : ℕ
+  pub first : Call Tray
+  pub second : Call Tray
+  pub twins : Twins slot first second
+  pub differ : packOf (first .ran .state) slot ≡ packOf (second .ran .state) slot → ⊥
+  pub payload : List ℕ
+  pub reached : reachIn (first .ran .state) payload ≡ one matched
+  pub away : matched ≡ slot → ⊥
+  pub done : trayDid (first .ran .state) 64 (whole 4 payload) .answer ≡ 0

@@ -1,0 +1,33 @@
+-- A SLOT'S PACK DOES WHAT A GAUGE DOES: "Readings, conversions, kind 6 samples and power-ons come as kinds 18, 19, 22 and 21, with a slot byte
+-- ahead of the old payload. For Match, the search over the tray stops at the slot whose address matches."
+use mathlib.Core.Path.{_≡_}
+use mathlib.Core.List.{List, _∷_}
+use Prim.Native.Nat.{ℕ, _<_}
+use Rattle.runs.specs.Record.{whole}
+use Rattle.runs.specs.Run.{Did}
+use Rattle.steps.specs.declared.Session.{Session}
+use Rattle.steps.specs.Step.{loadedWith, didOf}
+use Rattle.slots.specs.declared.Tray.{Tray}
+use Rattle.slots.specs.Tray.{emptyTray, packOf, one, trayDid}
+use Rattle.demands.specs.Call.{Call, Within}
+use Rattle.demands.specs.Alone.{reachIn}
+
+-- a kind of a tray, and the old kind
+pub data Stands : ℕ → ℕ → Type 0 where
+  reading : Stands 18 2
+  conversion : Stands 19 3
+  sample : Stands 22 6
+  power-on : Stands 21 5
+
+-- the slot's pack does what the gauge of a plain session does, and the answer and the reply are the same
+pub record AsOld (i : ℕ) (d : Did Tray) (f : Did Session) : Type 0 where
+  pub answer : d .answer ≡ f .answer
+  pub reply : d .reply ≡ f .reply
+  pub pack : packOf (d .state) i ≡ f .state .gauge
+
+-- in the state that any run leaves, with any room: an event of a slot that has a pack, and a transaction that the search matches to a slot
+pub record SlotsAsOld : Type 0 where
+  pub events : (c : Call Tray) → Within trayDid emptyTray c → (i : ℕ) → i < c .ran .state .count → (n m : ℕ) → Stands n m → (room : ℕ) (p : List ℕ)
+      → AsOld i (trayDid (c .ran .state) room (whole n (i ∷ p))) (didOf (loadedWith (packOf (c .ran .state) i)) room (whole m p))
+  pub matched : (c : Call Tray) → Within trayDid emptyTray c → (i room : ℕ) (p : List ℕ) → reachIn (c .ran .state) p ≡ one i
+      → AsOld i (trayDid (c .ran .state) room (whole 4 p)) (didOf (loadedWith (packOf (c .ran .state) i)) room (whole 4 p))

@@ -1,0 +1,6 @@
+pub mod Anded
+pub mod Laws
+pub mod Hearing
+pub mod Fronts
+pub mod Taking
+pub mod Unique

@@ -1,0 +1,31 @@
+-- A session of three records, of the definitions: a power-on of a slot before any image, a kind that only plain sessions have, and a cut record.
+use mathlib.Core.Path.{_≡_, refl}
+use mathlib.Core.List.{List, [], _∷_, _++_}
+use Prim.Native.Nat.{ℕ}
+use Rattle.runs.specs.Record.{wholeOf, recOf, sizeOf}
+use Rattle.runs.specs.Run.{outcomeOf}
+use Rattle.slots.specs.Tray.{trayKindOf, trayDid}
+use Rattle.trays.specs.Run.{trayLines}
+use Rattle.digits.specs.Digits.{hexOf, shownText, decimalText}
+use Rattle.line.specs.Line.{kindText, replyText, startText, endText}
+use Rattle.text.specs.Text.{headerText, runText}
+use Rattle.tray.specs.Tray.{trayText}
+
+abbrev pub input : List ℕ
+input = 1 ∷ 0 ∷ 21 ∷ 0 ∷ 0 ∷ 0 ∷ 0 ∷ 5 ∷ 0 ∷ 1 ∷ []
+
+-- 1 0015 5 -
+abbrev pub first : List ℕ
+first = 49 ∷ 32 ∷ 48 ∷ 48 ∷ 49 ∷ 53 ∷ 32 ∷ 53 ∷ 32 ∷ 45 ∷ 10 ∷ []
+
+-- 2 0005 3 -
+abbrev pub second : List ℕ
+second = 50 ∷ 32 ∷ 48 ∷ 48 ∷ 48 ∷ 53 ∷ 32 ∷ 51 ∷ 32 ∷ 45 ∷ 10 ∷ []
+
+-- 3 ---- 2 -
+abbrev pub third : List ℕ
+third = 51 ∷ 32 ∷ 45 ∷ 45 ∷ 45 ∷ 45 ∷ 32 ∷ 50 ∷ 32 ∷ 45 ∷ 10 ∷ []
+
+pub example : trayText input ≡ headerText ++ (first ++ (second ++ third))
+unfolding runText outcomeOf trayLines trayDid trayKindOf recOf sizeOf wholeOf hexOf shownText decimalText kindText replyText startText endText
+example = refl

@@ -1,0 +1,19 @@
+-- What the program says: the text of the tray session on standard input.
+use mathlib.Core.Bool.{Bool}
+use mathlib.Core.List.{List, [], _∷_}
+use Prim.Native.Nat.{ℕ}
+use Rattle.numbers.specs.Choice.{pick}
+use Rattle.trays.specs.Run.{trayLines}
+use Rattle.text.specs.Text.{runText}
+use Rattle.streams.specs.Streams.{Speech, output, error, unreadText}
+
+-- tray
+abbrev pub trayName : List ℕ
+trayName = 116 ∷ 114 ∷ 97 ∷ 121 ∷ []
+
+abbrev pub trayText : List ℕ → List ℕ
+trayText s = runText trayLines s
+
+-- what is said of standard input s, or where a read of it failed
+abbrev pub printedOf : Bool → List ℕ → Speech
+printedOf failed s = pick failed (error (unreadText trayName)) (output (trayText s))

@@ -1,0 +1,50 @@
+// tray: runs the tray session on standard input and prints an answer for each record
+use streams::Input;
+use streams::Said;
+use streams::Stream;
+ghost use mathlib.Core.List.{List};
+ghost use mathlib.Core.Path.{_≡_};
+ghost use Prim.Native.Nat.{ℕ, _≤_};
+ghost use lib.ListN.{length};
+ghost use Rattle.text.specs.Text.{Reporting};
+ghost use Rattle.streams.specs.Streams.{Front, Saying};
+ghost use Rattle.tray.specs.Tray.{trayText, printedOf};
+
+fn put_session(s: &[u8], out: &mut [u8]) -> usize
+    requires { ⌜ 270372 ≤ length (now out) ⌝ }
+    ensures { λ r. ⌜ Reporting (trayText (now (s .entry))) (now (out .entry)) r (now (out .exit)) ⌝ }
+{
+    let mut room = [0u8; 65536];
+    let mut answers = [0u64; 8192];
+    let ran = trays::run(s, &mut room, &mut answers);
+    let outcome = ran.outcome;
+    let lines = ran.lines;
+    let replied = ran.replied;
+    text::report(outcome, &answers[..lines], &room[..replied], out)
+}
+
+// What the program says. A byte more than a session may have is enough to know of any input. (That the room keeps its length is said for `main`.)
+fn printed(input: &[u8; 32769], got: Input, room: &mut [u8; 270372]) -> Said
+    ensures { λ r. ⌜ ((s : List ℕ) → Front s (now (input .entry)) (got .count) → Saying (printedOf (got .failed) s) (now (room .entry)) r (now (room .exit))) ⌝ }
+    ensures { λ _. ⌜ 270372 ≡ length (now (room .exit)) ⌝ }
+{
+    if got.failed {
+        return streams::put_unread(b"tray", room);
+    }
+    let n = streams::within(got.count, input);
+    let all: &[u8] = input;
+    let count = put_session(&all[..n], room);
+    let stream = Stream::Output;
+    Said {
+        stream: stream,
+        count: count,
+    }
+}
+
+fn main() {
+    let mut input = [0u8; 32769];
+    let got = streams::read_input(&mut input);
+    let mut room = [0u8; 270372];
+    let said = printed(&input, got, &mut room);
+    streams::say(b"tray", said, &room);
+}

@@ -1,0 +1,91 @@
+-- What the program says of a tray session and of a word of its call, SLOT: the pack image taken out of that slot at the end, or why there is none.
+use mathlib.Core.Bool.{Bool, true}
+use mathlib.Core.List.{List, [], _∷_}
+use Prim.Native.Nat.{ℕ, _+_, _-_, _*_, min}
+use lib.Dec.{ltb, leb}
+use lib.ListN.{length}
+use Rattle.numbers.specs.Choice.{pick, both}
+use Rattle.streams.specs.Streams.{Speech, output, error, unreadText, refusedText}
+use Rattle.events.specs.declared.Refusal.the-variants.{Order}
+use Rattle.events.specs.Record.{refusalNumber}
+use Rattle.pack.specs.Image.{bytesOf}
+use Rattle.runs.specs.declared.Outcome.{Outcome}
+use Rattle.runs.specs.declared.Outcome.the-variants.{Done, Over, Short}
+use Rattle.runs.specs.Record.{recsOf}
+use Rattle.runs.specs.Run.{endAfter, outcomeOf, outcomeNumber}
+use Rattle.slots.specs.declared.Tray.{Tray}
+use Rattle.slots.specs.Tray.{emptyTray, packOf, trayDid}
+use Rattle.trays.specs.Run.{slotHeld}
+use Rattle.text.specs.Text.{overWords, shortWords}
+
+-- ---- SLOT, in decimal digits
+
+unfoldable pub isDigit : ℕ → Bool
+isDigit c = both (leb 48 c) (leb c 57)
+
+abbrev pub allDigits : List ℕ → Bool
+allDigits [] = true
+allDigits (c ∷ cs) = both (isDigit c) (allDigits cs)
+
+-- a number has a digit, and nothing else
+unfoldable pub isNumber : List ℕ → Bool
+isNumber word = both (ltb 0 (length word)) (allDigits word)
+
+-- the digits in front of these have come to n
+abbrev pub valueFrom : ℕ → List ℕ → ℕ
+valueFrom n [] = n
+valueFrom n (c ∷ cs) = valueFrom (10 * n + (c - 48)) cs
+
+-- 8 stands for each slot from 8 on: no tray has it
+unfoldable pub slotOf : List ℕ → ℕ
+slotOf word = min (valueFrom 0 word) 8
+
+-- ---- words
+
+-- tray_image
+abbrev pub trayImageName : List ℕ
+trayImageName = 116 ∷ 114 ∷ 97 ∷ 121 ∷ 95 ∷ 105 ∷ 109 ∷ 97 ∷ 103 ∷ 101 ∷ []
+
+-- tray_image: SLOT is no number
+abbrev pub noNumberText : List ℕ
+noNumberText =
+    116 ∷ 114 ∷ 97 ∷ 121 ∷ 95 ∷ 105 ∷ 109 ∷ 97 ∷ 103 ∷ 101 ∷ 58 ∷ 32
+    ∷ 83 ∷ 76 ∷ 79 ∷ 84 ∷ 32
+    ∷ 105 ∷ 115 ∷ 32
+    ∷ 110 ∷ 111 ∷ 32
+    ∷ 110 ∷ 117 ∷ 109 ∷ 98 ∷ 101 ∷ 114 ∷ 10 ∷ []
+
+-- no image was accepted for this slot
+abbrev pub slotWords : List ℕ
+slotWords =
+    110 ∷ 111 ∷ 32
+    ∷ 105 ∷ 109 ∷ 97 ∷ 103 ∷ 101 ∷ 32
+    ∷ 119 ∷ 97 ∷ 115 ∷ 32
+    ∷ 97 ∷ 99 ∷ 99 ∷ 101 ∷ 112 ∷ 116 ∷ 101 ∷ 100 ∷ 32
+    ∷ 102 ∷ 111 ∷ 114 ∷ 32
+    ∷ 116 ∷ 104 ∷ 105 ∷ 115 ∷ 32
+    ∷ 115 ∷ 108 ∷ 111 ∷ 116 ∷ []
+
+-- ---- what is said
+
+-- the state at the end of a tray session, with 65,536 bytes of reply room
+unfoldable pub lastOf : List ℕ → Tray
+lastOf s = endAfter trayDid emptyTray 65536 (recsOf s)
+
+-- the image goes to standard output, a refusal to standard error: that of a session that was not run, or 5 for a slot without an image
+abbrev pub slotSpeech : Outcome → Tray → ℕ → Speech
+slotSpeech Done τ i = pick (slotHeld τ i) (output (bytesOf (packOf τ i))) (error (refusedText (refusalNumber Order) slotWords))
+slotSpeech Over τ i = error (refusedText (outcomeNumber Over) overWords)
+slotSpeech Short τ i = error (refusedText (outcomeNumber Short) shortWords)
+
+-- with an answer lent for each record that 32,768 bytes can hold
+unfoldable pub takenSpeech : ℕ → List ℕ → Speech
+takenSpeech i s = slotSpeech (outcomeOf (length s) 8192) (lastOf s) i
+
+-- of any word
+unfoldable pub wordSpeech : List ℕ → List ℕ → Speech
+wordSpeech word s = pick (isNumber word) (takenSpeech (slotOf word) s) (error noNumberText)
+
+-- what is said of the word and of standard input s, or where a read of it failed
+abbrev pub extractedOf : Bool → List ℕ → List ℕ → Speech
+extractedOf failed word s = pick failed (error (unreadText trayImageName)) (wordSpeech word s)

@@ -1,0 +1,34 @@
+-- The refusals of an image out of a slot, in the numbers of the paper: 5 for a slot without an image, else 9 for a room under 60; nothing is written.
+use mathlib.Core.Path.{_≡_, refl, ap, _∙_}
+use mathlib.Core.Bool.{Bool, true, false}
+use mathlib.Core.List.{List}
+use Prim.Native.Nat.{ℕ, _<_}
+use borrow.Author.Tests.{lt-leb, ltb-true}
+use lib.Dec.{ltb, leb}
+use lib.ListN.{length}
+use Rattle.numbers.specs.Choice.{pick}
+use Rattle.numbers.proofs.Bounds.{both-true}
+use Rattle.events.specs.Image.{imageSize}
+use Rattle.gauge.specs.declared.Gauge.{Gauge}
+use Rattle.pack.specs.Image.{roomAfter, ImageOut}
+use Rattle.slots.specs.Tray.{packOf}
+use Rattle.slots.specs.declared.Tray.{Tray}
+use Rattle.trays.specs.Run.{slotHeld, SlotOut}
+
+pub below : (τ : Tray) (i : ℕ) → slotHeld τ i ≡ true → i < 8
+below τ i e = ltb-true i 8 (both-true (ltb i 8) (ltb i (τ .count)) e .0)
+
+-- what the pack in the slot leaves in the room
+pub slot-out : (τ : Tray) (i : ℕ) {g : Gauge} {room after : List ℕ} {answer : ℕ} {done : Bool} → slotHeld τ i ≡ true → g ≡ packOf τ i → ImageOut g room done after
+    → answer ≡ pick done 0 9 → SlotOut τ i room answer after
+slot-out τ i {g} {room} {after} h e o n = record {
+  number = n ∙ ap (λ (b : Bool). pick b 0 9) (o .fits) ∙ rw h refl;
+  written = o .written ∙ ap (λ (k : Gauge). roomAfter (leb imageSize (length room)) k room) e ∙ rw h refl;
+}
+
+module _ {τ : Tray} {i : ℕ} {room after : List ℕ} {answer : ℕ} (t : SlotOut τ i room answer after) where
+  pub empty-says-5 : slotHeld τ i ≡ false → (answer ≡ 5) × (after ≡ room)
+  empty-says-5 e = (rw e at (t .number), rw e at (t .written))
+
+  pub short-says-9 : slotHeld τ i ≡ true → length room < 60 → (answer ≡ 9) × (after ≡ room)
+  short-says-9 e short = let under = lt-leb 60 (length room) short in (rw (e, under) at (t .number), rw (e, under) at (t .written))

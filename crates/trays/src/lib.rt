@@ -1,0 +1,172 @@
+// Tray sessions: records in, an answer each, replies into one lent room; and the image taken out of a slot.
+use events::Change;
+use events::Event;
+use events::Refusal;
+use events::Taken;
+use gauge::Gauge;
+use label::Common;
+use label::Label;
+use meter::Meter;
+use runs::Outcome;
+use slots::Tray;
+use steps::Asked;
+use ticks::Tick;
+ghost use mathlib.Core.Path.{_≡_};
+ghost use Prim.Native.Nat.{_+_, _/_, _≤_};
+ghost use lib.ListN.{length};
+ghost use Rattle.runs.specs.Run.{Running, Runs};
+ghost use Rattle.slots.specs.Tray.{TrayWF, emptyTray, trayDid};
+ghost use Rattle.trays.specs.Run.{trayResultOf, trayIdleOf, SlotOut};
+
+// What a tray session did: the state at its end, how many lines it has, and how many bytes of reply.
+pub struct Ran {
+    pub outcome: Outcome,
+    pub tray: Tray,
+    pub lines: usize,
+    pub replied: usize,
+}
+
+// The match on the event stands in the loop itself, where a slot's parts are taken out and stored back, so that no tray goes through a result.
+fn run_all(s: &[u8], room: &mut [u8], answers: &mut [u64]) -> Ran
+    requires { ⌜ length (now s) ≤ 32768 ⌝ }
+    requires { ⌜ (length (now s) + 3) / 4 ≤ length (now answers) ⌝ }
+    ensures { λ r. ⌜ Running trayDid emptyTray (now (s .entry)) (now (room .entry)) (now (answers .entry)) (trayResultOf r) (now (room .exit)) (now (answers .exit)) ⌝ }
+{
+    let mut tray = slots::empty();
+    let mut at = 0;
+    let mut used = 0;
+    let mut lines = 0;
+    while at < s.len() {
+        let l = &s[at..];
+        let slot = slots::slot(l);
+        let mut again = false;
+        if slots::image_at(l) {
+            let commons = tray.commons;
+            again = slots::known(commons, tray.count, &l[4..12]);
+        }
+        let last = Tick {
+            any: tray.meters[slot].flow.tick.any,
+            last: tray.meters[slot].flow.tick.last,
+        };
+        let r = slots::front(l, tray.count, tray.closed, again, last, room.len() - used);
+        let end = r.used;
+        let mut line = runs::code(r.kind, r.answer, 0);
+        let asked = r.event;
+        match asked {
+            Asked::Nothing => {}
+            Asked::Run(e) => match e {
+                Event::Image => {
+                    let n = parts::wide(tray.count);
+                    let g = pack::image_in(&l[4..end]);
+                    let common = g.common;
+                    let label = g.label;
+                    let meter = g.meter;
+                    tray.commons[n] = common;
+                    tray.labels[n] = label;
+                    tray.meters[n] = meter;
+                    tray.count = tray.count + 1;
+                }
+                Event::Change(c) => {
+                    tray.closed = true;
+                    match c {
+                        Change::Reading(volt, temp) => {
+                            let m = tray.meters[slot];
+                            let next = m.read(volt, temp);
+                            tray.meters[slot] = next;
+                        }
+                        Change::Conversion(raw) => {
+                            let m = tray.meters[slot];
+                            let next = m.convert(raw);
+                            tray.meters[slot] = next;
+                        }
+                        Change::Sample(raw, tick) => {
+                            let m = tray.meters[slot];
+                            let next = samples::sample(m, raw, tick);
+                            tray.meters[slot] = next;
+                        }
+                        Change::PowerOn => {
+                            let k = tray.labels[slot];
+                            let m = tray.meters[slot];
+                            let label = k.powered();
+                            let next = m.restarted();
+                            tray.labels[slot] = label;
+                            tray.meters[slot] = next;
+                        }
+                    }
+                }
+                Event::Transact(t) => {
+                    let from = 4 + t.start as usize;
+                    tray = slots::transacted(tray, t, &l[from..end], &mut room[used..]);
+                    tray.closed = true;
+                    used = used + (t.count as usize);
+                    line = runs::code(r.kind, r.answer, t.count);
+                }
+            },
+        }
+        answers[lines] = line;
+        at = at + end;
+        lines = lines + 1;
+    }
+    Ran {
+        outcome: Outcome::Done,
+        tray: tray,
+        lines: lines,
+        replied: used,
+    }
+}
+
+// A session that is not run.
+fn idle(outcome: Outcome) -> Ran
+    ensures { λ r. ⌜ r ≡ trayIdleOf outcome ⌝ }
+{
+    let tray = slots::empty();
+    Ran {
+        outcome: outcome,
+        tray: tray,
+        lines: 0,
+        replied: 0,
+    }
+}
+
+// Every tray has eight places, which is told to a proof.
+fn sized(commons: [Common; 8], labels: [Label; 8], meters: [Meter; 8])
+    ensures { λ _. ⌜ (length commons ≡ 8) × (length labels ≡ 8) × (length meters ≡ 8) ⌝ }
+{}
+
+// The image taken out of a slot: its answer number, and the first 60 bytes of the room.
+pub fn take_out(tray: Tray, slot: u8, room: &mut [u8]) -> u8
+    ensures { λ r. ⌜ SlotOut tray slot (now (room .entry)) r (now (room .exit)) ⌝ }
+{
+    if numbers::and(slot < 8, slot < tray.count) {
+        let i = parts::wide(slot);
+        let commons = tray.commons;
+        let labels = tray.labels;
+        let meters = tray.meters;
+        sized(commons, labels, meters);
+        let common = commons[i];
+        let label = labels[i];
+        let meter = meters[i];
+        let g = Gauge {
+            common: common,
+            label: label,
+            meter: meter,
+        };
+        if pack::image_out(g, room) {
+            return 0;
+        }
+        return events::number(Taken::Refused(Refusal::Room));
+    }
+    events::number(Taken::Refused(Refusal::Order))
+}
+
+// A whole tray session: an answer for each record, the replies one after the other at the front of the room, the state at the end. Nothing
+// is run and nothing written where it is over 32,768 bytes, or where fewer answers are lent than it may have records.
+pub fn run(s: &[u8], room: &mut [u8], answers: &mut [u64]) -> Ran
+    ensures { λ r. ⌜ Runs trayDid emptyTray (now (s .entry)) (now (room .entry)) (now (answers .entry)) (trayResultOf r) (now (room .exit)) (now (answers .exit)) ⌝ }
+{
+    match runs::outcome_of(s.len(), answers.len()) {
+        Outcome::Done => run_all(s, room, answers),
+        Outcome::Over => idle(Outcome::Over),
+        Outcome::Short => idle(Outcome::Short),
+    }
+}
