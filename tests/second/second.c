@@ -4,6 +4,8 @@
  *   second image    runs the session and writes the image taken out at its end, or the answer and its meaning on standard error
  *   second preset IMAGE PARAMETERS
  *                   writes the session that sets block 1, from two files by name, or the answer on standard error
+ *   second mend OUT reads a damaged image from standard input, writes it mended to the file OUT and prints a line for each byte that is changed, or
+ *                   the answer on standard error
  *   second dump     prints the session's lines and after each the whole state
  *   second tray, second tray_image SLOT, second tray_dump
  *                   do the same with a session of a tray
@@ -833,6 +835,58 @@ static void put_preset(byte *at, const byte *image, const byte *wanted)
     put_record(at, 4, read_back, sizeof read_back);
 }
 
+/* ---- Mending ---- */
+
+enum { BREAKPOINT_LIMIT = 40 };
+
+/* W9.2 and W9.3: the first answer that applies, or 0. */
+static int32_t mend_judged(const byte *image, int32_t size, int32_t room)
+{
+    if (size != IMAGE_BYTES || room < IMAGE_BYTES)
+        return 30;
+    if (image[0] != 0x3D)
+        return 31;
+    return 0;
+}
+
+/* Of two neighbours the larger one, as a signed byte, comes first. */
+static void larger_first(byte *two)
+{
+    if (signed_byte(two[0]) < signed_byte(two[1])) {
+        byte other = two[0];
+        two[0] = two[1];
+        two[1] = other;
+    }
+}
+
+/* W9.8: TBP34, TBP23 and TBP12 stand in this order, so the largest comes first. */
+static void mend_breakpoints(byte *three)
+{
+    for (int32_t i = 0; i < 3; i++)
+        if (signed_byte(three[i]) > BREAKPOINT_LIMIT)
+            three[i] = BREAKPOINT_LIMIT;
+    larger_first(three);
+    larger_first(three + 1);
+    larger_first(three);
+}
+
+/* W9.5 to W9.9, in place. */
+static void mend_image(byte *image)
+{
+    image[0x07] = (byte)crc(image, 7);
+    image[0x3A] = (byte)(image[0x3A] < 63 ? 63 : image[0x3A] > 128 ? 128 : image[0x3A]);
+    image[0x3B] = (byte)(image[0x3B] & 3);
+    mend_breakpoints(image + 0x34);
+}
+
+/* W9.10 */
+static void print_changes(const byte *old, const byte *new)
+{
+    for (int32_t at = 0; at < IMAGE_BYTES; at++)
+        if (old[at] != new[at])
+            printf("%02x %02x %02x\n", (unsigned)at, (unsigned)old[at], (unsigned)new[at]);
+}
+
 /* ---- Figures to hold ---- */
 
 static int failures;
@@ -1136,6 +1190,26 @@ static int tray_image_at_end(const char *word, const byte *session, int32_t size
     return image_at_end(slot < SLOTS ? &tray.packs[slot] : &none, size, "no image was accepted for this slot");
 }
 
+static int mend(const char *name)
+{
+    static byte dump[IMAGE_BYTES + 1], mended[IMAGE_BYTES]; /* one byte more shows an input that is too long */
+    int32_t size = (int32_t)fread(dump, 1, sizeof dump, stdin);
+    int32_t answer = mend_judged(dump, size, sizeof mended);
+    if (answer != 0) {
+        fprintf(stderr, "%d: it is not mended\n", (int)answer);
+        return 1;
+    }
+    memcpy(mended, dump, sizeof mended);
+    mend_image(mended);
+    FILE *file = fopen(name, "wb");
+    if (file == NULL || fwrite(mended, 1, sizeof mended, file) != sizeof mended || fclose(file) != 0) {
+        fprintf(stderr, "second: cannot write %s\n", name);
+        return 1;
+    }
+    print_changes(dump, mended);
+    return 0;
+}
+
 int main(int count, char **arguments)
 {
     static byte session[SESSION_LIMIT + 1]; /* one byte more shows a session that is too long */
@@ -1146,6 +1220,8 @@ int main(int count, char **arguments)
         return count == 4 ? preset(arguments[2], arguments[3]) : 2;
     if (strcmp(mode, "tray_image") == 0 && count != 3)
         return 2;
+    if (strcmp(mode, "mend") == 0)
+        return count == 3 ? mend(arguments[2]) : 2;
     int32_t size = (int32_t)fread(session, 1, sizeof session, stdin);
     Subject of = {&gauge, strncmp(mode, "tray", 4) == 0 ? &tray : NULL};
     if (strcmp(mode, "tray_image") == 0)

@@ -11,6 +11,8 @@ use Rattle.records.proofs.run
 use Rattle.records.proofs.take_out
 use Rattle.programming.specs.Programming.{Programming}
 use Rattle.programming.proofs.write
+use Rattle.mending.specs.Mending.{Mending}
+use Rattle.mending.proofs.mend
 use Rattle.demands.specs.Call.{Call, Allowed}
 use Rattle.demands.specs.Demand1.{sessionMost, trayMost, Demand1}
 use Rattle.demands.specs.Demand2.{Demand2, TrayDemand2}
@@ -56,6 +58,12 @@ pub write-wrote : (κs : Lfts (write.ended .signature .lifetimes)) (a : Args (wr
     (r : Res (write.ended .signature) κs) (w : Lasts write.ended κs a)
     → write.Reads.Learnt κs a r (atExit write.ended κs a w) → Programming (now (a .0)) (now (a .1 .0)) (now (a .1 .1 .0)) r (w .1 .1 .0)
 write-wrote κs a r w h = h
+
+-- and of `mending::mend` that on mended images
+pub mend-mended : (κs : Lfts (mend.ended .signature .lifetimes)) (a : Args (mend.ended .signature) κs) (r : Res (mend.ended .signature) κs)
+    (w : Lasts mend.ended κs a)
+    → mend.Reads.Learnt κs a r (atExit mend.ended κs a w) → Mending (now (a .0)) (now (a .1 .0)) r (w .1 .0)
+mend-mended κs a r w h = h
 
 pub demands : Demand1 sessionMost didOf emptyOf × Demand2 × Demand3
 demands = (demand-1, demand-2, demand-3)

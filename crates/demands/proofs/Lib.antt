@@ -31,3 +31,4 @@ pub mod Example
 pub mod TrayExample
 pub mod Slow
 pub mod TrayFunctions
+pub mod Mending

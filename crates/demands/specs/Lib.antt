@@ -9,3 +9,4 @@ pub mod Slots
 pub mod Isolation
 pub mod Programming
 pub mod Slow
+pub mod Mending

@@ -149,6 +149,10 @@ module _ (again loaded : Bool) (p : List ℕ) (last : Tick) where
       timed (Refused r) h = tt
 
 -- of a plain session
+pub plain-taking : (loaded : Bool) (p : List ℕ) (n : ℕ) → Taking false loaded p (takenOf n loaded p)
+unfolding takenOf
+plain-taking loaded p n = taking false loaded p (kindOf n)
+
 pub timed-taking : (loaded : Bool) (p : List ℕ) (last : Tick) (n : ℕ) → Taking false loaded p (timedOf last (takenOf n loaded p))
 unfolding takenOf
 timed-taking loaded p last n = timed-by false loaded p last (kindOf n)

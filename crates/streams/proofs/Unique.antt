@@ -6,6 +6,7 @@ use Rattle.streams.proofs.within
 use Rattle.streams.proofs.put_unread
 use Rattle.streams.proofs.put_refused
 use Rattle.streams.proofs.say
+use Rattle.streams.proofs.say_with_file
 
 pub within-once : Once within.ended within.Reads.Pre within.Reads.Learnt
 within-once κs a r r′ w w′ p h h′ = (h .least ∙ sym (h′ .least), refl)
@@ -18,3 +19,6 @@ put-refused-once κs a r r′ w w′ p h h′ = (same-said h h′, λ i. (tt, (t
 
 pub say-once : Once say.ended say.Reads.Pre say.Reads.Learnt
 say-once κs a r r′ w w′ p h h′ = (refl, refl)
+
+pub say-with-file-once : Once say_with_file.ended say_with_file.Reads.Pre say_with_file.Reads.Learnt
+say-with-file-once κs a r r′ w w′ p h h′ = (refl, refl)

@@ -2,7 +2,9 @@
 use mathlib.Core.Path.{_≡_}
 use mathlib.Core.List.{List, [], _∷_, _++_}
 use Prim.Native.Nat.{ℕ, _≤_, min}
+use lib.Dec.{ltb}
 use lib.ListN.{length, take}
+use Rattle.numbers.specs.Choice.{pick}
 use Rattle.parts.specs.Parts.{put}
 use Rattle.digits.specs.Digits.{decimalText}
 use Rattle.streams.specs.declared.Stream.{Stream}
@@ -42,6 +44,10 @@ unreadText name =
 -- a refusal: a number, and what it means
 abbrev pub refusedText : ℕ → List ℕ → List ℕ
 refusedText number words = decimalText number ++ (58 ∷ 32 ∷ (words ++ (10 ∷ [])))
+
+-- the name under which a file is made before it takes its own: that one, and `.new`; none where it would be too long
+unfoldable pub besideText : List ℕ → List ℕ
+besideText name = pick (ltb 4000 (length name)) [] (name ++ (46 ∷ 110 ∷ 101 ∷ 119 ∷ []))
 
 -- the text stands at the front of the room, and the code says how many bytes it is, and where it goes
 pub record Saying (what : Speech) (before : List ℕ) (said : Said) (after : List ℕ) : Type 0 where

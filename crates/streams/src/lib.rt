@@ -1,10 +1,14 @@
-// What a program reads, standard input or files that its words name, and what it says: one thing, on standard output or standard error.
+// What a program reads, standard input or files that its words name, and what it says: one thing, on standard output or standard error, and a file
+// beside it.
+use libc::PATH_MAX;
 use libc::STDERR_FILENO;
 use libc::STDIN_FILENO;
 use libc::STDOUT_FILENO;
+ghost use mathlib.Core.Path.{_≡_};
 ghost use Prim.Native.Nat.{_+_, _≤_};
 ghost use lib.ListN.{length};
-ghost use Rattle.streams.specs.Streams.{Within, error, unreadText, refusedText, Saying};
+ghost use Rattle.digits.specs.Digits.{Writing};
+ghost use Rattle.streams.specs.Streams.{Within, error, unreadText, refusedText, besideText, Saying};
 
 // What was read: so many bytes at the front of the room, or a read that failed.
 pub struct Input {
@@ -142,6 +146,124 @@ pub fn say(name: &[u8], said: Said, room: &[u8]) {
         }
         Stream::Error => {
             io::write_all(STDERR_FILENO, &room[..count]);
+        }
+    }
+}
+
+// ---- a file that is written
+
+// Whether a file may take the name: it is free, or a file has it that may be written. No device has `fsync`, and no folder can be opened so.
+fn replaceable(name: &[u8]) -> bool {
+    let fd = os::open_update(name);
+    if fd < 0 {
+        return os::errno() == libc::ENOENT;
+    }
+    let plain = libc::fsync(fd) == 0;
+    libc::close(fd);
+    plain
+}
+
+// Writes the bytes to a file that is made for them, down to the device. Where they cannot be written no file is left.
+fn make(name: &[u8], bytes: &[u8]) -> bool {
+    let fd = os::create(name);
+    if fd < 0 {
+        return false;
+    }
+    let taken = io::write_all(fd, bytes);
+    let kept = libc::fsync(fd) == 0;
+    let closed = libc::close(fd) == 0;
+    let whole = numbers::and(taken, numbers::and(kept, closed));
+    if !whole {
+        os::unlink(name);
+    }
+    whole
+}
+
+// Makes the file under another name, and then gives it its own: so it is whole, or what had the name is as it was.
+fn replace(name: &[u8], beside: &[u8], bytes: &[u8]) -> bool {
+    if !replaceable(name) {
+        return false;
+    }
+    if !make(beside, bytes) {
+        return false;
+    }
+    let moved = os::rename(beside, name) == 0;
+    if !moved {
+        os::unlink(beside);
+    }
+    moved
+}
+
+fn say_unwritten(program: &[u8], name: &[u8], beside: &[u8]) {
+    io::write_all(STDERR_FILENO, program);
+    io::write_all(STDERR_FILENO, b": cannot write ");
+    io::write_all(STDERR_FILENO, name);
+    io::write_all(STDERR_FILENO, b" by way of ");
+    io::write_all(STDERR_FILENO, beside);
+    io::write_all(STDERR_FILENO, b"\n");
+}
+
+// The other name of a file: its own, and `.new` behind it. A name that is too long for that has none.
+fn put_beside(name: &[u8], room: &mut [u8]) -> usize
+    requires { ⌜ length (now room) ≡ 4096 ⌝ }
+    ensures { λ r. ⌜ Writing 4004 (besideText (now (name .entry))) (now (room .entry)) 0 r (now (room .exit)) ⌝ }
+{
+    if 4000 < name.len() {
+        return 0;
+    }
+    let next = digits::put_bytes(name, room, 0);
+    digits::put_bytes(b".new", room, next)
+}
+
+// Writes the file that a word of the call names, which is not a link. Where it cannot be written, standard error has a line with its name.
+fn write_named(program: &[u8], word: usize, bytes: &[u8]) -> bool {
+    let mut name = io::buffer();
+    let got = os::arg(word, &mut name);
+    name[PATH_MAX - 1] = 0;
+    let n = within(got, &name);
+    let mut other = io::buffer();
+    let put = put_beside(&name[..n], &mut other);
+    let m = within(put, &other);
+    let mut text = [0u8; 1];
+    let linked = libc::readlink(&name, &mut text) >= 0;
+    if !linked {
+        if replace(&name[..n], &other[..m], bytes) {
+            return true;
+        }
+    }
+    say_unwritten(program, &name[..n], &other[..m]);
+    false
+}
+
+// Says what is said; where it goes to standard output, the file that a word of the call names is written first. Where it cannot be written,
+// standard error has a line, and nothing else is said.
+pub fn say_with_file(program: &[u8], said: Said, room: &[u8], word: usize, bytes: &[u8]) {
+    let stream = said.stream;
+    let count = said.count;
+    match stream {
+        Stream::Output => {
+            if write_named(program, word, bytes) {
+                let out = Stream::Output;
+                say(
+                    program,
+                    Said {
+                        stream: out,
+                        count: count,
+                    },
+                    room,
+                );
+            }
+        }
+        Stream::Error => {
+            let err = Stream::Error;
+            say(
+                program,
+                Said {
+                    stream: err,
+                    count: count,
+                },
+                room,
+            );
         }
     }
 }

@@ -1,0 +1,36 @@
+-- Mended images, proved: the first record of a session, which the judge of `mending` accepts.
+use mathlib.Core.Path.{_≡_, ap, _∙_}
+use mathlib.Core.List.{List, _∷_}
+use Prim.Native.Nat.{ℕ}
+use native.Mathlib.Nat.{sub-zero}
+use lib.ListN.{length, take}
+use Rattle.pack.specs.Image.{imageOf}
+use Rattle.events.specs.Image.{imageSize}
+use Rattle.mending.specs.Worth.{Accepted}
+use Rattle.mending.proofs.Worth.{accepted, by-call}
+use Rattle.runs.specs.Record.{whole, recsOf}
+use Rattle.runs.specs.Run.{silently}
+use Rattle.runs.proofs.Records.{recs-record}
+use Rattle.steps.specs.declared.Session.{Session}
+use Rattle.steps.specs.Step.{loadedWith, didOf}
+use Rattle.records.specs.Run.{emptyOf}
+use Rattle.demands.specs.Call.{Call}
+use Rattle.demands.specs.Mending.{MendedFirst, MendedTheorem}
+use Rattle.demands.proofs.Moments.{tells}
+use Rattle.demands.proofs.Demand2.{did-image}
+
+module _ {image room after rest : List ℕ} {c : Call Session} (f : MendedFirst image room after rest c) where
+  abbrev p : List ℕ
+  p = take imageSize after
+
+  taken : Accepted p
+  taken = let d = by-call image room after (f .mended) in rw (d .1) (accepted image (d .0) .1)
+
+  does : didOf emptyOf (length (c .room)) (whole 1 p) ≡ silently (loadedWith (imageOf p)) 0
+  does = did-image p (length (c .room)) taken
+
+  records : recsOf (c .bytes) ≡ whole 1 p ∷ recsOf rest
+  records = ap recsOf (f .session) ∙ recs-record 1 p rest
+
+pub mended-first : MendedTheorem
+mended-first image room after rest c f = record { told = tells didOf emptyOf (f .run); lines = rw (records f) (simp (does f, sub-zero)) }

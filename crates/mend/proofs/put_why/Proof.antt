@@ -1,0 +1,27 @@
+-- `mend::put_why` meets its contract.
+use Rattle.mend.proofs.Laws.{why-said}
+use borrow.Author.Needs.{needs}
+use Rattle.mend.proofs.put_why.Statement.{statement}
+use Rattle.mend.proofs.put_why.Tie as tie
+
+returns : tie.Need-returns
+returns c = why-said (c .before .before .before .before .before .enum-told .given .1) (c .before .before .before .before .before .before .before .number .ensures) (c .before .before .put-refused .ensures)
+
+returns-2 : tie.Need-returns-2
+returns-2 c = why-said (c .before .before .before .before .before .enum-told2 .given .1) (c .before .before .before .before .before .before .before .number .ensures) (c .before .before .put-refused2 .ensures)
+
+pub put-why-spec : {M : Type 1} → statement M
+put-why-spec =
+    tie.close
+    (tie.spec
+    (λ c κs. search needs)
+    (λ c. search needs)
+    (λ c. search needs)
+    (λ c κs. search needs)
+    (λ c. search needs)
+    (λ c. search needs)
+    (λ c κs. search needs)
+    (λ c. search needs)
+    returns
+    (λ c. search needs)
+    returns-2)

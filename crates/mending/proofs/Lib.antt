@@ -1,0 +1,4 @@
+pub mod Laws
+pub mod Worth
+pub mod Example
+pub mod Unique

@@ -1,0 +1,422 @@
+-- What mending is worth, proved.
+use mathlib.Core.Path.{_≡_, refl, sym, ap, _∙_}
+use mathlib.Core.Bool.{Bool, true, false}
+use mathlib.Core.Logic.{_≢_}
+use mathlib.Core.List.{List, [], _∷_, _++_}
+use Prim.Native.Nat.{ℕ, suc, _+_, _%_, _/_, _≤_, _<_, min, max}
+use native.Mathlib.Omega.{arith}
+use borrow.Author.Tests.{eq-eqb, le-leb, leb-true, leb-false, eqb-true}
+use lib.Dec.{eqb, leb}
+use lib.IntN.{pos}
+use lib.Signed.{leZ}
+use lib.ListN.{length, getD, take, drop, set, length-set, length-take, length-drop}
+use lib.Seq.{getD-set-same, getD-set-other, set-getD, take-set-le, getD-take, getD-drop, take-take, take-at, ext-getD}
+use Rattle.numbers.specs.Choice.{pick}
+use Rattle.numbers.specs.Offset.{value, offset8Of, movedInto}
+use Rattle.numbers.proofs.Offset.{natural, at-most}
+use Rattle.numbers.proofs.Bounds.{both-true}
+use Rattle.parts.specs.Parts.{part}
+use Rattle.crc.specs.Crc.{crcOf}
+use Rattle.params.specs.declared.Breaks.{Breaks}
+use Rattle.events.specs.declared.Event.the-variants.{Image}
+use Rattle.events.specs.declared.Taken.the-variants.{Run, Refused}
+use Rattle.events.specs.declared.Refusal.the-variants as refusal
+use Rattle.events.specs.Image.{imageSize, imageAddress, imageBlock, imageBreaks, imageAging, imageLocks}
+use Rattle.events.specs.Record.{kindOf, addressedOf, lockableOf, orderedOf, judgedAmong, judgedOf, takenOf}
+use Rattle.events.proofs.Fits.{plain-taking}
+use Rattle.mending.specs.Mending.{mendedCrc, mendedAging, mendedLocks, capOf, cappedOf, arrangedOf, mendedBreaks, mendedOf, changeText, changesFrom, changesOf}
+use Rattle.mending.specs.Worth.{SoundImage, KeptBytes, AcceptedTheorem, UnchangedTheorem, TwiceTheorem, ArrangedTheorem, CappedTheorem, KeptTheorem, ByCallTheorem}
+use Rattle.mending.proofs.Laws.{granted, mended-length}
+
+-- ---- signed bytes in offset form, and back
+
+back : (x : ℕ) → x < 256 → offset8Of (offset8Of x) ≡ x
+back x h = omega arith
+
+-- ---- what is done twice, or is not needed
+
+moved-again : (x : ℕ) → movedInto 63 128 (movedInto 63 128 x) ≡ movedInto 63 128 x
+moved-again x = omega arith
+
+moved-none : (x : ℕ) → 63 ≤ x → x ≤ 128 → movedInto 63 128 x ≡ x
+moved-none x h i = omega arith
+
+cleared-again : (x : ℕ) → x % 4 % 4 ≡ x % 4
+cleared-again x = omega arith
+
+cleared-none : (x : ℕ) → x ≤ 3 → x % 4 ≡ x
+cleared-none x h = omega arith
+
+bit-0 : (x : ℕ) → x % 4 % 2 ≡ x % 2
+bit-0 x = omega arith
+
+bit-1 : (x : ℕ) → x % 4 / 2 % 2 ≡ x / 2 % 2
+bit-1 x = omega arith
+
+-- ---- breakpoints that are in order stay, and those that are mended are in order
+
+lower-is : (a b : ℕ) → a ≤ b → min a b ≡ a
+lower-is a b h = omega arith
+
+higher-is : (a b : ℕ) → a ≤ b → max a b ≡ b
+higher-is a b h = omega arith
+
+capped-stays : (b : Breaks) → b .b34 ≤ 168 → b .b23 ≤ 168 → b .b12 ≤ 168 → cappedOf b ≡ b
+capped-stays b h i j = rw (lower-is (b .b34) 168 h, lower-is (b .b23) 168 i, lower-is (b .b12) 168 j) refl
+
+arranged-stays : (b : Breaks) → b .b12 ≤ b .b23 → b .b23 ≤ b .b34 → arrangedOf b ≡ b
+unfolding arrangedOf
+arranged-stays b h i =
+    rw (lower-is (b .b12) (b .b23) h, higher-is (b .b12) (b .b23) h, lower-is (b .b23) (b .b34) i, higher-is (b .b23) (b .b34) i, higher-is (b .b12) (b .b23) h, lower-is (b .b12) (b .b34) (omega arith))
+    refl
+
+-- of the smaller and the larger of two, and a third
+smallest-below : (low high c : ℕ) → min low c ≤ max low (min high c)
+smallest-below low high c = omega arith
+
+middle-below : (low high c : ℕ) → low ≤ high → max low (min high c) ≤ max high c
+middle-below low high c h = omega arith
+
+smaller-below : (a b : ℕ) → min a b ≤ max a b
+smaller-below a b = omega arith
+
+largest-low : (a b c : ℕ) → a ≤ 168 → b ≤ 168 → c ≤ 168 → max (max a b) c ≤ 168
+largest-low a b c h i j = omega arith
+
+cap-low : (x : ℕ) → min x 168 ≤ 168
+cap-low x = omega arith
+
+record Ascending (b : Breaks) : Type 0 where
+  one : b .b12 ≤ b .b23
+  two : b .b23 ≤ b .b34
+  three : b .b34 ≤ 168
+
+ascending-means : (b : Breaks) → orderedOf b ≡ true → Ascending b
+unfolding orderedOf
+ascending-means b h =
+    let first = both-true (leb (b .b12) (b .b23)) _ h in
+    let second = both-true (leb (b .b23) (b .b34)) _ (first .1) in
+    record { one = leb-true (b .b12) (b .b23) (first .0); two = leb-true (b .b23) (b .b34) (second .0); three = leb-true (b .b34) 168 (second .1) }
+
+ascending-ordered : (b : Breaks) → Ascending b → orderedOf b ≡ true
+unfolding orderedOf
+ascending-ordered b o = rw (le-leb (b .b12) (b .b23) (o .one), le-leb (b .b23) (b .b34) (o .two), le-leb (b .b34) 168 (o .three)) refl
+
+stays : (b : Breaks) → Ascending b → arrangedOf (cappedOf b) ≡ b
+stays b o = ap arrangedOf (capped-stays b (o .three) (omega arith) (omega arith)) ∙ arranged-stays b (o .one) (o .two)
+
+ascends : (b : Breaks) → Ascending (arrangedOf (cappedOf b))
+unfolding arrangedOf
+ascends b =
+    let x = min (b .b12) 168 in
+    let y = min (b .b23) 168 in
+    let z = min (b .b34) 168 in
+    record {
+      one = smallest-below (min x y) (max x y) z;
+      two = middle-below (min x y) (max x y) z (smaller-below x y);
+      three = largest-low x y z (cap-low (b .b12)) (cap-low (b .b23)) (cap-low (b .b34));
+    }
+
+-- ---- the three that are put in order are the same three
+
+module _ (f : ℕ → ℕ) where
+  two-same : (a b : ℕ) → f (min a b) + f (max a b) ≡ f a + f b
+  two-same a b = by (leb a b) refl
+    where
+      by : (t : Bool) → leb a b ≡ t → f (min a b) + f (max a b) ≡ f a + f b
+      by true e = let h = leb-true a b e in rw (lower-is a b h, higher-is a b h) refl
+      by false e =
+          let x : min a b ≡ b = omega (arith, leb-false a b e) in
+          let y : max a b ≡ a = omega (arith, leb-false a b e) in
+          rw (x, y) (omega arith)
+
+  -- a third, put among two in order
+  third-same : (u v c : ℕ) → u ≤ v → f (min u c) + f (max u (min v c)) + f (max v c) ≡ f u + f v + f c
+  third-same u v c h = by (leb c v) refl
+    where
+      by : (t : Bool) → leb c v ≡ t → f (min u c) + f (max u (min v c)) + f (max v c) ≡ f u + f v + f c
+      by true e =
+          let x : min v c ≡ c = omega (arith, leb-true c v e) in
+          let y : max v c ≡ v = omega (arith, leb-true c v e) in
+          rw (x, y) (omega (arith, two-same u c))
+      by false e =
+          let x : min v c ≡ v = omega (arith, leb-false c v e) in
+          let y : max v c ≡ c = omega (arith, leb-false c v e) in
+          let z : min u c ≡ u = omega (arith, leb-false c v e) in
+          rw (x, y, z, higher-is u v h) refl
+
+pub arranged : ArrangedTheorem
+unfolding arrangedOf
+arranged b =
+    let low = min (b .b12) (b .b23) in
+    let high = max (b .b12) (b .b23) in
+    record {
+      smallest = smallest-below low high (b .b34);
+      largest = middle-below low high (b .b34) (smaller-below (b .b12) (b .b23));
+      same = λ f. third-same f low high (b .b34) (smaller-below (b .b12) (b .b23)) ∙ ap (λ (n : ℕ). n + f (b .b34)) (two-same f (b .b12) (b .b23));
+    }
+
+pub capped : CappedTheorem
+capped x = by (leb x 168) refl
+  where
+    forty : leZ (value 7 x) (value 7 168) ≡ leZ (value 7 x) (pos 40)
+    forty = ap (leZ (value 7 x)) (natural 7 40)
+
+    by : (t : Bool) → leb x 168 ≡ t → value 7 (capOf x) ≡ pick (leZ (value 7 x) (pos 40)) (value 7 x) (pos 40)
+    by true e = rw (lower-is x 168 (leb-true x 168 e), ← sym (sym (at-most 7 x 168 ∙ forty)), e) refl
+    by false e =
+        let over : min x 168 ≡ 168 = omega (arith, leb-false x 168 e) in
+        rw (over, ← at-most 7 x 168 ∙ forty, e) (natural 7 40)
+
+-- ---- six bytes stored into a list
+
+module _ (l : List ℕ) (c x y z a k : ℕ) where
+  abbrev l₁ : List ℕ
+  l₁ = set l 0x07 c
+
+  abbrev l₂ : List ℕ
+  l₂ = set l₁ 0x34 x
+
+  abbrev l₃ : List ℕ
+  l₃ = set l₂ 0x35 y
+
+  abbrev l₄ : List ℕ
+  l₄ = set l₃ 0x36 z
+
+  abbrev l₅ : List ℕ
+  l₅ = set l₄ 0x3a a
+
+  abbrev l₆ : List ℕ
+  l₆ = set l₅ 0x3b k
+
+  elsewhere : (i : ℕ) → i ≢ 0x07 → i ≢ 0x34 → i ≢ 0x35 → i ≢ 0x36 → i ≢ 0x3a → i ≢ 0x3b → getD l₆ i 0 ≡ getD l i 0
+  elsewhere i p q r s t u =
+      getD-set-other l₅ 0x3b i k 0 u ∙ getD-set-other l₄ 0x3a i a 0 t ∙ getD-set-other l₃ 0x36 i z 0 s ∙ getD-set-other l₂ 0x35 i y 0 r
+      ∙ getD-set-other l₁ 0x34 i x 0 q ∙ getD-set-other l 0x07 i c 0 p
+
+  first-seven : take 7 l₆ ≡ take 7 l
+  first-seven =
+      take-set-le 7 l₅ 0x3b k (omega arith) ∙ take-set-le 7 l₄ 0x3a a (omega arith) ∙ take-set-le 7 l₃ 0x36 z (omega arith)
+      ∙ take-set-le 7 l₂ 0x35 y (omega arith) ∙ take-set-le 7 l₁ 0x34 x (omega arith) ∙ take-set-le 7 l 0x07 c (omega arith)
+
+  module _ (size : length l ≡ imageSize) where
+    at-crc : getD l₆ 0x07 0 ≡ c
+    at-crc =
+        getD-set-other l₅ 0x3b 0x07 k 0 (λ e. omega arith) ∙ getD-set-other l₄ 0x3a 0x07 a 0 (λ e. omega arith)
+        ∙ getD-set-other l₃ 0x36 0x07 z 0 (λ e. omega arith) ∙ getD-set-other l₂ 0x35 0x07 y 0 (λ e. omega arith)
+        ∙ getD-set-other l₁ 0x34 0x07 x 0 (λ e. omega arith) ∙ getD-set-same l 0x07 c 0 (omega arith)
+
+    at-34 : getD l₆ 0x34 0 ≡ x
+    at-34 =
+        getD-set-other l₅ 0x3b 0x34 k 0 (λ e. omega arith) ∙ getD-set-other l₄ 0x3a 0x34 a 0 (λ e. omega arith)
+        ∙ getD-set-other l₃ 0x36 0x34 z 0 (λ e. omega arith) ∙ getD-set-other l₂ 0x35 0x34 y 0 (λ e. omega arith)
+        ∙ getD-set-same l₁ 0x34 x 0 (simp length-set (omega arith))
+
+    at-23 : getD l₆ 0x35 0 ≡ y
+    at-23 =
+        getD-set-other l₅ 0x3b 0x35 k 0 (λ e. omega arith) ∙ getD-set-other l₄ 0x3a 0x35 a 0 (λ e. omega arith)
+        ∙ getD-set-other l₃ 0x36 0x35 z 0 (λ e. omega arith) ∙ getD-set-same l₂ 0x35 y 0 (simp length-set (omega arith))
+
+    at-12 : getD l₆ 0x36 0 ≡ z
+    at-12 =
+        getD-set-other l₅ 0x3b 0x36 k 0 (λ e. omega arith) ∙ getD-set-other l₄ 0x3a 0x36 a 0 (λ e. omega arith)
+        ∙ getD-set-same l₃ 0x36 z 0 (simp length-set (omega arith))
+
+    at-aging : getD l₆ 0x3a 0 ≡ a
+    at-aging = getD-set-other l₅ 0x3b 0x3a k 0 (λ e. omega arith) ∙ getD-set-same l₄ 0x3a a 0 (simp length-set (omega arith))
+
+    at-locks : getD l₆ 0x3b 0 ≡ k
+    at-locks = getD-set-same l₅ 0x3b k 0 (simp length-set (omega arith))
+
+-- where each of them stands then; every other byte is as it was
+record Stored (l m : List ℕ) (c x y z a k : ℕ) : Type 0 where
+  crc : getD m 0x07 0 ≡ c
+  b34 : getD m 0x34 0 ≡ x
+  b23 : getD m 0x35 0 ≡ y
+  b12 : getD m 0x36 0 ≡ z
+  aging : getD m 0x3a 0 ≡ a
+  locks : getD m 0x3b 0 ≡ k
+  others : (i : ℕ) → i ≢ 0x07 → i ≢ 0x34 → i ≢ 0x35 → i ≢ 0x36 → i ≢ 0x3a → i ≢ 0x3b → getD m i 0 ≡ getD l i 0
+  front : take 7 m ≡ take 7 l
+
+stored : (l : List ℕ) (c x y z a k : ℕ) → length l ≡ imageSize → Stored l (l₆ l c x y z a k) c x y z a k
+stored l c x y z a k size = record {
+  crc = at-crc l c x y z a k size;
+  b34 = at-34 l c x y z a k size;
+  b23 = at-23 l c x y z a k size;
+  b12 = at-12 l c x y z a k size;
+  aging = at-aging l c x y z a k size;
+  locks = at-locks l c x y z a k size;
+  others = elsewhere l c x y z a k;
+  front = first-seven l c x y z a k;
+}
+
+-- bytes that stand there already change nothing
+same-again : (l : List ℕ) {c x y z a k : ℕ} → c ≡ getD l 0x07 0 → x ≡ getD l 0x34 0 → y ≡ getD l 0x35 0 → z ≡ getD l 0x36 0 → a ≡ getD l 0x3a 0 → k ≡ getD l 0x3b 0
+    → l₆ l c x y z a k ≡ l
+same-again l p q r s t u = rw (p, q, r, s, t, u) (simp set-getD)
+
+-- ---- the mended image
+
+-- a byte of block 1 stands in the image
+block-at : (p : List ℕ) (i : ℕ) → i < 32 → getD (imageBlock p) i 0 ≡ getD p (24 + i) 0
+block-at p i h = getD-take 32 (drop 24 p) i 0 h ∙ getD-drop 24 p i 0
+
+-- the same bytes in a part are the same part
+part-kept : (m l : List ℕ) (n i : ℕ) → length m ≡ length l → ((j : ℕ) → j < n → getD m (i + j) 0 ≡ getD l (i + j) 0) → part n m i ≡ part n l i
+part-kept m l n i long same =
+    ext-getD 0 (part n m i) (part n l i) (simp (length-take, length-drop, long)) (λ j inside. let few : j < n = omega (arith, length-take n (drop i m)) in
+    getD-take n (drop i m) j 0 few ∙ getD-drop i m j 0 ∙ same j few ∙ sym (getD-drop i l j 0) ∙ sym (getD-take n (drop i l) j 0 few))
+
+module _ (image : List ℕ) (size : length image ≡ imageSize) where
+  abbrev m : List ℕ
+  m = mendedOf image
+
+  abbrev b : Breaks
+  b = mendedBreaks image
+
+  there : Stored image m (mendedCrc image) (offset8Of (b .b34)) (offset8Of (b .b23)) (offset8Of (b .b12)) (mendedAging image) (mendedLocks image)
+  unfolding mendedOf
+  there = stored image (mendedCrc image) (offset8Of (b .b34)) (offset8Of (b .b23)) (offset8Of (b .b12)) (mendedAging image) (mendedLocks image) size
+
+  long : length m ≡ imageSize
+  long = mended-length image ∙ size
+
+  breaks-there : imageBreaks m ≡ b
+  breaks-there =
+      let o = ascends (imageBreaks image) in
+      let x = ap offset8Of (block-at m 28 (omega arith) ∙ there .b34) ∙ back (b .b34) (omega (arith, o .three)) in
+      let y = ap offset8Of (block-at m 29 (omega arith) ∙ there .b23) ∙ back (b .b23) (omega (arith, o .two, o .three)) in
+      let z = ap offset8Of (block-at m 30 (omega arith) ∙ there .b12) ∙ back (b .b12) (omega (arith, o .one, o .two, o .three)) in
+      λ i. record { b34 = x i; b23 = y i; b12 = z i }
+
+  -- ---- it is accepted
+
+  addressed : getD image 0 0 ≡ 0x3d → addressedOf (imageAddress m) ≡ true
+  unfolding addressedOf
+  addressed family =
+      let first : getD (take 8 m) 0 0 ≡ 0x3d = getD-take 8 m 0 0 (omega arith) ∙ there .others 0 (λ e. omega arith) (λ e. omega arith) (λ e. omega arith) (λ e. omega arith) (λ e. omega arith) (λ e. omega arith) ∙ family in
+      let last : getD (take 8 m) 7 0 ≡ crcOf (take 7 (take 8 m)) = getD-take 8 m 7 0 (omega arith) ∙ there .crc ∙ ap crcOf (sym (take-take 7 8 m (omega arith) ∙ there .front)) in
+      rw (first, eq-eqb (getD (take 8 m) 7 0) (crcOf (take 7 (take 8 m))) last) refl
+
+  lockable : lockableOf m ≡ true
+  lockable = le-leb (imageLocks m) 3 (omega (arith, there .locks))
+
+  ordered : orderedOf (imageBreaks m) ≡ true
+  ordered = ap orderedOf breaks-there ∙ ascending-ordered b (ascends (imageBreaks image))
+
+  judged : getD image 0 0 ≡ 0x3d → judgedOf m ≡ Run Image
+  unfolding judgedAmong
+  judged family = rw (eq-eqb (length m) imageSize long, addressed family, lockable, ordered) refl
+
+  taken : getD image 0 0 ≡ 0x3d → takenOf 1 false m ≡ Run Image
+  unfolding takenOf kindOf
+  taken family = rw (eq-eqb (length m) imageSize long) (judged family)
+
+  -- ---- mended again it stays
+
+  again : mendedOf m ≡ m
+  unfolding mendedOf
+  again =
+      let settled : mendedBreaks m ≡ b = ap (λ (x : Breaks). arrangedOf (cappedOf x)) breaks-there ∙ stays b (ascends (imageBreaks image)) in
+      same-again m
+      (ap crcOf (there .front) ∙ sym (there .crc))
+      (ap (λ (x : Breaks). offset8Of (x .b34)) settled ∙ sym (there .b34))
+      (ap (λ (x : Breaks). offset8Of (x .b23)) settled ∙ sym (there .b23))
+      (ap (λ (x : Breaks). offset8Of (x .b12)) settled ∙ sym (there .b12))
+      (ap (movedInto 63 128) (there .aging) ∙ moved-again (imageAging image) ∙ sym (there .aging))
+      (ap (λ (n : ℕ). n % 4) (there .locks) ∙ cleared-again (imageLocks image) ∙ sym (there .locks))
+
+  -- ---- what is kept
+
+  kept-at : (i : ℕ) → (8 ≤ i) → (i < 0x34) → getD m i 0 ≡ getD image i 0
+  kept-at i low high = there .others i (λ e. omega arith) (λ e. omega arith) (λ e. omega arith) (λ e. omega arith) (λ e. omega arith) (λ e. omega arith)
+
+  kept-behind : (i : ℕ) → (0x37 ≤ i) → (i < 0x3a) → getD m i 0 ≡ getD image i 0
+  kept-behind i low high = there .others i (λ e. omega arith) (λ e. omega arith) (λ e. omega arith) (λ e. omega arith) (λ e. omega arith) (λ e. omega arith)
+
+  keeps : KeptBytes image m
+  keeps = record {
+    address = take-take 7 8 m (omega arith) ∙ there .front ∙ sym (take-take 7 8 image (omega arith));
+    label = part-kept m image 16 8 (mended-length image) (λ j h. kept-at (8 + j) (omega arith) (omega arith));
+    parameters =
+        take-take 28 32 (drop 24 m) (omega arith) ∙ part-kept m image 28 24 (mended-length image) (λ j h. kept-at (24 + j) (omega arith) (omega arith))
+        ∙ sym (take-take 28 32 (drop 24 image) (omega arith));
+    last = block-at m 31 (omega arith) ∙ kept-behind 55 (omega arith) (omega arith) ∙ sym (block-at image 31 (omega arith));
+    acr = rw (kept-behind 56 (omega arith) (omega arith), kept-behind 57 (omega arith) (omega arith)) refl;
+    bl0 = ap (λ (n : ℕ). eqb (n % 2) 1) (there .locks) ∙ ap (λ (n : ℕ). eqb n 1) (bit-0 (imageLocks image));
+    bl1 = ap (λ (n : ℕ). eqb (n / 2 % 2) 1) (there .locks) ∙ ap (λ (n : ℕ). eqb n 1) (bit-1 (imageLocks image));
+    others = there .others;
+  }
+
+-- ---- an image that is sound already
+
+module _ (image : List ℕ) (s : SoundImage image) where
+  judge : (false ≡ false) × (judgedOf image ≡ Run Image) × (length image ≡ imageSize)
+  judge = rw (s .accepted) at (plain-taking false image 1)
+
+  tests : (t u v w : Bool) → pick t (pick u (pick v (pick w (Run Image) (Refused refusal.Breaks)) (Refused refusal.Locks)) (Refused refusal.Address)) (Refused refusal.Size) ≡ Run Image
+      → (u ≡ true) × (v ≡ true) × (w ≡ true)
+  tests true true true true e = (refl, refl, refl)
+  tests true true true false e = let z : _≡_ {A = ℕ} 0 1 = cc in absurd (omega arith)
+  tests true true false w e = let z : _≡_ {A = ℕ} 0 1 = cc in absurd (omega arith)
+  tests true false v w e = let z : _≡_ {A = ℕ} 0 1 = cc in absurd (omega arith)
+  tests false u v w e = let z : _≡_ {A = ℕ} 0 1 = cc in absurd (omega arith)
+
+  passed : (addressedOf (imageAddress image) ≡ true) × (lockableOf image ≡ true) × (orderedOf (imageBreaks image) ≡ true)
+  unfolding judgedAmong
+  passed = tests (eqb (length image) imageSize) (addressedOf (imageAddress image)) (lockableOf image) (orderedOf (imageBreaks image)) (judge .1)
+
+  own-crc : mendedCrc image ≡ getD image 7 0
+  unfolding addressedOf
+  own-crc =
+      let own = both-true (eqb (getD (take 8 image) 0 0) 0x3d) _ (passed .0) .1 in
+      ap crcOf (sym (take-take 7 8 image (omega arith))) ∙ sym (eqb-true (getD (take 8 image) 7 0) (crcOf (take 7 (take 8 image))) own) ∙ getD-take 8 image 7 0 (omega arith)
+
+  same-breaks : mendedBreaks image ≡ imageBreaks image
+  same-breaks = stays (imageBreaks image) (ascending-means (imageBreaks image) (passed .2))
+
+  -- a breakpoint, as a byte again
+  same-byte : (i : ℕ) → i < 32 → offset8Of (offset8Of (getD (imageBlock image) i 0)) ≡ getD image (24 + i) 0
+  same-byte i h = ap (λ (x : ℕ). offset8Of (offset8Of x)) (block-at image i h) ∙ back (getD image (24 + i) 0) (s .bytes (24 + i))
+
+  same : mendedOf image ≡ image
+  unfolding mendedOf
+  same =
+      same-again image own-crc
+      (ap (λ (x : Breaks). offset8Of (x .b34)) same-breaks ∙ same-byte 28 (omega arith))
+      (ap (λ (x : Breaks). offset8Of (x .b23)) same-breaks ∙ same-byte 29 (omega arith))
+      (ap (λ (x : Breaks). offset8Of (x .b12)) same-breaks ∙ same-byte 30 (omega arith))
+      (moved-none (imageAging image) (s .old) (s .young))
+      (cleared-none (imageLocks image) (leb-true (imageLocks image) 3 (passed .1)))
+
+-- ---- no lines of an image that stays
+
+none : (k : ℕ) (l : List ℕ) → changesFrom k l l ≡ []
+unfolding changeText
+none k [] = refl
+none k (x ∷ l) = rw (eq-eqb x x refl) (none (suc k) l)
+
+quiet : (image : List ℕ) → mendedOf image ≡ image → changesOf image ≡ []
+unfolding changesOf
+quiet image same = rw same (none 0 image)
+
+-- ---- the theorems
+
+pub accepted : AcceptedTheorem
+accepted image g = (long image (g .sized), taken image (g .sized) (g .family))
+
+pub unchanged : UnchangedTheorem
+unchanged image s = (same image s, quiet image (same image s))
+
+pub twice : TwiceTheorem
+twice image g = let e = again image (g .sized) in (e, quiet (mendedOf image) e)
+
+pub kept : KeptTheorem
+kept image size = keeps image size
+
+pub by-call : ByCallTheorem
+by-call image room after w =
+    let g = granted imageSize image (length room) (sym (w .answer)) in
+    let front : after ≡ mendedOf image ++ drop imageSize room = rw (sym (w .answer)) at (w .written) in
+    (record { sized = g .sized; family = g .family }, ap (take imageSize) front ∙ take-at (mendedOf image) (drop imageSize room) imageSize (long image (g .sized)))

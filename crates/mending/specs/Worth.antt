@@ -1,0 +1,91 @@
+-- WHAT MENDING IS WORTH, request [9] of document 02.
+--
+-- "a tool which writes a 60-byte image that is accepted"; "An acceptable image with AS in range comes out unchanged with no lines. Mending twice is as
+-- mending once."
+--
+-- Stated of the judge that a session asks, of every image; `ByCallTheorem` says that these are the images of every call of `mend` that is not refused.
+use mathlib.Core.Path.{_≡_}
+use mathlib.Core.Bool.{false}
+use mathlib.Core.Logic.{_≢_}
+use mathlib.Core.List.{List, []}
+use Prim.Native.Nat.{ℕ, _+_, _≤_, _<_}
+use lib.IntN.{pos}
+use lib.ListN.{length, getD, take}
+use lib.Signed.{leZ}
+use Rattle.numbers.specs.Choice.{pick}
+use Rattle.numbers.specs.Offset.{value}
+use Rattle.params.specs.declared.Breaks.{Breaks}
+use Rattle.params.specs.Params.{byteAt}
+use Rattle.events.specs.declared.Event.the-variants.{Image}
+use Rattle.events.specs.declared.Taken.the-variants.{Run}
+use Rattle.events.specs.Image.{imageSize, addressAt, imageAddress, imageLabel, imageBlock, imageAcr, imageAging, imageBl0, imageBl1}
+use Rattle.events.specs.Record.{takenOf}
+use Rattle.mending.specs.declared.Mended.the-variants.{Done}
+use Rattle.mending.specs.Mending.{capOf, arrangedOf, mendedOf, changesOf, Mending}
+
+-- an image that is not refused
+pub record Mendable (image : List ℕ) : Type 0 where
+  pub sized : length image ≡ imageSize
+  pub family : getD image addressAt 0 ≡ 0x3d
+
+-- an image that is accepted as the first record of a session
+abbrev pub Accepted : List ℕ → Type 0
+Accepted image = takenOf 1 false image ≡ Run Image
+
+-- ---- "a 60-byte image that is accepted"
+
+abbrev pub AcceptedTheorem : Type 0
+AcceptedTheorem = (image : List ℕ) → Mendable image → (length (mendedOf image) ≡ imageSize) × Accepted (mendedOf image)
+
+-- ---- "An acceptable image with AS in range comes out unchanged with no lines"
+
+pub record SoundImage (image : List ℕ) : Type 0 where
+  pub bytes : (i : ℕ) → getD image i 0 < 256
+  pub accepted : Accepted image
+  pub young : imageAging image ≤ 128
+  pub old : 63 ≤ imageAging image
+
+abbrev pub UnchangedTheorem : Type 0
+UnchangedTheorem = (image : List ℕ) → SoundImage image → (mendedOf image ≡ image) × (changesOf image ≡ [])
+
+-- ---- "Mending twice is as mending once": the second time there are no lines
+
+abbrev pub TwiceTheorem : Type 0
+TwiceTheorem = (image : List ℕ) → Mendable image → (mendedOf (mendedOf image) ≡ mendedOf image) × (changesOf (mendedOf image) ≡ [])
+
+-- ---- "put in ascending order": ascending, and the same three, each as often as it was. (What any f gives for the three comes to the same sum.)
+
+pub record Arranged (b after : Breaks) : Type 0 where
+  pub smallest : after .b12 ≤ after .b23
+  pub largest : after .b23 ≤ after .b34
+  pub same : (f : ℕ → ℕ) → f (after .b12) + f (after .b23) + f (after .b34) ≡ f (b .b12) + f (b .b23) + f (b .b34)
+
+abbrev pub ArrangedTheorem : Type 0
+ArrangedTheorem = (b : Breaks) → Arranged b (arrangedOf b)
+
+-- "capped at 40", in signed numbers
+abbrev pub CappedTheorem : Type 0
+CappedTheorem = (x : ℕ) → value 7 (capOf x) ≡ pick (leZ (value 7 x) (pos 40)) (value 7 x) (pos 40)
+
+-- ---- what is kept
+
+pub record KeptBytes (image after : List ℕ) : Type 0 where
+  -- the family and the six bytes of the pack's own
+  pub address : take 7 (imageAddress after) ≡ take 7 (imageAddress image)
+  pub label : imageLabel after ≡ imageLabel image
+  -- the parameters from 60h up to 7Bh, and 7Fh: all but the breakpoints
+  pub parameters : take 28 (imageBlock after) ≡ take 28 (imageBlock image)
+  pub last : byteAt (imageBlock after) 0x7f ≡ byteAt (imageBlock image) 0x7f
+  pub acr : imageAcr after ≡ imageAcr image
+  pub bl0 : imageBl0 after ≡ imageBl0 image
+  pub bl1 : imageBl1 after ≡ imageBl1 image
+  -- byte by byte: six of them can change, the CRC, TBP34, TBP23 and TBP12, AS and the lock byte
+  pub others : (i : ℕ) → i ≢ 0x07 → i ≢ 0x34 → i ≢ 0x35 → i ≢ 0x36 → i ≢ 0x3a → i ≢ 0x3b → getD after i 0 ≡ getD image i 0
+
+abbrev pub KeptTheorem : Type 0
+KeptTheorem = (image : List ℕ) → length image ≡ imageSize → KeptBytes image (mendedOf image)
+
+-- ---- and so of every call of `mend` that is done, whatever it was given
+
+abbrev pub ByCallTheorem : Type 0
+ByCallTheorem = (image room after : List ℕ) → Mending image room Done after → Mendable image × (take imageSize after ≡ mendedOf image)

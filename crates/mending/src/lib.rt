@@ -1,0 +1,225 @@
+// Mending damaged images: the image that a session accepts, and the lines that tell what was changed.
+use events::AGING_AT;
+use events::BLOCK_AT;
+use events::IMAGE_SIZE;
+use events::LOCKS_AT;
+use params::Breaks;
+ghost use mathlib.Core.Path.{_≡_};
+ghost use mathlib.Core.List.{_++_};
+ghost use Prim.Native.Nat.{_+_, _≤_, min, max};
+ghost use lib.ListN.{length, drop};
+ghost use Rattle.numbers.specs.Offset.{movedInto};
+ghost use Rattle.digits.specs.Digits.{lower, pairsOf, Writing};
+ghost use Rattle.mending.specs.Mending.{mendedNumber, mendingAnswer, cappedOf, arrangedOf, mendedBreaks, mendedOf, lineText, changeText, changesFrom, changesSize, Mending, Listing};
+
+// What keeps an image from being mended: its size or that of the room, or its family code.
+pub enum Why {
+    Size,
+    Family,
+}
+
+pub enum Mended {
+    Done,
+    Refused(Why),
+}
+
+// The lines, so many bytes, or why there are none.
+pub enum Listed {
+    Lines(usize),
+    Refused(Why),
+}
+
+// Where the CRC of the address stands, and the breakpoints, TBP34 first.
+const CRC_AT: usize = 7;
+
+const BREAKS_AT: usize = 52;
+
+// Room for the lines of any image: nine bytes for each of its bytes.
+pub const CHANGES_SIZE: usize = 540;
+
+// The answer's number.
+pub fn number(m: Mended) -> u8
+    ensures { λ r. ⌜ r ≡ mendedNumber m ⌝ }
+{
+    match m {
+        Mended::Done => 0,
+        Mended::Refused(why) => match why {
+            Why::Size => 30,
+            Why::Family => 31,
+        },
+    }
+}
+
+// The answer for an image and a room, which is to have so many bytes at least.
+fn answer(least: usize, image: &[u8], room: usize) -> Mended
+    ensures { λ r. ⌜ r ≡ mendingAnswer least (now (image .entry)) room ⌝ }
+{
+    if image.len() != IMAGE_SIZE {
+        return Mended::Refused(Why::Size);
+    }
+    if room < least {
+        return Mended::Refused(Why::Size);
+    }
+    if image[0] != 0x3d {
+        return Mended::Refused(Why::Family);
+    }
+    Mended::Done
+}
+
+// ---- the breakpoints
+
+fn smaller(a: u8, b: u8) -> u8
+    ensures { λ r. ⌜ r ≡ min a b ⌝ }
+{
+    if a < b { a } else { b }
+}
+
+fn larger(a: u8, b: u8) -> u8
+    ensures { λ r. ⌜ r ≡ max a b ⌝ }
+{
+    if a < b { b } else { a }
+}
+
+// None above 40 °C.
+fn capped(b: Breaks) -> Breaks
+    ensures { λ r. ⌜ r ≡ cappedOf b ⌝ }
+{
+    let top = numbers::ZERO7 + 40;
+    Breaks {
+        b34: smaller(b.b34, top),
+        b23: smaller(b.b23, top),
+        b12: smaller(b.b12, top),
+    }
+}
+
+// The same three, TBP12 the smallest and TBP34 the largest.
+fn arranged(b: Breaks) -> Breaks
+    ensures { λ r. ⌜ r ≡ arrangedOf b ⌝ }
+{
+    let low = smaller(b.b12, b.b23);
+    let high = larger(b.b12, b.b23);
+    Breaks {
+        b34: larger(high, b.b34),
+        b23: larger(low, smaller(high, b.b34)),
+        b12: smaller(low, b.b34),
+    }
+}
+
+// Those of the image, mended.
+fn mended_breaks(image: &[u8]) -> Breaks
+    requires { ⌜ length (now image) ≡ 60 ⌝ }
+    ensures { λ r. ⌜ r ≡ mendedBreaks (now (image .entry)) ⌝ }
+{
+    let block = parts::thirty_two(image, BLOCK_AT);
+    let breaks = Breaks::of(&block);
+    arranged(capped(breaks))
+}
+
+// ---- the image
+
+// A saved AS, moved to the nearest end.
+fn aged(x: u8) -> u8
+    ensures { λ r. ⌜ r ≡ movedInto 63 128 x ⌝ }
+{
+    numbers::moved_into(63, 128, x as u64)
+}
+
+// The image with its damage mended.
+fn mended_image(image: &[u8]) -> [u8; 60]
+    requires { ⌜ length (now image) ≡ 60 ⌝ }
+    ensures { λ r. ⌜ r ≡ mendedOf (now (image .entry)) ⌝ }
+{
+    let mut m = [0u8; 60];
+    parts::store(image, &mut m, 0);
+    m[CRC_AT] = crc::crc(&image[0..7]);
+    let breaks = mended_breaks(image);
+    m[BREAKS_AT] = numbers::offset8(breaks.b34);
+    m[BREAKS_AT + 1] = numbers::offset8(breaks.b23);
+    m[BREAKS_AT + 2] = numbers::offset8(breaks.b12);
+    m[AGING_AT] = aged(image[AGING_AT]);
+    m[LOCKS_AT] = image[LOCKS_AT] % 4;
+    m
+}
+
+// The mended image at the front of the room, whose rest stays.
+fn put_mended(image: &[u8], room: &mut [u8])
+    requires { ⌜ length (now image) ≡ 60 ⌝ }
+    requires { ⌜ 60 ≤ length (now room) ⌝ }
+    ensures { λ _. ⌜ now (room .exit) ≡ mendedOf (now (image .entry)) ++ drop 60 (now (room .entry)) ⌝ }
+{
+    let m = mended_image(image);
+    parts::store(&m, room, 0);
+}
+
+// Writes the mended image at the front of the room, or nothing.
+pub fn mend(image: &[u8], room: &mut [u8]) -> Mended
+    ensures { λ r. ⌜ Mending (now (image .entry)) (now (room .entry)) r (now (room .exit)) ⌝ }
+{
+    let found = answer(IMAGE_SIZE, image, room.len());
+    match found {
+        Mended::Done => {
+            put_mended(image, room);
+            Mended::Done
+        }
+        Mended::Refused(why) => Mended::Refused(why),
+    }
+}
+
+// ---- the lines
+
+// Offset, old and new, in hex.
+fn put_line(table: &[u8; 512], offset: u8, old: u8, new: u8, room: &mut [u8], at: usize) -> usize
+    requires { ⌜ now table ≡ pairsOf lower ⌝ }
+    requires { ⌜ at + 9 ≤ length (now room) ⌝ }
+    ensures { λ r. ⌜ Writing 9 (lineText offset old new) (now (room .entry)) at r (now (room .exit)) ⌝ }
+{
+    let a = digits::put_entry(table, offset, room, at);
+    let b = digits::put_byte(b' ', room, a);
+    let c = digits::put_entry(table, old, room, b);
+    let d = digits::put_byte(b' ', room, c);
+    let e = digits::put_entry(table, new, room, d);
+    digits::put_byte(b'\n', room, e)
+}
+
+// The line of a byte, where it was changed.
+fn put_change(table: &[u8; 512], offset: u8, old: u8, new: u8, room: &mut [u8], at: usize) -> usize
+    requires { ⌜ now table ≡ pairsOf lower ⌝ }
+    requires { ⌜ at + 9 ≤ length (now room) ⌝ }
+    ensures { λ r. ⌜ Writing 9 (changeText offset old new) (now (room .entry)) at r (now (room .exit)) ⌝ }
+{
+    if old == new {
+        return at;
+    }
+    put_line(table, offset, old, new, room, at)
+}
+
+// The lines of two images, at the front of the room.
+fn put_changes(old: &[u8], new: &[u8], room: &mut [u8]) -> usize
+    requires { ⌜ length (now old) ≡ 60 ⌝ }
+    requires { ⌜ length (now new) ≡ 60 ⌝ }
+    requires { ⌜ changesSize ≤ length (now room) ⌝ }
+    ensures { λ r. ⌜ Writing changesSize (changesFrom 0 (now (old .entry)) (now (new .entry))) (now (room .entry)) 0 r (now (room .exit)) ⌝ }
+{
+    let table = digits::lower_pairs();
+    let mut next = 0;
+    let mut i = 0;
+    while i < old.len() {
+        next = put_change(&table, i as u8, old[i], new[i], room, next);
+        i += 1;
+    }
+    next
+}
+
+// Writes a line for each byte that mending changes, or nothing.
+pub fn changes(image: &[u8], room: &mut [u8]) -> Listed
+    ensures { λ r. ⌜ Listing (now (image .entry)) (now (room .entry)) r (now (room .exit)) ⌝ }
+{
+    let found = answer(CHANGES_SIZE, image, room.len());
+    match found {
+        Mended::Done => {
+            let m = mended_image(image);
+            Listed::Lines(put_changes(image, &m, room))
+        }
+        Mended::Refused(why) => Listed::Refused(why),
+    }
+}

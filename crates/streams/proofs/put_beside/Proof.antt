@@ -1,0 +1,28 @@
+-- `streams::put_beside` meets its contract, by joining its pieces.
+use native.Mathlib.Omega.{arith}
+use borrow.Author.Tests.{lt-ltb, le-ltb}
+use denote.Ref.{now}
+use Rattle.digits.proofs.Laws.{none, then, wider}
+use Rattle.streams.specs.Streams.{besideText}
+use borrow.Author.Needs.{needs}
+use Rattle.streams.proofs.put_beside.Statement.{statement}
+use Rattle.streams.proofs.put_beside.Tie as tie
+
+returns : tie.Need-returns
+unfolding besideText
+returns c = rw (lt-ltb _ _ (c .if1 .taken)) (wider (none (now (c .before .before .before .args .room)) 0) (omega arith))
+
+returns-2 : tie.Need-returns-2
+unfolding besideText
+returns-2 c = rw (le-ltb _ _ (c .before .before .before .before .before .before .before .before .before .if1 .left)) (wider (then (c .before .before .before .before .before .before .before .put-bytes .ensures) (c .before .before .put-bytes2 .ensures)) (omega (arith, c .before .before .before .before .before .before .before .before .before .if1 .left)))
+
+pub put-beside-spec : {M : Type 1} → statement M
+put-beside-spec =
+    tie.close
+    (tie.spec
+    returns
+    (λ c κs. search needs)
+    (λ c. search needs)
+    (λ c κs. search needs)
+    (λ c. search needs)
+    returns-2)
