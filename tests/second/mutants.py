@@ -1,6 +1,6 @@
 """Wrong second programs: each breaks one rule of the papers and must be found by a comparison: of generated sessions,
-those of PRESET of the sessions that are written from an image and parameters (tests/cases/preset), those of TRAYS of trays (tests/cases/trays), and
-those of MEND of damaged images (tests/cases/mend).
+those of PRESET of the sessions that are written from an image and parameters (tests/cases/preset), those of TRAYS of trays (tests/cases/trays),
+those of MEND of damaged images (tests/cases/mend), and those of HEX of Intel HEX, written and read (tests/cases/hex).
 
 A mutant is a label (the rule's row first), then pairs of a text that stands once in second.c and the text put in its
 place. They show that the comparison can fail. SLIPS are the paper's "Likely slips", RULES go through its rules in order,
@@ -927,6 +927,62 @@ MEND = [
     ("W9.10-decimal-offset", "\"%02x %02x %02x\\n\"", "\"%02u %02x %02x\\n\""),
     ("W9.10-every-byte", "        if (old[at] != new[at])\n            printf(\"%02x", "        if (at < IMAGE_BYTES)\n            printf(\"%02x"),
     ("W9.10-last-byte-not-told", "for (int32_t at = 0; at < IMAGE_BYTES; at++)\n        if (old", "for (int32_t at = 0; at < IMAGE_BYTES - 1; at++)\n        if (old"),
+]
+
+HEX = [
+    ("W10.2-lower-case", 'at += sprintf(at, "%02X", (unsigned)data[i]);', 'at += sprintf(at, "%02x", (unsigned)data[i]);'),
+    ("W10.2-address-low-byte-first", '":%02X%04X%02X", (unsigned)count, (unsigned)address,',
+     '":%02X%04X%02X", (unsigned)count, (unsigned)(address % 256 * 256 + address / 256),'),
+    ("W10.2-sum-without-the-count", "int32_t sum = count + address / 256", "int32_t sum = address / 256"),
+    ("W10.2-ones-complement", "(unsigned)(-sum & 0xFF)", "(unsigned)(~sum & 0xFF)"),
+    ("W10.2-cr-lf", 'return at + sprintf(at, "%02X\\n", (unsigned)(-sum & 0xFF));',
+     'return at + sprintf(at, "%02X\\r\\n", (unsigned)(-sum & 0xFF)) - 1;'),
+    ("W10.3-label-at-0000", "put_hex_line(at, 0x20, 0, label, 16)", "put_hex_line(at, 0x00, 0, label, 16)"),
+    ("W10.3-block-1-first", "    at = put_hex_line(at, 0x20, 0, label, 16);\n    at = put_hex_line(at, 0x60, 0, pack + 24, 16);",
+     "    at = put_hex_line(at, 0x60, 0, pack + 24, 16);\n    at = put_hex_line(at, 0x20, 0, label, 16);"),
+    ("W10.3-no-end-record", "    put_hex_line(at, 0, 1, NULL, 0);", ""),
+    ("W10.4-always-the-pack", "pack[59] % 2 == 1 ? pack + 8 : factory + 8", "true ? pack + 8 : factory + 8"),
+    ("W10.4-always-the-factory", "pack[59] % 2 == 1 ? pack + 8 : factory + 8", "false ? pack + 8 : factory + 8"),
+    ("W10.4-by-bl1", "pack[59] % 2 == 1 ? pack + 8", "pack[59] / 2 == 1 ? pack + 8"),
+    ("W10.4-by-the-factory's-lock", "pack[59] % 2 == 1 ? pack + 8", "factory[59] % 2 == 1 ? pack + 8"),
+    ("W10.5-the-factory's-block", "put_hex_line(at, 0x70, 0, pack + 40, 16)", "put_hex_line(at, 0x70, 0, factory + 40, 16)"),
+    ("W10.6-factory-not-judged", " || judged(&none_accepted, 0, 1, factory, factory_size) != 0)", " || factory_size < 0)"),
+    ("W10.6-pack-not-judged", "if (judged(&none_accepted, 0, 1, pack, pack_size) != 0 ||", "if (pack_size < 0 ||"),
+    ("W10.8-halves-swapped", "read.place = address == 0x20 ? 0 : address - 0x50;",
+     "read.place = address == 0x20 ? 0 : address == 0x60 ? 32 : 16;"),
+    ("W10.8-only-in-order", "        if (ended || (!line.end && had[line.place / 16]))",
+     "        if (ended || (!line.end && (had[line.place / 16] || (line.place > 0 && !had[line.place / 16 - 1]))))"),
+    ("W10.9-lower-case-taken", "return c >= 'A' && c <= 'F' ? c - 'A' + 10 : -1;",
+     "return c >= 'A' && c <= 'F' ? c - 'A' + 10 : c >= 'a' && c <= 'f' ? c - 'a' + 10 : -1;"),
+    ("W10.9-g-taken", "c >= 'A' && c <= 'F' ?", "c >= 'A' && c <= 'G' ?"),
+    ("W10.9-colon-taken-for-a-digit", "if (c >= '0' && c <= '9')", "if (c >= '0' && c <= ':')"),
+    ("W10.9-at-sign-taken-for-a-digit", "c >= 'A' && c <= 'F' ?", "c >= '@' && c <= 'F' ?"),
+    ("W10.9-any-first-byte", " || line[0] != ':'", ""),
+    ("W10.9-last-line-feed-not-asked", " || line[length - 1] != '\\n')", ")"),
+    ("W10.9-cr-taken", "        HexLine line = hex_line(text + at, next - at);",
+     "        byte copy[600];\n        int32_t n = next - at < 600 ? next - at : 600;\n        memcpy(copy, text + at, (size_t)n);\n"
+     "        if (n > 1 && copy[n - 2] == '\\r')\n            copy[--n - 1] = '\\n';\n        HexLine line = hex_line(copy, n);"),
+    ("W10.9-empty-line-taken", "        HexLine line = hex_line(text + at, next - at);",
+     "        if (next - at == 1 && text[at] == '\\n')\n            continue;\n        HexLine line = hex_line(text + at, next - at);"),
+    ("W10.9-pairs-too-many", "if (pairs != bytes[0] + 5)", "if (pairs < bytes[0] + 5)"),
+    ("W10.9-pairs-too-few", "if (pairs != bytes[0] + 5)", "if (pairs > bytes[0] + 5)"),
+    ("W10.10-not-looked-at", "if (sum % 256 != 0)", "if (sum < 0)"),
+    ("W10.10-the-last-byte-alone", "        sum += bytes[i];\n    }\n    if (pairs", "        sum = bytes[i];\n    }\n    if (pairs"),
+    ("W10.11-any-address", "(address == 0x20 || address == 0x60 || address == 0x70)", "address % 16 == 0 && address < 0x80 && address > 0x10"),
+    ("W10.11-address-one-byte", "int32_t address = 256 * bytes[1] + bytes[2];", "int32_t address = bytes[2];"),
+    ("W10.11-any-count", "bytes[3] == 0 && bytes[0] == 16 &&", "bytes[3] == 0 &&"),
+    ("W10.11-any-type", "} else if (bytes[3] == 0 && bytes[0] == 16 &&", "} else if (bytes[0] == 16 &&"),
+    ("W10.11-end-at-any-address", "bytes[3] == 1 && address == 0 && bytes[0] == 0", "bytes[3] == 1 && bytes[0] == 0"),
+    ("W10.11-end-with-data", "bytes[3] == 1 && address == 0 && bytes[0] == 0", "bytes[3] == 1 && address == 0"),
+    ("W10.12-42-before-41", "    read.answer = 41;\n    if (sum % 256 != 0)\n        return read;\n    read.answer = 42;",
+     "    read.answer = 42;\n    if (sum % 256 != 0 && bytes[3] < 2)\n        read.answer = 41;\n    if (sum % 256 != 0)\n        return read;"),
+    ("W10.12-stops-at-the-end", "        if (line.end) {\n            ended = true;\n", "        if (line.end) {\n            ended = true;\n            break;\n"),
+    ("W10.12-43-first", "            whole = false;\n", "            return 43;\n"),
+    ("W10.13-repeated-taken", "if (ended || (!line.end && had[line.place / 16]))", "if (ended)"),
+    ("W10.13-end-not-last-taken", "if (ended || (!line.end && had[line.place / 16]))", "if (!line.end && had[line.place / 16])"),
+    ("W10.13-no-end-asked", "if (!whole || !ended || ", "if (!whole || "),
+    ("W10.13-label-not-asked", "!ended || !had[0] || ", "!ended || "),
+    ("W10.13-high-half-not-asked", " || !had[2])", ")"),
 ]
 
 

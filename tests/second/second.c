@@ -6,6 +6,9 @@
  *                   writes the session that sets block 1, from two files by name, or the answer on standard error
  *   second mend OUT reads a damaged image from standard input, writes it mended to the file OUT and prints a line for each byte that is changed, or
  *                   the answer on standard error
+ *   second hex_out PACK FACTORY
+ *                   writes label and block 1 as Intel HEX, from two images by name, or the answer on standard error
+ *   second hex_in   reads such a text from standard input and writes its 48 bytes, or the answer on standard error
  *   second dump     prints the session's lines and after each the whole state
  *   second tray, second tray_image SLOT, second tray_dump
  *                   do the same with a session of a tray
@@ -887,6 +890,117 @@ static void print_changes(const byte *old, const byte *new)
             printf("%02x %02x %02x\n", (unsigned)at, (unsigned)old[at], (unsigned)new[at]);
 }
 
+/* ---- Intel HEX for the programmer ---- */
+
+enum { EXPORT_TEXT = 144, IMPORT_BYTES = 48, HEX_LIMIT = 65536 };
+
+/* W10.6 and W10.7 */
+static int32_t export_judged(const byte *pack, int32_t pack_size, const byte *factory, int32_t factory_size, int32_t room)
+{
+    static const Gauge none_accepted;
+    if (judged(&none_accepted, 0, 1, pack, pack_size) != 0 || judged(&none_accepted, 0, 1, factory, factory_size) != 0)
+        return 44;
+    return room < EXPORT_TEXT ? 45 : 0;
+}
+
+/* W10.2: hands back where the next line starts. */
+static char *put_hex_line(char *at, int32_t address, int32_t type, const byte *data, int32_t count)
+{
+    int32_t sum = count + address / 256 + address % 256 + type;
+    at += sprintf(at, ":%02X%04X%02X", (unsigned)count, (unsigned)address, (unsigned)type);
+    for (int32_t i = 0; i < count; i++) {
+        sum += data[i];
+        at += sprintf(at, "%02X", (unsigned)data[i]);
+    }
+    return at + sprintf(at, "%02X\n", (unsigned)(-sum & 0xFF));
+}
+
+/* W10.3 to W10.5 */
+static void put_export(char *at, const byte *pack, const byte *factory)
+{
+    const byte *label = pack[59] % 2 == 1 ? pack + 8 : factory + 8;
+    at = put_hex_line(at, 0x20, 0, label, 16);
+    at = put_hex_line(at, 0x60, 0, pack + 24, 16);
+    at = put_hex_line(at, 0x70, 0, pack + 40, 16);
+    put_hex_line(at, 0, 1, NULL, 0);
+}
+
+static int32_t digit_value(byte c)
+{
+    if (c >= '0' && c <= '9')
+        return c - '0';
+    return c >= 'A' && c <= 'F' ? c - 'A' + 10 : -1;
+}
+
+typedef struct {
+    int32_t answer; /* 0, or 40 to 42 */
+    bool end;
+    int32_t place;  /* of the data among the 48 bytes */
+    byte data[16];
+} HexLine;
+
+/* W10.9 to W10.11: a line up to its line feed, or to the end of the text. */
+static HexLine hex_line(const byte *line, int32_t length)
+{
+    HexLine read = {40, false, 0, {0}};
+    byte bytes[260];
+    int32_t pairs = (length - 2) / 2, sum = 0;
+    if (length < 12 || length % 2 != 0 || pairs > 260 || line[0] != ':' || line[length - 1] != '\n')
+        return read;
+    for (int32_t i = 0; i < pairs; i++) {
+        int32_t high = digit_value(line[1 + 2 * i]), low = digit_value(line[2 + 2 * i]);
+        if (high < 0 || low < 0)
+            return read;
+        bytes[i] = (byte)(16 * high + low);
+        sum += bytes[i];
+    }
+    if (pairs != bytes[0] + 5)
+        return read;
+    read.answer = 41;
+    if (sum % 256 != 0)
+        return read;
+    read.answer = 42;
+    int32_t address = 256 * bytes[1] + bytes[2];
+    if (bytes[3] == 1 && address == 0 && bytes[0] == 0) {
+        read.end = true;
+        read.answer = 0;
+    } else if (bytes[3] == 0 && bytes[0] == 16 && (address == 0x20 || address == 0x60 || address == 0x70)) {
+        read.place = address == 0x20 ? 0 : address - 0x50;
+        memcpy(read.data, bytes + 4, 16);
+        read.answer = 0;
+    }
+    return read;
+}
+
+/* W10.8 and W10.12 to W10.15: 0 and the 48 bytes, or the answer. */
+static int32_t import_text(const byte *text, int32_t size, byte *room, int32_t room_size)
+{
+    byte bytes[IMPORT_BYTES] = {0};
+    bool had[3] = {false, false, false}, ended = false, whole = true;
+    for (int32_t at = 0, next; at < size; at = next) {
+        for (next = at; next < size && text[next] != '\n'; next++)
+            ;
+        next += next < size ? 1 : 0;
+        HexLine line = hex_line(text + at, next - at);
+        if (line.answer != 0)
+            return line.answer;
+        if (ended || (!line.end && had[line.place / 16]))
+            whole = false;
+        if (line.end) {
+            ended = true;
+        } else {
+            had[line.place / 16] = true;
+            memcpy(bytes + line.place, line.data, 16);
+        }
+    }
+    if (!whole || !ended || !had[0] || !had[1] || !had[2])
+        return 43;
+    if (room_size < IMPORT_BYTES)
+        return 45;
+    memcpy(room, bytes, IMPORT_BYTES);
+    return 0;
+}
+
 /* ---- Figures to hold ---- */
 
 static int failures;
@@ -1210,6 +1324,41 @@ static int mend(const char *name)
     return 0;
 }
 
+static int hex_out(const char *pack_name, const char *factory_name)
+{
+    static byte pack[IMAGE_BYTES + 1], factory[IMAGE_BYTES + 1]; /* one byte more shows a file that is too long */
+    static char text[EXPORT_TEXT + 1];                           /* and the end that sprintf puts */
+    int32_t pack_size = file_read(pack_name, pack, sizeof pack);
+    int32_t factory_size = file_read(factory_name, factory, sizeof factory);
+    if (pack_size < 0 || factory_size < 0)
+        return 1;
+    int32_t refused = export_judged(pack, pack_size, factory, factory_size, EXPORT_TEXT);
+    if (refused != 0) {
+        fprintf(stderr, "%d: no text is written\n", (int)refused);
+        return 1;
+    }
+    put_export(text, pack, factory);
+    fwrite(text, 1, EXPORT_TEXT, stdout);
+    return 0;
+}
+
+static int hex_in(void)
+{
+    static byte text[HEX_LIMIT + 1], bytes[IMPORT_BYTES]; /* one byte more shows a text that is too long */
+    int32_t size = (int32_t)fread(text, 1, sizeof text, stdin);
+    if (size > HEX_LIMIT) {
+        fprintf(stderr, "hex_in: the text is over 65536 bytes\n");
+        return 1;
+    }
+    int32_t refused = import_text(text, size, bytes, sizeof bytes);
+    if (refused != 0) {
+        fprintf(stderr, "%d: the text is not taken\n", (int)refused);
+        return 1;
+    }
+    fwrite(bytes, 1, sizeof bytes, stdout);
+    return 0;
+}
+
 int main(int count, char **arguments)
 {
     static byte session[SESSION_LIMIT + 1]; /* one byte more shows a session that is too long */
@@ -1222,6 +1371,10 @@ int main(int count, char **arguments)
         return 2;
     if (strcmp(mode, "mend") == 0)
         return count == 3 ? mend(arguments[2]) : 2;
+    if (strcmp(mode, "hex_out") == 0)
+        return count == 4 ? hex_out(arguments[2], arguments[3]) : 2;
+    if (strcmp(mode, "hex_in") == 0)
+        return hex_in();
     int32_t size = (int32_t)fread(session, 1, sizeof session, stdin);
     Subject of = {&gauge, strncmp(mode, "tray", 4) == 0 ? &tray : NULL};
     if (strcmp(mode, "tray_image") == 0)

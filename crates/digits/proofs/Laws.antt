@@ -47,14 +47,15 @@ pub hex-more : (letter : ℕ) (s : List ℕ) (i : ℕ) → i < length s → hexT
 hex-more letter s i h = sym (rw (add-one, take-suc s i 0) (hex-append letter (take i s) (getD s i 0 ∷ [])))
 
 -- the bytes so far stand in hex, and one byte more behind them
-pub hex-then : {at next last : ℕ} {out out′ out″ : List ℕ} (s : List ℕ) (i : ℕ) → i < length s → Writing (2 * i) (hexText lower (take i s)) out at next out′
-    → Writing 2 (pairText lower (getD s i 0)) out′ next last out″ → Writing (2 * (i + 1)) (hexText lower (take (i + 1) s)) out at last out″
-hex-then s i h w v = rw (← hex-more lower s i h) (wider (then w v) (omega arith))
+pub hex-then : (letter : ℕ) {at next last : ℕ} {out out′ out″ : List ℕ} (s : List ℕ) (i : ℕ) → i < length s
+    → Writing (2 * i) (hexText letter (take i s)) out at next out′ → Writing 2 (pairText letter (getD s i 0)) out′ next last out″
+    → Writing (2 * (i + 1)) (hexText letter (take (i + 1) s)) out at last out″
+hex-then letter s i h w v = rw (← hex-more letter s i h) (wider (then w v) (omega arith))
 
 -- none is left
-pub hex-all : {at next : ℕ} {out out′ : List ℕ} (s : List ℕ) (i : ℕ) → length s ≤ i → i ≤ length s → Writing (2 * i) (hexText lower (take i s)) out at next out′
-    → Writing (2 * length s) (hexText lower s) out at next out′
-hex-all s i h k w = wider (rw (take-all i s h) at w) (omega arith)
+pub hex-all : (letter : ℕ) {at next : ℕ} {out out′ : List ℕ} (s : List ℕ) (i : ℕ) → length s ≤ i → i ≤ length s
+    → Writing (2 * i) (hexText letter (take i s)) out at next out′ → Writing (2 * length s) (hexText letter s) out at next out′
+hex-all letter s i h k w = wider (rw (take-all i s h) at w) (omega arith)
 
 -- the bytes up to a place, and behind them those from there on
 pub hex-parts : {at next last : ℕ} {out out′ out″ : List ℕ} (s : List ℕ) (i : ℕ) → i ≤ length s

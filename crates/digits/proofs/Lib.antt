@@ -1,4 +1,5 @@
 pub mod Laws
 pub mod Pairs
 pub mod Meaning
+pub mod Read
 pub mod Unique

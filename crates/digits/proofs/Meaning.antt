@@ -2,12 +2,12 @@
 use mathlib.Core.Path.{_≡_, refl, ap, _∙_}
 use mathlib.Core.Bool.{Bool, true, false}
 use mathlib.Core.List.{List, [], _∷_, _++_}
-use Prim.Native.Nat.{ℕ, _+_, _-_, _*_, _/_, _%_, _≤_, _<_}
+use Prim.Native.Nat.{ℕ, _+_, _-_, _*_, _/_, _%_, _<_}
 use native.Mathlib.Omega.{arith}
-use borrow.Author.Tests.{lt-ltb, le-ltb, ltb-true, ltb-false}
+use borrow.Author.Tests.{ltb-true}
 use lib.Dec.{ltb}
 use Rattle.numbers.specs.Choice.{pick}
-use Rattle.digits.specs.Digits.{digitOf, shownText, placeText, decimalText, hexOf}
+use Rattle.digits.specs.Digits.{digitOf, shownText, placeText, decimalText}
 
 -- the number that decimal digits stand for, behind those that were read
 abbrev pub valueFrom : ℕ → List ℕ → ℕ
@@ -37,19 +37,3 @@ decimal-value n h =
     ∙ shown-value 100 1000 n _ (λ l. omega arith) (omega arith)
     ∙ shown-value 10 100 n _ (λ l. omega arith) (omega arith)
     ∙ last
-
--- the number that a hex digit stands for
-abbrev pub hexValue : ℕ → ℕ → ℕ
-hexValue letter c = pick (ltb c 58) (c - 48) (c + 10 - letter)
-
-pub hex-value : (letter d : ℕ) → 58 ≤ letter → d < 16 → hexValue letter (hexOf letter d) ≡ d
-unfolding hexOf
-hex-value letter d a h = by (ltb d 10) refl
-  where
-    by : (b : Bool) → ltb d 10 ≡ b → hexValue letter (hexOf letter d) ≡ d
-    by true e =
-        let l : 48 + d < 58 = omega (arith, ltb-true d 10 e) in
-        rw (e, lt-ltb (48 + d) 58 l) (omega arith)
-    by false e =
-        let l : 58 ≤ letter - 10 + d = omega (arith, ltb-false d 10 e) in
-        rw (e, le-ltb (letter - 10 + d) 58 l) (omega (arith, ltb-false d 10 e))

@@ -7,6 +7,9 @@ use Rattle.digits.proofs.lower_pairs
 use Rattle.digits.proofs.put_entry
 use Rattle.digits.proofs.hex
 use Rattle.digits.proofs.put_hex
+use Rattle.digits.proofs.put_upper
+use Rattle.digits.proofs.upper_digits
+use Rattle.digits.proofs.upper_byte
 use Rattle.digits.proofs.places
 use Rattle.digits.proofs.count_up
 use Rattle.digits.proofs.put_places
@@ -29,6 +32,15 @@ hex-once κs a r r′ w w′ p h h′ = (h ∙ sym h′, refl)
 
 pub put-hex-once : Once put_hex.ended put_hex.Reads.Pre put_hex.Reads.Learnt
 put-hex-once κs a r r′ w w′ p h h′ = (h .onward ∙ sym (h′ .onward), λ i. (tt, (tt, ((h .written ∙ sym (h′ .written)) i, (tt, tt)))))
+
+pub put-upper-once : Once put_upper.ended put_upper.Reads.Pre put_upper.Reads.Learnt
+put-upper-once κs a r r′ w w′ p h h′ = (h .onward ∙ sym (h′ .onward), λ i. (tt, ((h .written ∙ sym (h′ .written)) i, (tt, tt))))
+
+pub upper-digits-once : Once upper_digits.ended upper_digits.Reads.Pre upper_digits.Reads.Learnt
+upper-digits-once κs a r r′ w w′ p h h′ = (h ∙ sym h′, refl)
+
+pub upper-byte-once : Once upper_byte.ended upper_byte.Reads.Pre upper_byte.Reads.Learnt
+upper-byte-once κs a r r′ w w′ p h h′ = (h ∙ sym h′, refl)
 
 pub places-once : Once places.ended places.Reads.Pre places.Reads.Learnt
 places-once κs a r r′ w w′ p h h′ = (h ∙ sym h′, refl)

@@ -1,10 +1,11 @@
 -- Numbers as bytes of text, in hexadecimal and in decimal, and bytes put at a place of a lent buffer.
 use mathlib.Core.Path.{_≡_}
+use mathlib.Core.Bool.{Bool, true}
 use mathlib.Core.List.{List, [], _∷_, _++_}
 use Prim.Native.Nat.{ℕ, zero, suc, _+_, _-_, _*_, _/_, _%_, _≤_}
-use lib.Dec.{ltb}
+use lib.Dec.{ltb, leb}
 use lib.ListN.{length, getD}
-use Rattle.numbers.specs.Choice.{pick}
+use Rattle.numbers.specs.Choice.{pick, both, either}
 use Rattle.parts.specs.Parts.{put}
 
 -- ---- hexadecimal
@@ -16,6 +17,10 @@ hexOf letter d = pick (ltb d 10) (48 + d) (letter - 10 + d)
 -- the letter `a`
 abbrev pub lower : ℕ
 lower = 97
+
+-- the letter `A`
+abbrev pub upper : ℕ
+upper = 65
 
 -- a byte as two digits
 abbrev pub pairText : ℕ → ℕ → List ℕ
@@ -38,6 +43,31 @@ pairsOf letter = hexText letter (countFrom 0 256)
 -- what it has for the byte b
 abbrev pub entryText : List ℕ → ℕ → List ℕ
 entryText table b = getD table (2 * b) 0 ∷ getD table (2 * b + 1) 0 ∷ []
+
+-- ---- hexadecimal, read
+
+-- whether a byte is a digit, ten being shown as the given letter
+unfoldable pub hexDigit : ℕ → ℕ → Bool
+hexDigit letter c = either (both (leb 48 c) (ltb c 58)) (both (leb letter c) (ltb c (letter + 6)))
+
+-- the number that it stands for; 0 where it is no digit
+unfoldable pub hexValue : ℕ → ℕ → ℕ
+hexValue letter c = pick (hexDigit letter c) (pick (ltb c 58) (c - 48) (c - letter + 10)) 0
+
+-- the byte of two digits
+abbrev pub pairValue : ℕ → ℕ → ℕ → ℕ
+pairValue letter a b = 16 * hexValue letter a + hexValue letter b
+
+-- the bytes of digits, without spaces; one that is left over stands for nothing
+abbrev pub hexBytes : ℕ → List ℕ → List ℕ
+hexBytes letter [] = []
+hexBytes letter (a ∷ []) = []
+hexBytes letter (a ∷ b ∷ cs) = pairValue letter a b ∷ hexBytes letter cs
+
+-- whether all are digits
+abbrev pub hexDigits : ℕ → List ℕ → Bool
+hexDigits letter [] = true
+hexDigits letter (c ∷ cs) = both (hexDigit letter c) (hexDigits letter cs)
 
 -- ---- decimal
 

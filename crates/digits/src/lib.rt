@@ -3,7 +3,7 @@ ghost use mathlib.Core.Path.{_≡_};
 ghost use mathlib.Core.List.{[], _∷_};
 ghost use Prim.Native.Nat.{_+_, _*_, _≤_, _<_};
 ghost use lib.ListN.{length};
-ghost use Rattle.digits.specs.Digits.{hexOf, lower, pairText, hexText, pairsOf, entryText, placesOf, shownText, decimalText, Writing};
+ghost use Rattle.digits.specs.Digits.{hexOf, lower, upper, pairText, hexText, pairsOf, entryText, hexDigit, hexValue, pairValue, hexDigits, placesOf, shownText, decimalText, Writing};
 
 // ---- bytes
 
@@ -97,6 +97,78 @@ pub fn put_hex(table: &[u8; 512], bytes: &[u8], out: &mut [u8], at: usize) -> us
     let eights = bytes.len() / 8 * 8;
     let next = put_many(&bytes[..eights], out, at);
     put_few(table, &bytes[eights..], out, next)
+}
+
+// ---- hexadecimal in upper case
+
+fn upper_hex(d: u8) -> u8
+    requires { ⌜ d < 16 ⌝ }
+    ensures { λ r. ⌜ r ≡ hexOf upper d ⌝ }
+{
+    if d < 10 { b'0' + d } else { b'A' - 10 + d }
+}
+
+fn put_upper_pair(b: u8, out: &mut [u8], at: usize) -> usize
+    requires { ⌜ at + 2 ≤ length (now out) ⌝ }
+    ensures { λ r. ⌜ Writing 2 (pairText upper b) (now (out .entry)) at r (now (out .exit)) ⌝ }
+{
+    let next = put_byte(upper_hex(b / 16), out, at);
+    put_byte(upper_hex(b % 16), out, next)
+}
+
+// Bytes in upper case.
+pub fn put_upper(bytes: &[u8], out: &mut [u8], at: usize) -> usize
+    requires { ⌜ at + 2 * length (now bytes) ≤ length (now out) ⌝ }
+    ensures { λ r. ⌜ Writing (2 * length (now (bytes .entry))) (hexText upper (now (bytes .entry))) (now (out .entry)) at r (now (out .exit)) ⌝ }
+{
+    let mut next = at;
+    let mut i = 0;
+    while i < bytes.len() {
+        next = put_upper_pair(bytes[i], out, next);
+        i += 1;
+    }
+    next
+}
+
+fn upper_digit(c: u8) -> bool
+    ensures { λ r. ⌜ r ≡ hexDigit upper c ⌝ }
+{
+    let number = numbers::and(b'0' <= c, c < b'0' + 10);
+    numbers::or(number, numbers::and(b'A' <= c, c < b'A' + 6))
+}
+
+// Whether all bytes are digits in upper case.
+pub fn upper_digits(text: &[u8]) -> bool
+    ensures { λ r. ⌜ r ≡ hexDigits upper (now (text .entry)) ⌝ }
+{
+    let mut i = 0;
+    while i < text.len() {
+        if !upper_digit(text[i]) {
+            return false;
+        }
+        i += 1;
+    }
+    true
+}
+
+// The number of a digit, 0 where it is none. That it is below 16 is said too, for a pair's byte.
+fn upper_value(c: u8) -> u8
+    ensures { λ r. ⌜ (r ≡ hexValue upper c) × (r < 16) ⌝ }
+{
+    if upper_digit(c) {
+        if c < b'0' + 10 {
+            return c - b'0';
+        }
+        return c - b'A' + 10;
+    }
+    0
+}
+
+// The byte of two digits.
+pub fn upper_byte(a: u8, b: u8) -> u8
+    ensures { λ r. ⌜ r ≡ pairValue upper a b ⌝ }
+{
+    16 * upper_value(a) + upper_value(b)
 }
 
 // ---- decimal

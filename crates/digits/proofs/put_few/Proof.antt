@@ -27,14 +27,14 @@ loop-again c =
     let turn = c .before .before .before .before .before in
     let entry = c .before .before .put-entry .ensures in (
       omega arith,
-      hex-then _ _ (turn .loop-test .taken) (turn .before .loop .inv .1) (rw (turn .before .before .before .before .pre .0, paired _ (entry .1)) at (entry .0)),
+      hex-then lower _ _ (turn .loop-test .taken) (turn .before .loop .inv .1) (rw (turn .before .before .before .before .pre .0, paired _ (entry .1)) at (entry .0)),
     )
 
 same-length : tie.Need-same-length Inv-loop μ-loop
 same-length c = kept (c .before .loop .inv .1)
 
 returns : tie.Need-returns Inv-loop μ-loop
-returns c = hex-all _ _ (c .loop-test .left) (c .before .loop .inv .0) (c .before .loop .inv .1)
+returns c = hex-all lower _ _ (c .loop-test .left) (c .before .loop .inv .0) (c .before .loop .inv .1)
 
 pub put-few-spec : {M : Type 1} → statement M
 put-few-spec =

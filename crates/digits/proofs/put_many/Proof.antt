@@ -25,14 +25,14 @@ loop-again : tie.Need-loop-again Inv-loop μ-loop
 loop-again c =
     let turn = c .before .before .before .before .before in (
       omega arith,
-      hex-then _ _ (turn .loop-test .taken) (turn .before .loop .inv .1) (c .before .before .put-pair .ensures),
+      hex-then lower _ _ (turn .loop-test .taken) (turn .before .loop .inv .1) (c .before .before .put-pair .ensures),
     )
 
 same-length : tie.Need-same-length Inv-loop μ-loop
 same-length c = kept (c .before .loop .inv .1)
 
 returns : tie.Need-returns Inv-loop μ-loop
-returns c = hex-all _ _ (c .loop-test .left) (c .before .loop .inv .0) (c .before .loop .inv .1)
+returns c = hex-all lower _ _ (c .loop-test .left) (c .before .loop .inv .0) (c .before .loop .inv .1)
 
 pub put-many-spec : {M : Type 1} → statement M
 put-many-spec =

@@ -1,0 +1,50 @@
+-- `digits::put_upper` meets its contract. The invariant: the bytes so far stand in hex.
+use Prim.Native.Nat.{_*_, _-_, _≤_}
+use native.Mathlib.Omega.{arith}
+use lib.ListN.{length, take}
+use denote.Ref.{now}
+use Rattle.digits.specs.Digits.{upper, hexText, Writing}
+use Rattle.digits.proofs.Laws.{kept, none, hex-then, hex-all}
+use borrow.Author.Needs.{needs}
+use Rattle.digits.proofs.put_upper.Statement.{statement}
+use Rattle.digits.proofs.put_upper.Tie as tie
+
+abbrev Inv-loop : tie.InvT-loop
+Inv-loop bytes out₀ at next₀ i₀ out next i = (i ≤ length bytes) × Writing (2 * i) (hexText upper (take i bytes)) out₀ at next out
+
+abbrev μ-loop : tie.MeasureT-loop
+μ-loop bytes out₀ at next₀ i₀ out next i = length bytes - i
+
+loop-holds : tie.Need-loop-holds Inv-loop μ-loop
+loop-holds c = (omega arith, none (now (c .before .before .args .out)) (c .before .before .args .at))
+
+put-upper-pair-requires : tie.Need-put-upper-pair-requires Inv-loop μ-loop
+put-upper-pair-requires c κs = omega (arith, kept (c .before .before .before .loop .inv .1), c .before .before .before .loop .inv .1 .within)
+
+loop-again : tie.Need-loop-again Inv-loop μ-loop
+loop-again c =
+    let turn = c .before .before .before .before .before in (
+      omega arith,
+      hex-then upper _ _ (turn .loop-test .taken) (turn .before .loop .inv .1) (c .before .before .put-upper-pair .ensures),
+    )
+
+same-length : tie.Need-same-length Inv-loop μ-loop
+same-length c = kept (c .before .loop .inv .1)
+
+returns : tie.Need-returns Inv-loop μ-loop
+returns c = hex-all upper _ _ (c .loop-test .left) (c .before .loop .inv .0) (c .before .loop .inv .1)
+
+pub put-upper-spec : {M : Type 1} → statement M
+put-upper-spec =
+    tie.close
+    (tie.spec
+    Inv-loop
+    μ-loop
+    loop-holds
+    (λ c. search needs)
+    put-upper-pair-requires
+    (λ c. search needs)
+    (λ c. search needs)
+    loop-again
+    same-length
+    returns)

@@ -1,0 +1,84 @@
+-- What follows of what `write` told, and of files that are too long.
+use mathlib.Core.Path.{_≡_, refl, sym, ap, _∙_}
+use mathlib.Core.Bool.{Bool, true, false}
+use mathlib.Core.List.{List, [], _++_}
+use Prim.Native.Nat.{ℕ, _<_}
+use native.Mathlib.Omega.{arith}
+use borrow.Author.Tests.{ne-eqb}
+use lib.ListN.{length, take, drop}
+use Rattle.numbers.specs.Choice.{both}
+use Rattle.parts.proofs.Laws.{put-front}
+use Rattle.streams.specs.declared.Said.{Said}
+use Rattle.streams.specs.declared.Stream.the-variants.{Output}
+use Rattle.streams.specs.Streams.{Front, Within, Saying, error, refusedText}
+use Rattle.streams.proofs.Laws.{cut, seen}
+use Rattle.events.specs.Image.{imageSize, imageBlock}
+use Rattle.events.specs.Record.{judgedAmong}
+use Rattle.transfer.specs.declared.Why.{Why}
+use Rattle.transfer.specs.declared.Why.the-variants.{Image}
+use Rattle.transfer.specs.declared.Answer.{Answer}
+use Rattle.transfer.specs.declared.Answer.the-variants.{Done, Refused}
+use Rattle.transfer.specs.Export.{whyNumber, acceptedOf, bothAccepted, labelOf, exportText, exportSize, exportAnswer, Exporting}
+use Rattle.transfer.proofs.Texts.{granted, label-sized, block-sized, text-length}
+use Rattle.hex_out.specs.HexOut.{whyWords, hexOutBy, hexOutSpeech}
+
+-- a refusal, by its number and its words
+pub why-said : {why x : Why} {number : ℕ} {room after : List ℕ} {r : Said} → why ≡ x → number ≡ whyNumber why
+    → Saying (error (refusedText number (whyWords x))) room r after → Saying (error (refusedText (whyNumber why) (whyWords why))) room r after
+why-said is told w = rw (← told, is) w
+
+-- ---- what is said of what `write` told, with room for the whole text
+
+module _ {pack factory room after : List ℕ} {answer : Answer} (w : Exporting pack factory room answer after) (size : length room ≡ exportSize) where
+  answered : exportAnswer pack factory exportSize ≡ answer
+  answered = ap (exportAnswer pack factory) (sym size) ∙ sym (w .answer)
+
+  pub text-said : answer ≡ Done → length after ≡ length room → Saying (hexOutSpeech pack factory) room (record { stream = Output; count = length after }) after
+  unfolding hexOutSpeech
+  text-said is kept =
+      let held = granted pack factory exportSize (answered ∙ is) .0 in
+      let text : List ℕ = exportText (labelOf pack factory) (imageBlock pack) in
+      let long : length text ≡ exportSize = text-length (labelOf pack factory) (imageBlock pack) (label-sized pack factory held) (block-sized pack factory held) in
+      let front = put-front room text (omega arith) ∙ ap (λ (n : ℕ). text ++ drop n room) long in
+      rw (answered ∙ is)
+      (record {
+        stream = refl;
+        counted = kept ∙ size ∙ sym long;
+        written = rw (sym (w .answer) ∙ is) at (w .written) ∙ sym front;
+      })
+
+  pub refusal-said : {why : Why} {r : Said} {last : List ℕ} → answer ≡ Refused why → Saying (error (refusedText (whyNumber why) (whyWords why))) after r last
+      → Saying (hexOutSpeech pack factory) room r last
+  unfolding hexOutSpeech
+  refusal-said is said = rw (answered ∙ is) (rw (rw (sym (w .answer) ∙ is) at (w .written)) at said)
+
+-- ---- of a file that is too long the bytes do not matter
+
+long-refused : (image : List ℕ) → imageSize < length image → acceptedOf image ≡ false
+unfolding judgedAmong
+long-refused image long = rw (ne-eqb (length image) imageSize (λ e. omega arith)) refl
+
+refused-by : (pack factory : List ℕ) → bothAccepted pack factory ≡ false → hexOutSpeech pack factory ≡ hexOutBy (Refused Image) [] []
+unfolding hexOutSpeech exportAnswer
+refused-by pack factory e = rw e refl
+
+long-pack : (factory pack : List ℕ) → imageSize < length pack → hexOutSpeech pack factory ≡ hexOutBy (Refused Image) [] []
+unfolding bothAccepted
+long-pack factory pack long = refused-by pack factory (rw (long-refused pack long) refl)
+
+long-factory : (pack factory : List ℕ) → imageSize < length factory → hexOutSpeech pack factory ≡ hexOutBy (Refused Image) [] []
+unfolding bothAccepted
+long-factory pack factory long = refused-by pack factory (rw (long-refused factory long) (last (acceptedOf pack)))
+  where
+    last : (s : Bool) → both s false ≡ false
+    last true = refl
+    last false = refl
+
+-- what is said of what was read is what is said of the two files
+pub both-seen : {pack factory s t : List ℕ} {i j n m : ℕ} → length pack ≡ 61 → length factory ≡ 61 → Within i pack n → Within j factory m
+    → Front s pack i → Front t factory j → hexOutSpeech (take n pack) (take m factory) ≡ hexOutSpeech s t
+both-seen {pack} {factory} {s} {t} {i} {j} {n} {m} one two first second front other =
+    ap (λ (l : List ℕ). hexOutSpeech l (take m factory)) (cut first)
+    ∙ ap (hexOutSpeech (take i pack)) (cut second)
+    ∙ seen (λ l. hexOutSpeech l (take j factory)) (hexOutBy (Refused Image) [] []) imageSize (long-pack (take j factory)) one front
+    ∙ seen (hexOutSpeech s) (hexOutBy (Refused Image) [] []) imageSize (long-factory s) two other

@@ -1,0 +1,86 @@
+// hex_out PACK FACTORY: writes the label and block 1 of a pack as Intel HEX, the label of the factory's image where the pack's block 0 is not locked
+use streams::Input;
+use streams::Said;
+use streams::Stream;
+use transfer::Answer;
+use transfer::Why;
+ghost use mathlib.Core.Path.{_≡_};
+ghost use mathlib.Core.List.{List};
+ghost use Prim.Native.Nat.{ℕ};
+ghost use lib.ListN.{length};
+ghost use Rattle.numbers.specs.Choice.{either};
+ghost use Rattle.streams.specs.Streams.{Front, Saying, error, refusedText};
+ghost use Rattle.transfer.specs.Export.{whyNumber};
+ghost use Rattle.hex_out.specs.HexOut.{whyWords, hexOutOf};
+
+fn put_why(why: Why, room: &mut [u8]) -> Said
+    requires { ⌜ length (now room) ≡ 144 ⌝ }
+    ensures { λ r. ⌜ Saying (error (refusedText (whyNumber why) (whyWords why))) (now (room .entry)) r (now (room .exit)) ⌝ }
+{
+    let number = transfer::number(Answer::Refused(why));
+    match why {
+        Why::Line(_) => streams::put_refused(number, b"the text is refused", room),
+        Why::Whole => streams::put_refused(number, b"the text is refused", room),
+        Why::Image => streams::put_refused(
+            number,
+            b"the image of the pack or of the factory is refused",
+            room,
+        ),
+        Why::Room => streams::put_refused(number, b"the room for the text is too small", room),
+    }
+}
+
+// Of a file that was not read something was said already.
+fn put_export<'a>(unread: bool, pack: &'a [u8], factory: &'a [u8], room: &mut [u8]) -> Said
+    requires { ⌜ length (now room) ≡ 144 ⌝ }
+    ensures { λ r. ⌜ Saying (hexOutOf unread (now (pack .entry)) (now (factory .entry))) (now (room .entry)) r (now (room .exit)) ⌝ }
+{
+    if unread {
+        let stream = Stream::Error;
+        return Said {
+            stream: stream,
+            count: 0,
+        };
+    }
+    let answer = transfer::write(pack, factory, room);
+    match answer {
+        Answer::Done => {
+            let count = room.len();
+            let stream = Stream::Output;
+            Said {
+                stream: stream,
+                count: count,
+            }
+        }
+        Answer::Refused(why) => put_why(why, room),
+    }
+}
+
+// What the program says. A byte more than an image has is enough to know of any file. (That the room keeps its length is said for `main`.)
+fn exported<'a>(
+    pack: &'a [u8; 61],
+    one: Input,
+    factory: &'a [u8; 61],
+    other: Input,
+    room: &mut [u8; 144],
+) -> Said
+    ensures { λ r. ⌜ ((s t : List ℕ) → Front s (now (pack .entry)) (one .count) → Front t (now (factory .entry)) (other .count) → Saying (hexOutOf (either (one .failed) (other .failed)) s t) (now (room .entry)) r (now (room .exit))) ⌝ }
+    ensures { λ _. ⌜ 144 ≡ length (now (room .exit)) ⌝ }
+{
+    let unread = numbers::or(one.failed, other.failed);
+    let n = streams::within(one.count, pack);
+    let m = streams::within(other.count, factory);
+    let all: &[u8] = pack;
+    let bytes: &[u8] = factory;
+    put_export(unread, &all[..n], &bytes[..m], room)
+}
+
+fn main() {
+    let mut pack = [0u8; 61];
+    let one = streams::read_named(b"hex_out", 1, &mut pack);
+    let mut factory = [0u8; 61];
+    let other = streams::read_named(b"hex_out", 2, &mut factory);
+    let mut room = [0u8; 144];
+    let said = exported(&pack, one, &factory, other, &mut room);
+    streams::say(b"hex_out", said, &room);
+}
