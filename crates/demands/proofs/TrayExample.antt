@@ -165,7 +165,7 @@ pub slot-powers-on : SlotPowersOn 1 (call longer) (packOf (call slot-on .ran .st
 unfolding recOf sizeOf wholeOf
 slot-powers-on = record { longer = call slot-on; run = call-within slot-on (omega arith); room = refl; last = refl; leaves = refl }
 
--- A slot's event changes its own pack, and a transaction that every pack hears changes more than one: so neither is said of them
+-- A slot's event changes its own pack, and a transaction that every pack hears leaves both with the same label
 
 abbrev two-packs : Tray
 two-packs = call (opened []) .ran .state
@@ -180,7 +180,7 @@ unfolding recOf sizeOf wholeOf trayDid trayKindOf searchOf judgedAmong addressed
     askedOf askedAt romBy commandOf actOf selectedOf ranOf writtenOf labelWrittenOf laidOf inLabel
 skip-changes = refl
 
--- what the first of the two sessions that are mixed differently prints: both labels read alike, and the reply is the AND of both
+-- what the first of the two sessions that are mixed differently prints: the label of slot 0 is 00 00 after its power-on and that of slot 1 5A A5, and the reply is the AND of both
 abbrev line : ℕ → ℕ → List ℕ → Line
 line kind answer reply = record { kind = kind; answer = answer; reply = reply }
 

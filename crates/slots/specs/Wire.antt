@@ -3,7 +3,7 @@ use mathlib.Core.List.{List, [], _∷_}
 use Prim.Native.Nat.{ℕ}
 use lib.Bits.{bitAnd}
 
--- the bitwise AND of two replies, byte by byte; what one has more is left as it is
+-- the bitwise AND of two replies, byte by byte, as long as the first
 abbrev pub andBytes : List ℕ → List ℕ → List ℕ
 andBytes [] bs = []
 andBytes (a ∷ rest) [] = a ∷ rest

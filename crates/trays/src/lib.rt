@@ -26,7 +26,7 @@ pub struct Ran {
     pub replied: usize,
 }
 
-// The match on the event stands in the loop itself, where a slot's parts are taken out and stored back, so that no tray goes through a result.
+// The match on the event stands in the loop itself, where a slot's parts are taken out and stored back, so that no tray goes through a result but that of a transaction.
 fn run_all(s: &[u8], room: &mut [u8], answers: &mut [u64]) -> Ran
     requires { ⌜ length (now s) ≤ 32768 ⌝ }
     requires { ⌜ (length (now s) + 3) / 4 ≤ length (now answers) ⌝ }
