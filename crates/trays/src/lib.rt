@@ -67,7 +67,6 @@ fn run_all(s: &[u8], room: &mut [u8], answers: &mut [u64]) -> Ran
                     tray.count = tray.count + 1;
                 }
                 Event::Change(c) => {
-                    tray.closed = true;
                     match c {
                         Change::Reading(volt, temp) => {
                             let m = tray.meters[slot];
@@ -93,6 +92,7 @@ fn run_all(s: &[u8], room: &mut [u8], answers: &mut [u64]) -> Ran
                             tray.meters[slot] = next;
                         }
                     }
+                    tray.closed = true;
                 }
                 Event::Transact(t) => {
                     let from = 4 + t.start as usize;
