@@ -7,23 +7,27 @@ A scene is a function that adds records to a session; a profile is one that make
 
 SESSION_LIMIT = 32768
 REPLY_ROOM = 65536
-IMAGE, READING, CONVERSION, TRANSACTION, POWER_ON, SAMPLE = 1, 2, 3, 4, 5, 6
+IMAGE, READING, CONVERSION, TRANSACTION, POWER_ON, SAMPLE, LONG_TRANSACTION = 1, 2, 3, 4, 5, 6, 7
 READ, WRITE, COPY, RECALL, LOCK = 0x69, 0x6C, 0x48, 0xB8, 0x6A
 
 # How many bytes a payload of each kind has, at least and at most.
-SIZES = {IMAGE: (60, 60), READING: (8, 8), CONVERSION: (4, 4), TRANSACTION: (1, 65), POWER_ON: (0, 0), SAMPLE: (6, 6)}
+SIZES = {IMAGE: (60, 60), READING: (8, 8), CONVERSION: (4, 4), TRANSACTION: (1, 65), POWER_ON: (0, 0), SAMPLE: (6, 6), LONG_TRANSACTION: (2, 258)}
+
+# Of the two kinds of transaction: how many bytes the read count has, and how many may be read, or sent by the master.
+COUNT_SIZE = {TRANSACTION: 1, LONG_TRANSACTION: 2}
+MOST = {TRANSACTION: 64, LONG_TRANSACTION: 256}
 
 # Kinds that are meant as unknown. A request that gives a number a meaning takes it out of here, and nowhere else.
-UNKNOWN = [0, 7, 8, 9, 18, 19, 20, 21, 22, 99, 0x0100, 0x0101, 0x0501, 0xFFFF]
+UNKNOWN = [0, 8, 9, 18, 19, 20, 21, 22, 99, 0x0100, 0x0101, 0x0501, 0xFFFF]
 
 # In trays these come behind a slot byte, and have other numbers.
 SLOTS = 8
 SLOT_KINDS = {READING: 18, CONVERSION: 19, POWER_ON: 21, SAMPLE: 22}
-TRAY_SIZES = {IMAGE: SIZES[IMAGE], TRANSACTION: SIZES[TRANSACTION],
+TRAY_SIZES = {IMAGE: SIZES[IMAGE], TRANSACTION: SIZES[TRANSACTION], LONG_TRANSACTION: SIZES[LONG_TRANSACTION],
               **{there: tuple(size + 1 for size in SIZES[kind]) for kind, there in SLOT_KINDS.items()}}
 
 # The same for trays: kinds that are meant as unknown there.
-TRAY_UNKNOWN = [0, 2, 3, 5, 6, 7, 8, 9, 17, 20, 23, 34, 99, 0x0100, 0x0112, 0x1200, 0x1600, 0xFFFF]
+TRAY_UNKNOWN = [0, 2, 3, 5, 6, 8, 9, 17, 20, 23, 34, 99, 0x0100, 0x0112, 0x1200, 0x1600, 0xFFFF]
 
 # Table 3 of the DS2781 sheet.
 CONTROL, AB, AC, VCHG, IMIN, VAE, IAE, EMPTY_40 = 0x60, 0x61, 0x62, 0x64, 0x65, 0x66, 0x67, 0x68
@@ -131,19 +135,19 @@ class Session:
         """A sample whose c is the one wanted."""
         self.sample(c - signed(self.parameter(COB)), ticks)
 
-    def transaction(self, count, master=b""):
-        self.add(TRANSACTION, bytes([count]) + bytes(master))
-        if count <= 64 and count <= self.room:
+    def transaction(self, count, master=b"", kind=TRANSACTION):
+        self.add(kind, little(count, COUNT_SIZE[kind]) + bytes(master))
+        if count <= MOST[kind] and count <= self.room:
             self.room -= count
 
     def select(self):
         return b"\xCC" if self.chance.random() < 0.8 else b"\x55" + self.address
 
-    def read(self, address, count):
-        self.transaction(count, self.select() + bytes([READ, address]))
+    def read(self, address, count, kind=TRANSACTION):
+        self.transaction(count, self.select() + bytes([READ, address]), kind)
 
-    def write(self, address, data):
-        self.transaction(0, self.select() + bytes([WRITE, address]) + bytes(data))
+    def write(self, address, data, kind=TRANSACTION):
+        self.transaction(0, self.select() + bytes([WRITE, address]) + bytes(data), kind)
 
     def command(self, command, address):
         self.transaction(0, self.select() + bytes([command, address]))

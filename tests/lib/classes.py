@@ -1,6 +1,8 @@
 """The three classes of document 01, worked out from its words and not from the crates, and sessions that are mixed anew by them."""
 LABEL, GAUGE, FENCE = "label", "gauge", "fence"
-MOST = 64  # that a transaction may read
+COUNT_SIZE = {4: 1, 7: 2}  # of the two kinds of transaction: the bytes of the read count
+MOST = {4: 64, 7: 256}  # that may be read
+SIZES = {kind: range(COUNT_SIZE[kind], COUNT_SIZE[kind] + MOST[kind] + 1) for kind in MOST}  # of the payload
 
 
 def records(session):
@@ -19,18 +21,22 @@ def kind_of(record):
     return int.from_bytes(record[2:4], "little") if whole else None
 
 
-def touched(addresses, payload):
+def asked(kind, payload):
+    """The read count of a transaction of its size, and the bytes of the master."""
+    return int.from_bytes(payload[:COUNT_SIZE[kind]], "little"), payload[COUNT_SIZE[kind]:]
+
+
+def touched(addresses, count, master):
     """What a transaction touches in the packs with these addresses, and whether it is a lock."""
-    count, master = payload[0], payload[1:]
     if master[:1] == b"\xcc":
-        asked = master[1:]
+        function = master[1:]
     elif master[:1] == b"\x55" and master[1:9] in addresses:
-        asked = master[9:]
+        function = master[9:]
     else:
         return [], False
-    if len(asked) < 2:
+    if len(function) < 2:
         return [], False
-    command, first, data = asked[0], asked[1], asked[2:]
+    command, first, data = function[0], function[1], function[2:]
     if command == 0x69:
         return list(range(first, min(first + count, 0x100))), False
     if command == 0x6C:
@@ -41,11 +47,12 @@ def touched(addresses, payload):
     return [], False
 
 
-def transaction_class(addresses, payload):
+def transaction_class(addresses, kind, payload):
     """The class of a transaction of its size after the images with these addresses."""
-    if payload[0] > MOST:
+    count, master = asked(kind, payload)
+    if count > MOST[kind]:
         return GAUGE  # 8
-    places, lock = touched(addresses, payload)
+    places, lock = touched(addresses, count, master)
     inside = [0x20 <= place <= 0x2F for place in places]
     if any(inside):
         return LABEL if all(inside) and not lock else FENCE
@@ -54,8 +61,9 @@ def transaction_class(addresses, payload):
 
 def asks(record):
     """How many bytes of reply room a record takes at most."""
-    kind, payload = record[2:4], record[4:]
-    return payload[0] if kind == b"\x04\x00" and 1 <= len(payload) <= 65 and payload[0] <= MOST else 0
+    kind, payload = kind_of(record), record[4:]
+    count = asked(kind, payload)[0] if kind in MOST and len(payload) in SIZES[kind] else 0
+    return count if count <= MOST.get(kind, 0) else 0
 
 
 def mixed(classes, chance):

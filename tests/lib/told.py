@@ -7,6 +7,7 @@
 - `AEF and SEF are set`, `LEARNF is cleared`: flags. `at -5 °C`: the nearest degree.
 - "0417" in double quotes: the reply as ASCII.
 - `Records 9 and 11 have the bytes of records 2 and 3`, or `the currents` of them. `tick 24`: that of a sample.
+- `Record 8 replies what records 4 to 7 reply`: their replies one after the other are its own.
 - A row `| 1, 3 | 5 | why |` of a table: the answers of records; every refusal of the story has one. `Answer 1 is missing here`.
 - `slot 5` or `slots 0 to 4`, in a tray: what follows is claimed of each of these packs, until others are named; before that, of slot 0.
 
@@ -31,6 +32,7 @@ LIST = r"\d+(?:(?:, | and | to )\d+)*"
 FLAG = rf"(?:{'|'.join([*FLAGS, 'LOCK', 'BL0', 'BL1'])})"
 FORMS = re.compile("|".join([
     rf"[Rr]ecords? (?P<like>{LIST}) have the (?P<part>bytes|currents) of records (?P<model>{LIST})",
+    rf"[Rr]ecord (?P<joined>\d+)\** replies what records (?P<parts>{LIST}) reply",
     rf"tick (?P<tick>{DECIMAL})",
     rf"slots? (?P<slots>{LIST})",
     rf"[Aa]nswers? (?P<absent>{LIST}) (?:is|are) missing here",
@@ -133,6 +135,9 @@ class Story:
             part = slice(4, 8) if found["part"] == "currents" else slice(None)
             for one, other in zip(numbers(found["like"]), numbers(found["model"]), strict=True):
                 same(f"record {one}", self.bytes[one][part].hex(), self.bytes[other][part].hex())
+        elif found["joined"]:
+            self.quoted()
+            self.named, self.quotes = [int(found["joined"])], ["".join(self.lines[number][3] for number in numbers(found["parts"]))]
         elif found["slots"]:
             self.slots = numbers(found["slots"])
         elif found["tick"]:

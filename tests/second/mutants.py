@@ -4,7 +4,8 @@ those of MEND of damaged images (tests/cases/mend), and those of HEX of Intel HE
 
 A mutant is a label (the rule's row first), then pairs of a text that stands once in second.c and the text put in its
 place. They show that the comparison can fail. SLIPS are the paper's "Likely slips", RULES go through its rules in order,
-SAMPLES through those of samples, OFFSETS through those of the offset conversion, LATCHED take a parameter or a result at
+SAMPLES through those of samples, OFFSETS through those of the offset conversion, LONGER through those of longer
+transactions, LONGER_TRAYS the same in trays, LATCHED take a parameter or a result at
 another moment than the one at which a rule is worked out.
 """
 
@@ -19,6 +20,9 @@ SLIPS = [
     ("L6-lock-stops-the-save", "if (g->had_reading && g->rarc / 4", "if (!g->bl1 && g->had_reading && g->rarc / 4"),
 ]
 
+ASKED = "read_count(kind, payload)"
+TOO_MANY = "    if (is_transaction(kind) && read_count(kind, payload) > read_limit(kind))\n        return 8;\n"
+
 RULES = [
     # The session and its answers.
     ("S1-limit-one-less", "if (size > SESSION_LIMIT)", "if (size >= SESSION_LIMIT)"),
@@ -32,7 +36,7 @@ RULES = [
     ("A3-last-bytes-overlooked", "for (int32_t number = 1; at < size; number++) {",
      "for (int32_t number = 1; at + 3 < size; number++) {"),
     ("A4-payload-past-end", "size - at - 4 < little_endian_16(header)", "size - at - 3 < little_endian_16(header)"),
-    ("A5-one-kind-more", "if (kind < 1 || kind > 6)", "if (kind < 1 || kind > 7)"),
+    ("A5-one-kind-more", "if (kind < 1 || kind > 7)", "if (kind < 1 || kind > 8)"),
     ("A5-kind-one-byte", "kind = little_endian_16(header + 2);", "kind = header[2];"),
     ("A6-66-bytes", "1 <= length && length <= 65", "1 <= length && length <= 66"),
     ("A6-64-bytes", "1 <= length && length <= 65", "1 <= length && length <= 64"),
@@ -42,18 +46,16 @@ RULES = [
     ("A9-any-family", "payload[0] != 0x3D || ", ""),
     ("A10-crc-not-checked", "(payload[0] != 0x3D || payload[7] != crc(payload, 7))", "payload[0] != 0x3D"),
     ("A11-lock-byte-four", "payload[59] > 3", "payload[59] > 4"),
-    ("A12-read-count-65", "enum { SESSION_LIMIT = 32768, REPLY_ROOM = 65536, IMAGE_BYTES = 60, READ_LIMIT = 64 };",
-     "enum { SESSION_LIMIT = 32768, REPLY_ROOM = 65536, IMAGE_BYTES = 60, READ_LIMIT = 65 };"),
-    ("A12-read-count-63", "payload[0] > READ_LIMIT", "payload[0] >= READ_LIMIT"),
-    ("A13-full-room-refused", "payload[0] > room_left", "payload[0] >= room_left"),
-    ("A13-room-one-more", "payload[0] > room_left", "payload[0] > room_left + 1"),
-    ("A13-refuses-below-64", "    if (kind == 4 && payload[0] > room_left)", "    if (room_left < 64 && kind == 4)"),
+    ("A12-read-count-65", " READ_LIMIT = 64, LONG", " READ_LIMIT = 65, LONG"),
+    ("A12-read-count-63", " READ_LIMIT = 64, LONG", " READ_LIMIT = 63, LONG"),
+    ("A13-full-room-refused", ASKED + " > room_left", ASKED + " >= room_left"),
+    ("A13-room-one-more", ASKED + " > room_left", ASKED + " > room_left + 1"),
+    ("A13-refuses-below-64", ASKED + " > room_left", "room_left < 64"),
     ("A15-five-before-four",
      "    if (!length_fits(kind, length))\n        return 4;\n    if ((kind == 1) == g->accepted)\n        return 5;",
      "    if ((kind == 1) == g->accepted)\n        return 5;\n    if (!length_fits(kind, length))\n        return 4;"),
     ("A15-eight-before-five", "    if (!length_fits(kind, length))\n        return 4;",
-     "    if (!length_fits(kind, length))\n        return 4;\n    if (kind == 4 && payload[0] > READ_LIMIT)\n"
-     "        return 8;"),
+     "    if (!length_fits(kind, length))\n        return 4;\n" + TOO_MANY),
     ("A15-seven-before-six", "    if ((kind == 1) == g->accepted)\n        return 5;",
      "    if ((kind == 1) == g->accepted)\n        return 5;\n    if (kind == 1 && payload[59] > 3)\n        return 7;"),
     ("A17-refusal-uses-room", "room_left -= replied;", "room_left -= answer == 8 ? 1 : replied;"),
@@ -93,9 +95,8 @@ RULES = [
      "command == 0x48 && !*locked &&\n        (first == 0x20 || signed_parameter(g, TBP23) <= signed_parameter(g, TBP34)))"),
     ("W3.6-crossed-not-recalled", "command == 0xB8)",
      "command == 0xB8 && (first == 0x20 || signed_byte(g->eeprom[TBP23]) <= signed_byte(g->eeprom[TBP34])))"),
-    ("W3.7-power-on-refused", "    if (kind == 4 && payload[0] > READ_LIMIT)\n        return 8;\n",
-     "    if (kind == 5 && signed_byte(g->eeprom[TBP23]) > signed_byte(g->eeprom[TBP34]))\n        return 10;\n"
-     "    if (kind == 4 && payload[0] > READ_LIMIT)\n        return 8;\n"),
+    ("W3.7-power-on-refused", TOO_MANY,
+     "    if (kind == 5 && signed_byte(g->eeprom[TBP23]) > signed_byte(g->eeprom[TBP34]))\n        return 10;\n" + TOO_MANY),
     # Power-on.
     ("P2-shadow-kept", "    memcpy(g->shadow, g->eeprom, sizeof g->shadow);\n",
      "    if (!g->porf)\n        memcpy(g->shadow, g->eeprom, sizeof g->shadow);\n"),
@@ -366,7 +367,7 @@ SAMPLES = [
     ("W5.1-tick-of-one-byte", "return little_endian_16(payload + 4);", "return payload[4];"),
     ("W5.1-current-of-sixteen-bits", "sample(g, little_endian_signed_32(payload), tick_of(payload));",
      "sample(g, (int16_t)little_endian_signed_32(payload), tick_of(payload));"),
-    ("W5.2-no-kind", "if (kind < 1 || kind > 6)", "if (kind < 1 || kind > 5)"),
+    ("W5.2-no-kind", "if (kind < 1 || kind > 7)", "if (kind < 1 || kind == 6 || kind > 7)"),
     ("W5.2-longer", "return length == SAMPLE_BYTES;", "return length >= SAMPLE_BYTES;"),
     ("W5.2-a-byte-less", "return length == SAMPLE_BYTES;", "return length == SAMPLE_BYTES || length == SAMPLE_BYTES - 1;"),
     ("W5.2-before-an-image", "if ((kind == 1) == g->accepted)", "if (kind != 6 && (kind == 1) == g->accepted)"),
@@ -589,6 +590,63 @@ OFFSETS = [
     ("W7.12-a-write-without-room-sets-the-mark", JUDGED, JUDGED + "        if (answer == 9)\n            " + MARK),
 ]
 
+FORM = "case 7: transaction(g, payload + ahead, length - ahead, reply, read_count(kind, payload)); return read_count(kind, payload);"
+COUNT_OF = "return kind == 4 ? payload[0] : little_endian_16(payload);"
+AHEAD = "return kind == 4 ? 1 : 2;"
+LIMITS = "return kind == 4 ? READ_LIMIT : LONG_READ_LIMIT;"
+LONG_SIZES = "return 2 <= length && length <= 258;"
+THE_KIND = "/* ---- Bus bytes ---- */", "static int32_t the_kind = 4;", "    int32_t ahead = count_size(kind);\n", \
+    "    int32_t ahead = count_size(kind);\n    the_kind = kind;\n"
+
+LONGER = [
+    ("W11.1-count-high-byte-first", COUNT_OF, "return kind == 4 ? payload[0] : 256 * payload[0] + payload[1];"),
+    ("W11.1-low-byte-of-the-count", COUNT_OF, "return payload[0];"),
+    ("W11.1-count-of-one-byte", COUNT_OF, "return payload[0];", AHEAD, "return kind > 0 ? 1 : 2;"),
+    ("W11.1-count-behind-a-byte", COUNT_OF, "return kind == 4 ? payload[0] : payload[1];"),
+    ("W11.1-64-bytes-of-the-master", FORM,
+     FORM.replace("length - ahead", "length - ahead > 64 ? 64 : length - ahead")),
+    ("W11.1-130-bytes-of-the-master", FORM,
+     FORM.replace("length - ahead", "length - ahead > 130 ? 130 : length - ahead")),
+    ("W11.1-reads-64-at-most", *THE_KIND, "        for (int32_t i = 0; i < count; i++)\n            reply[i] = (byte)read",
+     "        for (int32_t i = 0; i < count && i < 64; i++)\n            reply[i] = (byte)read"),
+    ("W11.1-read-goes-round", "read_at(g, address + i);", "read_at(g, count > 64 ? (address + i) & 0xFF : address + i);"),
+    ("W11.1-write-goes-round", "i < count && address + i <= 0xFF; i++) {\n        int32_t at = address + i,",
+     "i < count && (count > 62 || address + i <= 0xFF); i++) {\n        int32_t at = (address + i) & 0xFF,"),
+    ("W11.1-writes-127-at-most", "i < count && address + i <= 0xFF;", "i < count && i < 127 && address + i <= 0xFF;"),
+    ("W11.1-write-stops-at-30h", "i < count && address + i <= 0xFF;", "i < count && !(count > 62 && address + i == 0x30) && address + i <= 0xFF;"),
+    ("W11.2-no-kind", "if (kind < 1 || kind > 7)", "if (kind < 1 || kind > 6)"),
+    ("W11.2-259-bytes", LONG_SIZES, LONG_SIZES.replace("258", "259")),
+    ("W11.2-257-bytes", LONG_SIZES, LONG_SIZES.replace("258", "257")),
+    ("W11.2-256-bytes", LONG_SIZES, LONG_SIZES.replace("258", "256")),
+    ("W11.2-66-bytes", LONG_SIZES, LONG_SIZES.replace("258", "66")),
+    ("W11.2-half-a-count", LONG_SIZES, LONG_SIZES.replace("2 <= length", "1 <= length")),
+    ("W11.2-no-count", LONG_SIZES, "return length <= 258;"),
+    ("W11.2-a-master-byte-asked", LONG_SIZES, LONG_SIZES.replace("2 <= length", "3 <= length")),
+    ("W11.2-before-an-image", "if ((kind == 1) == g->accepted)", "if (kind != 7 && (kind == 1) == g->accepted)"),
+    ("W11.2-five-after-eight", "    if ((kind == 1) == g->accepted)\n", TOO_MANY + "    if ((kind == 1) == g->accepted)\n"),
+    ("W11.2-no-room-asked", "if (is_transaction(kind) && read_count(kind, payload) > room_left)", "if (kind == 4 && payload[0] > room_left)"),
+    ("W11.2-room-by-the-low-byte", ASKED + " > room_left", ASKED + " % 256 > room_left"),
+    ("W11.3-257-allowed", LIMITS, "return kind == 4 ? READ_LIMIT : 257;", "byte reply[LONG_READ_LIMIT];", "byte reply[512];"),
+    ("W11.3-256-refused", LIMITS, "return kind == 4 ? READ_LIMIT : 255;"),
+    ("W11.3-64-as-for-kind-4", LIMITS, "return kind == 4 ? READ_LIMIT : READ_LIMIT;"),
+    ("W11.3-kind-4-up-to-256", LIMITS, "return LONG_READ_LIMIT + 0 * kind;"),
+    ("W11.3-by-the-low-byte", "read_count(kind, payload) > read_limit(kind))", "read_count(kind, payload) % 256 > read_limit(kind))",
+     "byte reply[LONG_READ_LIMIT];", "byte reply[65536];"),
+    ("W11.3-nine-before-eight", TOO_MANY, "    if (is_transaction(kind) && read_count(kind, payload) > room_left)\n        return 9;\n" + TOO_MANY),
+    ("W11.4-kind-4-up-to-258-bytes", "1 <= length && length <= 65", "1 <= length && length <= 258"),
+    ("W11.4-kind-4-count-of-two-bytes", AHEAD, "return kind == 4 || kind == 7 ? 2 : 0;"),
+    ("W11.6-longer-sessions", "if (size > SESSION_LIMIT)", "if (size > SESSION_LIMIT + 256)", "session[SESSION_LIMIT + 1];", "session[SESSION_LIMIT + 257];"),
+    ("W11.7-reads-and-writes-alone", *THE_KIND, "    if (!in_block_0(address) && !in_block_1(address))\n        return;",
+     "    if (the_kind == 7 || (!in_block_0(address) && !in_block_1(address)))\n        return;"),
+    ("W11.7-no-net-address", *THE_KIND, "if (masters >= 1 && master[0] == net_address_command) {",
+     "if (the_kind == 4 && masters >= 1 && master[0] == net_address_command) {"),
+    ("W11.7-no-mark", *THE_KIND, "            g->acr_written = true;\n", "            g->acr_written = g->acr_written || the_kind == 4;\n"),
+    ("W11.7-no-porf", *THE_KIND, "if (at == 0x01 && (value & 0x02) == 0)", "if (at == 0x01 && (value & 0x02) == 0 && the_kind == 4)"),
+    ("W11.7-label-alone", *THE_KIND, "(in_block_1(at) && !g->bl1)", "(in_block_1(at) && !g->bl1 && the_kind == 4)"),
+    ("W11.7-replies-256-bytes", FORM, FORM.replace("return read_count", "return kind == 7 && read_count(kind, payload) > 0 ? 256 : read_count")),
+    ("W11.7-uses-256-of-the-room", "room_left -= replied;", "room_left -= kind == 7 && replied > 0 && room_left >= 256 ? 256 : replied;"),
+]
+
 LATCHED = [
     ("B30-vchg-of-the-reading",
      "if (!g->read_since_average || g->voltage < g->lowest_voltage)\n        g->lowest_voltage = g->voltage;",
@@ -717,10 +775,10 @@ TRAYS = [
     ("W8.3-read-count-above-64-closes", TRAY_JUDGED, TRAY_JUDGED + "    t->closed |= answer == 8;\n"),
     ("W8.3-refused-image-closes", TRAY_JUDGED, TRAY_REFUSED + "t->closed |= kind == 1;\n"),
     ("W8.3-nobody-does-not-close", OPEN,
-     "    t->closed |= kind != 4 || (length > 1 && (payload[1] == 0xCC || payload[1] == 0x33 || payload[1] == 0x39)) ||\n"
+     "    t->closed |= !is_transaction(kind) || kind == 7 || (length > 1 && (payload[1] == 0xCC || payload[1] == 0x33 || payload[1] == 0x39)) ||\n"
      "                 (length > 9 && slot_with(t, payload + 2) >= 0);\n"),
-    ("W8.3-transactions-do-not-close", OPEN, "    t->closed |= kind != 4;\n"),
-    ("W8.3-slot-events-do-not-close", OPEN, "    t->closed |= kind == 4;\n"),
+    ("W8.3-transactions-do-not-close", OPEN, "    t->closed |= !is_transaction(kind);\n"),
+    ("W8.3-slot-events-do-not-close", OPEN, "    t->closed |= is_transaction(kind);\n"),
     ("W8.3-power-on-does-not-close", OPEN, "    t->closed |= kind != 21;\n"),
     ("W8.3-never-closed", OPEN, ""),
     ("W8.4-hexadecimal-kinds", KINDS, "kind == 0x18 || kind == 0x19 || kind == 0x21 || kind == 0x22"),
@@ -743,15 +801,15 @@ TRAYS = [
      "        room_left -= of.tray != NULL && kind == 4 && header[5] == 0xCC ? of.tray->count * replied : replied;\n"),
     ("W8.5-a-room-for-each-match", "        room_left -= replied;\n",
      "        room_left -= of.tray != NULL && kind == 4 && length > 1 && header[5] == 0x55 ? 0 : replied;\n"),
-    ("W8.6-plain-reading-of-slot-0", "if (kind != 1 && kind != 4 && !has_slot(kind))",
-     "if (kind == 2 && length == 8 && t->count > 0)\n        return 0;\n    if (kind != 1 && kind != 4 && !has_slot(kind))",
+    ("W8.6-plain-reading-of-slot-0", "if (kind != 1 && !is_transaction(kind) && !has_slot(kind))",
+     "if (kind == 2 && length == 8 && t->count > 0)\n        return 0;\n    if (kind != 1 && !is_transaction(kind) && !has_slot(kind))",
      SLOT_EVENT, "    if (kind == 2)\n        return event(&t->packs[0], kind, payload, length, reply);\n" + SLOT_EVENT),
-    ("W8.6-plain-sample-is-4", "if (kind != 1 && kind != 4 && !has_slot(kind))",
-     "if (kind == 6)\n        return 4;\n    if (kind != 1 && kind != 4 && !has_slot(kind))"),
-    ("W8.6-twenty-is-a-transaction", "if (kind != 1 && kind != 4 && !has_slot(kind))",
-     "if (kind == 20)\n        return 4;\n    if (kind != 1 && kind != 4 && !has_slot(kind))"),
-    ("W8.6-low-byte-of-the-kind", "    if (kind != 1 && kind != 4 && !has_slot(kind))",
-     "    kind %= 256;\n    if (kind != 1 && kind != 4 && !has_slot(kind))"),
+    ("W8.6-plain-sample-is-4", "if (kind != 1 && !is_transaction(kind) && !has_slot(kind))",
+     "if (kind == 6)\n        return 4;\n    if (kind != 1 && !is_transaction(kind) && !has_slot(kind))"),
+    ("W8.6-twenty-is-a-transaction", "if (kind != 1 && !is_transaction(kind) && !has_slot(kind))",
+     "if (kind == 20)\n        return 4;\n    if (kind != 1 && !is_transaction(kind) && !has_slot(kind))"),
+    ("W8.6-low-byte-of-the-kind", "    if (kind != 1 && !is_transaction(kind) && !has_slot(kind))",
+     "    kind %= 256;\n    if (kind != 1 && !is_transaction(kind) && !has_slot(kind))"),
     ("W8.7-power-on-without-a-slot", "return length >= 1 && length_fits(kind - SLOT_KINDS, length - 1);",
      "return (kind == 21 && length == 0) || (length >= 1 && length_fits(kind - SLOT_KINDS, length - 1));"),
     ("W8.7-lengths-without-the-slot", "return length >= 1 && length_fits(kind - SLOT_KINDS, length - 1);",
@@ -771,7 +829,7 @@ TRAYS = [
     ("W8.8-missing-slot-is-done", MISSING, MISSING.replace("return 5", "return 0"), SLOT_EVENT,
      "    if (payload[0] >= t->count)\n        return 0;\n" + SLOT_EVENT),
     ("W8.8-transaction-before-an-image", "    if (t->count == 0)\n        return 5;\n",
-     "    if (t->count == 0)\n        return kind == 4 ? 0 : 5;\n"),
+     "    if (t->count == 0)\n        return is_transaction(kind) ? 0 : 5;\n"),
     ("W8.9-ninth-image", "enum { SLOTS = 8,", "enum { SLOTS = 9,"),
     ("W8.9-seven-slots", "enum { SLOTS = 8,", "enum { SLOTS = 7,"),
     ("W8.9-image-after-the-opening", "    if (t->closed)\n        return 5;\n", ""),
@@ -793,7 +851,7 @@ TRAYS = [
      "    if (has_slot(kind) && length > 0 && payload[0] >= t->count)\n        return 5;\n"
      "    if (!tray_length_fits(kind, length))\n        return 4;\n"),
     ("W8.11-eight-before-five", "    if (t->count == 0)\n        return 5;\n",
-     "    if (kind == 4 && payload[0] > READ_LIMIT)\n        return 8;\n    if (t->count == 0)\n        return 5;\n"),
+     TOO_MANY + "    if (t->count == 0)\n        return 5;\n"),
     ("W8.12-repeated-image-is-put-in-place", TRAY_JUDGED,
      TRAY_JUDGED + "    if (answer == 12)\n        accept_image(&t->packs[slot_with(t, payload)], payload);\n"),
     ("W8.12-late-sample-forgets-the-tick", TRAY_JUDGED,
@@ -803,21 +861,21 @@ TRAYS = [
      "power_on(&t->packs[0]);\n"),
     ("W8.13-the-search-goes-on", EACH_SLOT + SEARCHED,
      "    int32_t found = -1;\n" + EACH_SLOT + "        found = memcmp(t->packs[slot].address, address, 8) == 0 ? slot : -1;\n    return found;"),
-    ("W8.13-matched-goes-to-all", MATCHED, "            for (slot = 0; slot < t->count; slot++) {\n                byte own[9 + READ_LIMIT];\n"
+    ("W8.13-matched-goes-to-all", MATCHED, "            for (slot = 0; slot < t->count; slot++) {\n                byte own[9 + LONG_READ_LIMIT];\n"
      "                memcpy(own, master, (size_t)masters);\n                memcpy(own + 1, t->packs[slot].address, 8);\n"
      "                transaction(&t->packs[slot], own, masters, reply, count);\n            }\n"),
-    ("W8.13-matched-goes-to-the-next", MATCHED, "            slot = (slot + 1) % t->count;\n            byte own[9 + READ_LIMIT];\n"
+    ("W8.13-matched-goes-to-the-next", MATCHED, "            slot = (slot + 1) % t->count;\n            byte own[9 + LONG_READ_LIMIT];\n"
      "            memcpy(own, master, (size_t)masters);\n            memcpy(own + 1, t->packs[slot].address, 8);\n"
      "            transaction(&t->packs[slot], own, masters, reply, count);\n"),
     ("W8.13-six-address-bytes", "memcmp(t->packs[slot].address, address, 8) == 0", "memcmp(t->packs[slot].address, address, 6) == 0"),
     ("W8.13-seven-slots-are-searched", "masters >= 9 ? slot_with(t, master + 1) : -1;",
      "masters >= 9 ? slot_with(t, master + 1) : -1;\n        slot = slot == SLOTS - 1 ? -1 : slot;"),
     ("W8.14-unknown-address-is-slot-0", "masters >= 9 ? slot_with(t, master + 1) : -1;",
-     "masters >= 9 ? slot_with(t, master + 1) : -1;\n        byte own[9 + READ_LIMIT] = {0x55};\n        if (masters >= 9 && slot < 0) {\n"
+     "masters >= 9 ? slot_with(t, master + 1) : -1;\n        byte own[9 + LONG_READ_LIMIT] = {0x55};\n        if (masters >= 9 && slot < 0) {\n"
      "            memcpy(own, master, (size_t)masters);\n            memcpy(own + 1, t->packs[0].address, 8);\n"
      "            master = own, slot = 0;\n        }"),
     ("W8.14-short-address-to-all", "if (masters >= 1 && master[0] == 0x55) {", "if (masters >= 9 && master[0] == 0x55) {",
-     EACH_PACK, "        byte skip[READ_LIMIT];\n        memcpy(skip, master, (size_t)masters);\n        if (masters > 0 && skip[0] == 0x55)\n"
+     EACH_PACK, "        byte skip[LONG_READ_LIMIT];\n        memcpy(skip, master, (size_t)masters);\n        if (masters > 0 && skip[0] == 0x55)\n"
      "            skip[0] = 0x33;\n        transaction(&t->packs[slot], skip, masters, own, count);\n"),
     ("W8.14-nobody-replies-zero", "    memset(reply, 0xFF, (size_t)count);\n    if (masters >= 1 && master[0] == 0x55) {",
      "    memset(reply, masters >= 1 && master[0] == 0x55 ? 0x00 : 0xFF, (size_t)count);\n    if (masters >= 1 && master[0] == 0x55) {"),
@@ -860,6 +918,24 @@ TRAYS = [
     ("W8.18-missing-slot-is-the-last", IMAGE_SLOT, "slot < tray.count ? &tray.packs[slot] : tray.count > 0 ? &tray.packs[tray.count - 1] : &none"),
     ("W8.18-missing-slot-is-zeros", "    if (!g->accepted) {", "    if (!g->accepted && !tray.closed) {"),
     ("W8.18-missing-slot-is-9", 'fprintf(stderr, "5: %s\\n", none);', 'fprintf(stderr, "9: %s\\n", none);'),
+]
+
+TRAY_KINDS = "    if (kind != 1 && !is_transaction(kind) && !has_slot(kind))"
+TRAY_FORM = "        tray_transaction(t, payload + count_size(kind), length - count_size(kind), reply, read_count(kind, payload));\n"
+
+LONGER_TRAYS = [
+    ("W11.2-not-in-trays", TRAY_KINDS, TRAY_KINDS.replace("!is_transaction(kind)", "kind != 4")),
+    ("W11.2-tray-259-bytes", "    return length_fits(kind, length);", "    return length_fits(kind, kind == 7 && length == 259 ? 258 : length);"),
+    ("W11.2-tray-66-bytes", "    return length_fits(kind, length);", "    return length_fits(kind == 7 && length > 66 ? 4 : kind, length);"),
+    ("W11.2-tray-before-an-image", "    if (t->count == 0)\n        return 5;\n", "    if (t->count == 0)\n        return kind == 7 ? 0 : 5;\n"),
+    ("W11.2-tray-no-room-asked", "        return judged(&t->packs[0], room_left,", "        return judged(&t->packs[0], kind == 7 ? 65536 : room_left,"),
+    ("W11.3-tray-64-as-for-kind-4", "    if (is_transaction(kind))\n        return judged(",
+     "    if (kind == 7 && read_count(kind, payload) > READ_LIMIT)\n        return 8;\n    if (is_transaction(kind))\n        return judged("),
+    ("W11.7-tray-to-the-first-alone", EVERY_SLOT, EVERY_SLOT.replace("slot < t->count", "slot < (masters > 64 ? 1 : t->count)")),
+    ("W11.7-tray-64-bytes-anded", LINE, "            reply[i] &= i < 64 ? own[i] : 0xFF;\n"),
+    ("W11.7-tray-long-match-to-nobody", "masters >= 9 ? slot_with(t, master + 1) : -1;", "masters >= 9 && masters <= 64 ? slot_with(t, master + 1) : -1;"),
+    ("W11.7-tray-master-a-byte-early", TRAY_FORM, TRAY_FORM.replace("payload + count_size(kind)", "payload + 1")),
+    ("W11.7-tray-long-does-not-close", OPEN, "    t->closed |= kind != 7;\n"),
 ]
 
 MEND = [

@@ -52,6 +52,10 @@ static bool in_block_1(int32_t address);
 static int32_t signed_byte(int32_t value);
 static void take_image_out(const Gauge *g, byte *image);
 static bool length_fits(int32_t kind, int32_t length);
+static bool is_transaction(int32_t kind);
+static int32_t count_size(int32_t kind);
+static int32_t read_count(int32_t kind, const byte *payload);
+static int32_t read_limit(int32_t kind);
 static bool breakpoints_ordered(const byte *image);
 static int32_t judged(const Gauge *g, int32_t room_left, int32_t kind, const byte *payload, int32_t length);
 static int32_t read_at(const Gauge *g, int32_t address);
@@ -82,16 +86,16 @@ static void saw_image_answer(const byte *image, int32_t answer)
 
 static void saw_answer(const Gauge *g, int32_t kind, const byte *payload, int32_t length, int32_t answer)
 {
-    bool known = kind >= 1 && kind <= 6, sized = known && length_fits(kind, length);
+    bool known = kind >= 1 && kind <= 7, sized = known && length_fits(kind, length);
     bool wrong_family = sized && kind == 1 && payload[0] != 0x3D;
     bool wrong_crc = sized && kind == 1 && payload[7] != crc(payload, 7);
     bool wrong_lock_byte = sized && kind == 1 && payload[59] > 3;
-    bool wrong_count = sized && kind == 4 && payload[0] > READ_LIMIT;
+    bool wrong_count = sized && is_transaction(kind) && read_count(kind, payload) > read_limit(kind);
 
     SAW(answer == 0, "answer: 0");
     SAW(answer == 3, "answer: 3");
     SAW(answer == 3 && kind < 256, "answer: 3 for a kind below 256");
-    SAW(answer == 3 && kind % 256 >= 1 && kind % 256 <= 6, "answer: 3 for a kind whose low byte is known");
+    SAW(answer == 3 && kind % 256 >= 1 && kind % 256 <= 7, "answer: 3 for a kind whose low byte is known");
     SAW(answer == 4 && kind == 1, "answer: 4 for an image");
     SAW(answer == 4 && kind == 2, "answer: 4 for a reading");
     SAW(answer == 4 && kind == 3, "answer: 4 for a conversion");
@@ -112,7 +116,7 @@ static void saw_answer(const Gauge *g, int32_t kind, const byte *payload, int32_
     SAW(answer == 7, "answer: 7");
     SAW(answer == 7 && payload[59] == 4, "answer: 7 for the lock byte 4");
     SAW(answer == 8, "answer: 8");
-    SAW(answer == 8 && payload[0] == 65, "answer: 8 for a count of 65");
+    SAW(answer == 8 && kind == 4 && payload[0] == 65, "answer: 8 for a count of 65");
     SAW(answer == 9, "answer: 9");
     SAW(answer == 4 && !g->accepted, "answer: 4 where 5 would come next");
     SAW(answer == 5 && (wrong_family || wrong_crc), "answer: 5 where 6 would come next");
@@ -136,6 +140,8 @@ static void saw_class(int32_t kind, int32_t answer, int32_t first, int32_t last,
     bool touches = first <= last, inside = first >= 0x20 && last <= 0x2F, meets = first <= 0x2F && last >= 0x20;
     bool refused = answer == 3 || answer == 4 || answer == 8;
     SAW(refused, "class: gauge event, a record refused with 3, 4 or 8");
+    SAW(kind == 7 && answer == 4, "class: gauge event, a long transaction refused with 4");
+    SAW(kind == 7 && answer == 8, "class: gauge event, a long transaction refused with 8");
     SAW(answer == 5 || answer == 9, "class: fence, a record refused with 5 or 9");
     SAW(answer == 11, "class: gauge event, a sample refused with 11");
     if (answer != 0)
@@ -144,11 +150,16 @@ static void saw_class(int32_t kind, int32_t answer, int32_t first, int32_t last,
     SAW(kind == 3, "class: gauge event, a conversion");
     SAW(kind == 6, "class: gauge event, a sample");
     SAW(kind == 5, "class: fence, a power-on");
-    SAW(kind == 4 && !touches, "class: gauge event, a transaction that touches nothing");
-    SAW(kind == 4 && touches && !meets, "class: gauge event, a transaction that touches nothing of the label");
-    SAW(kind == 4 && touches && inside && !lock, "class: label event");
-    SAW(kind == 4 && touches && inside && lock, "class: fence, a lock of the label");
-    SAW(kind == 4 && touches && meets && !inside, "class: fence, a transaction that touches the label and more");
+    SAW(is_transaction(kind) && !touches, "class: gauge event, a transaction that touches nothing");
+    SAW(is_transaction(kind) && touches && !meets, "class: gauge event, a transaction that touches nothing of the label");
+    SAW(is_transaction(kind) && touches && inside && !lock, "class: label event");
+    SAW(is_transaction(kind) && touches && inside && lock, "class: fence, a lock of the label");
+    SAW(is_transaction(kind) && touches && meets && !inside, "class: fence, a transaction that touches the label and more");
+    SAW(kind == 7 && !touches, "class: gauge event, a long transaction that touches nothing");
+    SAW(kind == 7 && touches && !meets, "class: gauge event, a long transaction that touches nothing of the label");
+    SAW(kind == 7 && touches && inside && !lock, "class: label event, a long transaction");
+    SAW(kind == 7 && touches && inside && lock, "class: fence, a lock of the label by a long transaction");
+    SAW(kind == 7 && touches && meets && !inside, "class: fence, a long transaction that touches the label and more");
 }
 
 /* ---- Flags ---- */
@@ -389,7 +400,7 @@ static void saw_left(const Gauge *was, int32_t kind, const byte *payload, int32_
     SAW(answer == 4 && kind == 3 && was->acr_written, "mark: stays, a conversion is refused");
     SAW(answer == 11 && was->acr_written, "mark: stays, a sample is refused");
     SAW(!refused && kind == 2 && was->acr_written, "mark: stays at a reading");
-    SAW(!refused && kind == 4 && was->acr_written, "mark: stays at a transaction");
+    SAW(!refused && is_transaction(kind) && was->acr_written, "mark: stays at a transaction");
     SAW(answer == 4 && kind == 3 && offset_due(was), "offset: a conversion is refused where a 1024th is due");
     SAW(answer == 11 && offset_due(was), "offset: a sample is refused where a 1024th is due");
 }
@@ -679,13 +690,13 @@ static void saw_block_command(const Gauge *was, const Gauge *is, int32_t command
     SAW(command == 0x6A && was->lock && !zero && !one, "lock: an address in no block");
 }
 
-static void saw_selected(const Gauge *was, const Gauge *is, const byte *asked, int32_t left, int32_t count)
+static void saw_selected(const Gauge *was, const Gauge *is, int32_t kind, const byte *asked, int32_t left, int32_t count)
 {
     SAW(left == 0, "command: none");
     SAW(left == 1, "command: no address");
     SAW(left == 1 && asked[0] == 0x6A && was->lock, "command: a lock without an address");
     if (left < 2) {
-        saw_class(4, 0, 1, 0, false);
+        saw_class(kind, 0, 1, 0, false);
         return;
     }
     int32_t command = asked[0], address = asked[1], first = 1, last = 0;
@@ -711,10 +722,10 @@ static void saw_selected(const Gauge *was, const Gauge *is, const byte *asked, i
         if (in_block_0(address) || in_block_1(address))
             first = in_block_0(address) ? 0x20 : 0x60, last = in_block_0(address) ? 0x2F : 0x7F;
     }
-    saw_class(4, 0, first, last, command == 0x6A);
+    saw_class(kind, 0, first, last, command == 0x6A);
 }
 
-static void saw_transaction(const Gauge *was, const Gauge *is, const byte *master, int32_t masters, int32_t count)
+static void saw_transaction(const Gauge *was, const Gauge *is, int32_t kind, const byte *master, int32_t masters, int32_t count)
 {
     int32_t start = masters > 0 ? master[0] : -1;
     bool rnaop = (parameter(was, CONTROL) & RNAOP) != 0, whole = start == 0x55 && masters >= 9;
@@ -734,9 +745,111 @@ static void saw_transaction(const Gauge *was, const Gauge *is, const byte *maste
     SAW(start == 0x55 && !whole, "first byte: 55h with a short address");
     SAW(start >= 0 && start != 0x33 && start != 0x39 && start != 0xCC && start != 0x55, "first byte: another one");
     if (start == 0xCC || own)
-        saw_selected(was, is, master + (own ? 9 : 1), masters - (own ? 9 : 1), count);
+        saw_selected(was, is, kind, master + (own ? 9 : 1), masters - (own ? 9 : 1), count);
     else
-        saw_class(4, 0, 1, 0, false);
+        saw_class(kind, 0, 1, 0, false);
+}
+
+/* ---- Longer transactions ---- */
+
+/* The transaction before: a long one is often the same in the other form. */
+static struct {
+    int32_t kind, count, masters;
+    byte master[LONG_READ_LIMIT];
+} last_asked;
+
+/* Whether this is the transaction before in its other form (W11.7); remembers it. */
+static bool in_the_other_form(int32_t kind, const byte *payload, int32_t length)
+{
+    int32_t count = read_count(kind, payload), masters = length - count_size(kind);
+    const byte *master = payload + count_size(kind);
+    bool same = last_asked.kind == 11 - kind && last_asked.count == count && last_asked.masters == masters &&
+                memcmp(last_asked.master, master, (size_t)masters) == 0;
+    last_asked.kind = kind, last_asked.count = count, last_asked.masters = masters;
+    memcpy(last_asked.master, master, (size_t)masters);
+    return same;
+}
+
+/* W11.2 and W11.3, of one gauge and of a tray. */
+typedef struct {
+    bool none, one, two, most, too_long, before_image, too_many, low_byte, eight_first, no_room, five_first;
+} LongAnswers;
+
+static LongAnswers long_answers(int32_t length, const byte *payload, int32_t answer, int32_t room_left)
+{
+    bool counted = length >= 2;
+    int32_t count = counted ? read_count(7, payload) : 0;
+    LongAnswers saw = {
+        .none = answer == 4 && length == 0, .one = answer == 4 && length == 1, .two = answer == 0 && length == 2,
+        .most = answer == 0 && length == 258, .too_long = answer == 4 && length == 259, .before_image = answer == 5,
+        .too_many = answer == 8 && count == 257, .low_byte = answer == 8 && count % 256 > 0 && count % 256 <= 64,
+        .eight_first = answer == 8 && count > room_left, .no_room = answer == 9 && count > 64, .five_first = answer == 5 && count > 256};
+    return saw;
+}
+
+/* W11.1: what is asked, of one gauge and of a tray. */
+typedef struct {
+    bool all, over, up_to_end, past_end, sent, unheard, named, wide_write, write_past_end, label_write, block_write;
+} LongAsked;
+
+static LongAsked long_asked(const byte *master, int32_t masters, int32_t count)
+{
+    int32_t at = masters > 0 && master[0] == 0xCC ? 1 : masters >= 9 && master[0] == 0x55 ? 9 : masters;
+    bool heard = masters >= at + 2, read = heard && master[at] == 0x69, write = heard && master[at] == 0x6C;
+    int32_t address = heard ? master[at + 1] : 0, end = address + masters - at - 2;
+    LongAsked saw = {
+        .all = read && address == 0 && count == 256, .over = read && count > 64, .up_to_end = read && count > 64 && address + count == 256,
+        .past_end = read && count > 64 && address + count > 256, .sent = masters == 256,
+        .unheard = !heard && count > 64, .named = masters > 0 && (master[0] == 0x33 || master[0] == 0x39) && count > 64,
+        .wide_write = write && address <= 0x20 && end >= 0x80, .write_past_end = write && address <= 0x7F && end > 0x100,
+        .label_write = write && address == 0x20 && end > 0x60, .block_write = heard && master[at] == 0x48 && masters > at + 64};
+    return saw;
+}
+
+static void saw_long(const Gauge *was, const Gauge *is, const byte *payload, int32_t length, int32_t answer, int32_t room_left)
+{
+    LongAnswers answers = long_answers(length, payload, answer, room_left);
+    SAW(answers.none, "long: 4 without a byte");
+    SAW(answers.one, "long: 4 for half a count");
+    SAW(answers.two, "long: 0 for a count alone");
+    SAW(answers.most, "long: 0 for 258 bytes");
+    SAW(answers.too_long, "long: 4 for 259 bytes");
+    SAW(answers.before_image, "long: 5 before an image");
+    SAW(answers.five_first, "long: 5 where 8 would come next");
+    SAW(answers.too_many, "long: 8 for a count of 257");
+    SAW(answers.low_byte, "long: 8 for a count whose low byte would do");
+    SAW(answers.eight_first, "long: 8 where 9 would come next");
+    SAW(answers.no_room, "long: 9 for a count above 64");
+    if (answer != 0)
+        return;
+    LongAsked asked = long_asked(payload + 2, length - 2, read_count(7, payload));
+    SAW(asked.all, "long: the whole map");
+    SAW(asked.over, "long: a read of more than 64 bytes");
+    SAW(asked.up_to_end, "long: a read of more than 64 bytes that ends at FFh");
+    SAW(asked.past_end, "long: a read of more than 64 bytes past FFh");
+    SAW(asked.sent, "long: 256 bytes of the master");
+    SAW(asked.unheard, "long: more than 64 bytes of nobody");
+    SAW(asked.named, "long: more than 64 bytes to 33h or 39h");
+    SAW(asked.wide_write && memcmp(was->shadow + 0x20, is->shadow + 0x20, 16) != 0 && memcmp(was->shadow + 0x60, is->shadow + 0x60, 32) != 0,
+        "long: a write over the label and block 1");
+    SAW(asked.wide_write && is->acr_written, "long: a write over ACR, the label and block 1");
+    SAW(asked.wide_write && was->bl1, "long: a write over a block 1 that is locked");
+    SAW(asked.wide_write && was->bl0 && !was->bl1, "long: a write over a label that is locked, to block 1");
+    SAW(asked.write_past_end, "long: a write from below 80h past FFh");
+    SAW(asked.label_write, "long: a write from the label to block 1");
+    SAW(asked.block_write && memcmp(was->eeprom, is->eeprom, sizeof was->eeprom) != 0, "long: a copy with bytes behind it");
+}
+
+/* W11.7: what both forms did, one after the other. */
+static void saw_both_forms(const Gauge *was, int32_t kind, const byte *payload)
+{
+    const byte *master = payload + count_size(kind);
+    bool skip = master[0] == 0xCC;
+    SAW(kind == 7, "long: the transaction before it, as kind 4");
+    SAW(kind == 4, "long: the transaction before it, as kind 7");
+    SAW(skip && master[1] == 0x69 && read_count(kind, payload) == 64, "long: a read of 64 bytes in both forms");
+    SAW(skip && master[1] == 0x6C && was->acr_written, "long: a write in both forms, after a write of ACR");
+    SAW(skip && master[1] == 0x48, "long: a copy in both forms");
 }
 
 /* ---- Records ---- */
@@ -750,12 +863,16 @@ static void before_record(const Gauge *g)
     within = nothing;
 }
 
-static void after_record(const Gauge *is, int32_t kind, const byte *payload, int32_t length, int32_t answer)
+static void after_record(const Gauge *is, int32_t kind, const byte *payload, int32_t length, int32_t answer, int32_t room_left)
 {
     const Gauge *was = &as_it_was;
+    if (kind == 7)
+        saw_long(was, is, payload, length, answer, room_left);
+    if (answer == 0 && is_transaction(kind) && in_the_other_form(kind, payload, length) && length > count_size(kind) + 2)
+        saw_both_forms(was, kind, payload);
     saw_answer(was, kind, payload, length, answer);
     saw_flags(was, is);
-    if (was->accepted && (answer != 0 || kind != 4))
+    if (was->accepted && (answer != 0 || !is_transaction(kind)))
         saw_class(kind, answer, 1, 0, false);
     saw_late(was, kind, payload, length, answer);
     saw_left(was, kind, payload, length, answer);
@@ -770,7 +887,8 @@ static void after_record(const Gauge *is, int32_t kind, const byte *payload, int
         saw_each(was, is, little_endian_signed_32(payload), 1, 0);
         conversions_since++;
         break;
-    case 4: saw_transaction(was, is, payload + 1, length - 1, payload[0]); break;
+    case 4:
+    case 7: saw_transaction(was, is, kind, payload + count_size(kind), length - count_size(kind), read_count(kind, payload)); break;
     case 6: saw_tick(was, tick_of(payload)); saw_sample(was, is, little_endian_signed_32(payload)); break;
     default: saw_power_on(was, is); break;
     }
@@ -811,7 +929,7 @@ static void saw_tray_kind(int32_t kind, int32_t length, int32_t answer)
     SAW(answer == 3 && kind == 3, "tray answer: 3 for the kind of a plain conversion");
     SAW(answer == 3 && kind == 5, "tray answer: 3 for the kind of a plain power-on");
     SAW(answer == 3 && kind == 6, "tray answer: 3 for the kind of a plain sample");
-    SAW(answer == 3 && kind == 7, "tray answer: 3 for kind 7");
+    SAW(answer == 3 && kind == 9, "tray answer: 3 for kind 9");
     SAW(answer == 3 && kind == 20, "tray answer: 3 for kind 20");
     SAW(answer == 3 && kind > 255 && has_slot(kind % 256), "tray answer: 3 for a kind whose low byte is known");
     SAW(answer == 4 && kind == 1, "tray answer: 4 for an image");
@@ -859,7 +977,7 @@ static void saw_tray_event_answer(const Tray *was, int32_t kind, const byte *pay
 {
     int32_t slot = has_slot(kind) ? payload[0] : 0;
     SAW(answer == 5 && was->count == 0 && kind == 4, "tray answer: 5 for a transaction before an image");
-    SAW(answer == 5 && was->count == 0 && kind == 4 && payload[0] > READ_LIMIT, "tray answer: 5 where 8 would come next");
+    SAW(answer == 5 && was->count == 0 && is_transaction(kind) && read_count(kind, payload) > read_limit(kind), "tray answer: 5 where 8 would come next");
     SAW(answer == 5 && was->count == 0 && slot == 0 && kind == 18, "tray answer: 5 for a reading before an image");
     SAW(answer == 5 && was->count == 0 && slot == 0 && kind == 19, "tray answer: 5 for a conversion before an image");
     SAW(answer == 5 && was->count == 0 && slot == 0 && kind == 21, "tray answer: 5 for a power-on before an image");
@@ -872,7 +990,7 @@ static void saw_tray_event_answer(const Tray *was, int32_t kind, const byte *pay
     SAW(answer == 5 && was->count == SLOTS && slot == 255, "tray answer: 5 for slot 255 of eight packs");
     SAW(answer == 8, "tray answer: 8");
     SAW(answer == 9, "tray answer: 9");
-    SAW(answer == 9 && payload[1] == 0xCC, "tray answer: 9 for a Skip");
+    SAW(answer == 9 && payload[count_size(kind)] == 0xCC, "tray answer: 9 for a Skip");
     SAW(answer == 11, "tray answer: 11");
 }
 
@@ -914,8 +1032,8 @@ static void saw_tray_event(const Tray *was, const Tray *is, int32_t kind, const 
 /* W8.3: what closes the opening, and what leaves it open. */
 static void saw_tray_closed(const Tray *was, int32_t kind, const byte *payload, int32_t length, int32_t answer)
 {
-    int32_t first = kind == 4 && length > 1 ? payload[1] : -1;
-    bool whole = length >= 10, known = whole && slot_with(was, payload + 2) >= 0;
+    int32_t ahead = count_size(kind), first = is_transaction(kind) && length > ahead ? payload[ahead] : -1;
+    bool whole = length >= ahead + 9, known = whole && slot_with(was, payload + ahead + 1) >= 0;
     if (was->closed || was->count == 0 || kind == 1)
         return;
     SAW(answer == 0 && kind == 18, "tray opening: closed by a reading");
@@ -925,7 +1043,8 @@ static void saw_tray_closed(const Tray *was, int32_t kind, const byte *payload, 
     SAW(answer == 0 && first == 0xCC, "tray opening: closed by a Skip");
     SAW(answer == 0 && first == 0x55 && known, "tray opening: closed by a transaction that is matched");
     SAW(answer == 0 && first == 0x55 && !known, "tray opening: closed by a match of nobody");
-    SAW(answer == 0 && kind == 4 && first == -1, "tray opening: closed by a transaction without a byte");
+    SAW(answer == 0 && is_transaction(kind) && first == -1, "tray opening: closed by a transaction without a byte");
+    SAW(answer == 0 && kind == 7, "tray opening: closed by a long transaction");
     SAW(answer == 3, "tray opening: left open by a record refused with 3");
     SAW(answer == 4, "tray opening: left open by a record refused with 4");
     SAW(answer == 5, "tray opening: left open by a record refused with 5");
@@ -994,9 +1113,45 @@ static void saw_tray_transaction(const Tray *was, const Tray *is, const byte *ma
         saw_tray_every(was, is, master, masters, reply, count);
 }
 
-static void after_tray_record(const Tray *is, int32_t kind, const byte *payload, int32_t length, int32_t answer, const byte *reply)
+/* W11.2 and W11.3 in trays; W11.1 by a match and by Skip. */
+static void saw_tray_long(const Tray *was, const byte *payload, int32_t length, int32_t answer, int32_t room_left)
+{
+    LongAnswers answers = long_answers(length, payload, answer, room_left);
+    SAW(answers.none, "tray long: 4 without a byte");
+    SAW(answers.one, "tray long: 4 for half a count");
+    SAW(answers.two, "tray long: 0 for a count alone");
+    SAW(answers.most, "tray long: 0 for 258 bytes");
+    SAW(answers.too_long, "tray long: 4 for 259 bytes");
+    SAW(answers.before_image, "tray long: 5 before an image");
+    SAW(answers.too_many, "tray long: 8 for a count of 257");
+    SAW(answers.eight_first, "tray long: 8 where 9 would come next");
+    SAW(answers.no_room, "tray long: 9 for a count above 64");
+    if (answer != 0 || length < 3)
+        return;
+    LongAsked asked = long_asked(payload + 2, length - 2, read_count(7, payload));
+    bool many = was->count > 1, skip = many && payload[2] == 0xCC, match = many && payload[2] == 0x55;
+    SAW(asked.all && skip, "tray long: the whole map of all packs at once");
+    SAW(asked.all && match, "tray long: the whole map of one of several packs");
+    SAW(asked.past_end && skip, "tray long: a Skip read of more than 64 bytes past FFh");
+    SAW(asked.sent && match, "tray long: 256 bytes of the master to one of several packs");
+    SAW(asked.sent && skip, "tray long: 256 bytes of the master to several packs");
+    SAW(asked.wide_write && match, "tray long: a write over the label and block 1 of one of several packs");
+    SAW(asked.wide_write && skip, "tray long: a write over the labels and blocks 1 of several packs");
+    SAW(asked.named, "tray long: more than 64 bytes to 33h or 39h");
+    SAW(asked.unheard && many, "tray long: more than 64 bytes of nobody");
+}
+
+static void after_tray_record(const Tray *is, int32_t kind, const byte *payload, int32_t length, int32_t answer, const byte *reply,
+                              int32_t room_left)
 {
     const Tray *was = &tray_as_it_was;
+    if (kind == 7)
+        saw_tray_long(was, payload, length, answer, room_left);
+    if (answer == 0 && is_transaction(kind)) {
+        bool again = in_the_other_form(kind, payload, length), asks = length > count_size(kind) + 2;
+        SAW(again && asks && was->count > 1 && payload[count_size(kind)] == 0xCC, "tray long: a Skip in both forms");
+        SAW(again && asks && was->count > 1 && payload[count_size(kind)] == 0x55, "tray long: a match in both forms");
+    }
     saw_tray_kind(kind, length, answer);
     saw_tray_closed(was, kind, payload, length, answer);
     if (answer == 3 || answer == 4)
@@ -1009,8 +1164,8 @@ static void after_tray_record(const Tray *is, int32_t kind, const byte *payload,
         saw_tray_tick(was, payload, answer);
     if (answer == 0 && has_slot(kind))
         saw_tray_event(was, is, kind, payload);
-    if (answer == 0 && kind == 4)
-        saw_tray_transaction(was, is, payload + 1, length - 1, reply, payload[0]);
+    if (answer == 0 && is_transaction(kind))
+        saw_tray_transaction(was, is, payload + count_size(kind), length - count_size(kind), reply, read_count(kind, payload));
 }
 
 /* W8.18: the image of each slot at the end of the session, given to a fresh gauge. */

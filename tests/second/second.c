@@ -24,7 +24,7 @@
 
 typedef unsigned char byte;
 
-enum { SESSION_LIMIT = 32768, REPLY_ROOM = 65536, IMAGE_BYTES = 60, READ_LIMIT = 64 };
+enum { SESSION_LIMIT = 32768, REPLY_ROOM = 65536, IMAGE_BYTES = 60, READ_LIMIT = 64, LONG_READ_LIMIT = 256 };
 
 /* Table 3 of 001: where each parameter stands. A slope of segment s stands at its base + 4 - s. */
 enum {
@@ -542,6 +542,20 @@ static void transaction(Gauge *g, const byte *master, int32_t masters, byte *rep
 
 /* ---- The session ---- */
 
+/* A transaction comes as kind 4 or, where it is longer, as kind 7 (W11.1, W11.4). */
+static bool is_transaction(int32_t kind) { return kind == 4 || kind == 7; }
+
+/* What stands ahead of the master bytes. */
+static int32_t count_size(int32_t kind) { return kind == 4 ? 1 : 2; }
+
+static int32_t read_count(int32_t kind, const byte *payload)
+{
+    return kind == 4 ? payload[0] : little_endian_16(payload);
+}
+
+/* W11.3. */
+static int32_t read_limit(int32_t kind) { return kind == 4 ? READ_LIMIT : LONG_READ_LIMIT; }
+
 static bool length_fits(int32_t kind, int32_t length)
 {
     switch (kind) {
@@ -550,6 +564,7 @@ static bool length_fits(int32_t kind, int32_t length)
     case 3: return length == 4;
     case 4: return 1 <= length && length <= 65;
     case 6: return length == SAMPLE_BYTES;
+    case 7: return 2 <= length && length <= 258;
     default: return length == 0;
     }
 }
@@ -564,7 +579,7 @@ static bool breakpoints_ordered(const byte *image)
 /* Answers 3 to 11, the first that applies, or 0. */
 static int32_t judged(const Gauge *g, int32_t room_left, int32_t kind, const byte *payload, int32_t length)
 {
-    if (kind < 1 || kind > 6)
+    if (kind < 1 || kind > 7)
         return 3;
     if (!length_fits(kind, length))
         return 4;
@@ -578,9 +593,9 @@ static int32_t judged(const Gauge *g, int32_t room_left, int32_t kind, const byt
         return 10;
     if (kind == 6 && !tick_fits(g, tick_of(payload)))
         return 11;
-    if (kind == 4 && payload[0] > READ_LIMIT)
+    if (is_transaction(kind) && read_count(kind, payload) > read_limit(kind))
         return 8;
-    if (kind == 4 && payload[0] > room_left)
+    if (is_transaction(kind) && read_count(kind, payload) > room_left)
         return 9;
     return 0;
 }
@@ -629,7 +644,7 @@ static int32_t tray_image_judged(const Tray *t, const byte *image)
 /* W8.6 to W8.11: the first answer that applies, or 0. */
 static int32_t tray_judged(const Tray *t, int32_t room_left, int32_t kind, const byte *payload, int32_t length)
 {
-    if (kind != 1 && kind != 4 && !has_slot(kind))
+    if (kind != 1 && !is_transaction(kind) && !has_slot(kind))
         return 3;
     if (!tray_length_fits(kind, length))
         return 4;
@@ -637,7 +652,7 @@ static int32_t tray_judged(const Tray *t, int32_t room_left, int32_t kind, const
         return tray_image_judged(t, payload);
     if (t->count == 0)
         return 5;
-    if (kind == 4)
+    if (is_transaction(kind))
         return judged(&t->packs[0], room_left, kind, payload, length);
     if (payload[0] >= t->count)
         return 5;
@@ -655,7 +670,7 @@ static void tray_transaction(Tray *t, const byte *master, int32_t masters, byte 
         return;
     }
     for (int32_t slot = 0; slot < t->count; slot++) {
-        byte own[READ_LIMIT];
+        byte own[LONG_READ_LIMIT];
         transaction(&t->packs[slot], master, masters, own, count);
         for (int32_t i = 0; i < count; i++)
             reply[i] &= own[i];
@@ -720,11 +735,13 @@ static void print_line(int printing, Subject of, int32_t number, const char *kin
 /* A record that was judged 0. Hands back how many bytes it replies. */
 static int32_t event(Gauge *g, int32_t kind, const byte *payload, int32_t length, byte *reply)
 {
+    int32_t ahead = count_size(kind);
     switch (kind) {
     case 1: accept_image(g, payload); return 0;
     case 2: reading(g, little_endian_signed_32(payload), little_endian_signed_32(payload + 4)); return 0;
     case 3: conversion(g, little_endian_signed_32(payload)); return 0;
-    case 4: transaction(g, payload + 1, length - 1, reply, payload[0]); return payload[0];
+    case 4:
+    case 7: transaction(g, payload + ahead, length - ahead, reply, read_count(kind, payload)); return read_count(kind, payload);
     case 6: sample(g, little_endian_signed_32(payload), tick_of(payload)); return 0;
     default: power_on(g); return 0;
     }
@@ -738,9 +755,9 @@ static int32_t tray_event(Tray *t, int32_t kind, const byte *payload, int32_t le
         return 0;
     }
     t->closed = true;
-    if (kind == 4) {
-        tray_transaction(t, payload + 1, length - 1, reply, payload[0]);
-        return payload[0];
+    if (is_transaction(kind)) {
+        tray_transaction(t, payload + count_size(kind), length - count_size(kind), reply, read_count(kind, payload));
+        return read_count(kind, payload);
     }
     return event(&t->packs[payload[0]], kind - SLOT_KINDS, payload + 1, length - 1, reply);
 }
@@ -751,7 +768,7 @@ static int32_t tray_record(Tray *t, int32_t room_left, int32_t kind, const byte 
     int32_t answer = tray_judged(t, room_left, kind, payload, length);
     WATCH(before_tray_record(t));
     *replied = answer == 0 ? tray_event(t, kind, payload, length, reply) : 0;
-    WATCH(after_tray_record(t, kind, payload, length, answer, reply));
+    WATCH(after_tray_record(t, kind, payload, length, answer, reply, room_left));
     return answer;
 }
 
@@ -760,7 +777,7 @@ static int32_t plain_record(Gauge *g, int32_t room_left, int32_t kind, const byt
     int32_t answer = judged(g, room_left, kind, payload, length);
     WATCH(before_record(g));
     *replied = answer == 0 ? event(g, kind, payload, length, reply) : 0;
-    WATCH(after_record(g, kind, payload, length, answer));
+    WATCH(after_record(g, kind, payload, length, answer, room_left));
     return answer;
 }
 
@@ -784,7 +801,7 @@ static void run_session(Subject of, const byte *session, int32_t size, int print
         }
         int32_t length = little_endian_16(header), kind = little_endian_16(header + 2);
         int32_t replied;
-        byte reply[READ_LIMIT];
+        byte reply[LONG_READ_LIMIT];
         char kind_text[8];
         int32_t answer = of.tray != NULL ? tray_record(of.tray, room_left, kind, header + 4, length, reply, &replied)
                                          : plain_record(of.gauge, room_left, kind, header + 4, length, reply, &replied);

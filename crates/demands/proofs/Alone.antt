@@ -10,20 +10,23 @@ use Rattle.numbers.specs.Choice.{either}
 use Rattle.bus.specs.declared.Transaction.{Transaction}
 use Rattle.gauge.specs.Change.{changedOf}
 use Rattle.gauge.specs.Act.{actOf}
+use Rattle.events.specs.declared.Form.{Form}
+use Rattle.events.specs.declared.Form.the-variants.{Short, Long}
 use Rattle.events.specs.declared.Kind.{Kind}
 use Rattle.events.specs.declared.Kind.the-variants as kind
 use Rattle.events.specs.declared.Event.the-variants.{Image, Change, Transact}
 use Rattle.events.specs.declared.Taken.{Taken}
 use Rattle.events.specs.declared.Taken.the-variants.{Run, Refused}
-use Rattle.events.specs.Record.{masterOf}
+use Rattle.events.specs.Record.{kindOf, transactionIn, masterOf}
 use Rattle.steps.specs.Steps.{answeredBy}
 use Rattle.slots.specs.declared.Tray.{Tray}
 use Rattle.slots.specs.Tray.{packOf, trayKindOf, aheadOf, slotIn, Reach, one, trayReach, trayActed, trayTold, ofTray, trayDid}
+use Rattle.demands.specs.Longer.{formKind}
 use Rattle.demands.specs.Alone.{slotEvent, reachIn, slotted, matched, Alone}
 use Rattle.demands.proofs.Choice.{contrary}
 use Rattle.demands.proofs.Fitted.{fitted-has}
 use Rattle.slots.proofs.Laws.{stored-other}
-use Rattle.demands.proofs.Asked.{Asks, tray-asks}
+use Rattle.demands.proofs.Asked.{Heard, Asks, tray-asks}
 
 -- A slot's event has a slot byte ahead
 
@@ -42,9 +45,31 @@ slot-ahead n = go (eqb n 18) (eqb n 19) (eqb n 21) (eqb n 22) refl refl refl ref
     go false false false true ea eb ec ed h = is 22 ed refl
     go false false false false ea eb ec ed h = contrary cc
 
-pub transaction-kind : trayKindOf 4 ≡ kind.Transaction
+pub transaction-kind : (f : Form) → trayKindOf (formKind f) ≡ kind.Transaction f
 unfolding trayKindOf
-transaction-kind = refl
+transaction-kind Short = refl
+transaction-kind Long = refl
+
+pub session-kind : (f : Form) → kindOf (formKind f) ≡ kind.Transaction f
+unfolding kindOf
+session-kind Short = refl
+session-kind Long = refl
+
+-- a transaction has one form
+one-form : {f g : Form} → kind.Transaction f ≡ kind.Transaction g → f ≡ g
+one-form e = ap formOf e
+  where
+    formOf : Kind → Form
+    formOf kind.Image = Short
+    formOf kind.Reading = Short
+    formOf kind.Conversion = Short
+    formOf (kind.Transaction f) = f
+    formOf kind.PowerOn = Short
+    formOf kind.Sample = Short
+    formOf kind.Unknown = Short
+
+pub asked-form : {τ : Tray} {k : Kind} {p : List ℕ} {t : Transaction} (f : Form) → k ≡ kind.Transaction f → Heard τ k p t → t ≡ transactionIn f p
+asked-form {p = p} f is a = a .asked ∙ ap (λ (g : Form). transactionIn g p) (one-form (sym (a .kind) ∙ is))
 
 -- One record, refused or not
 
@@ -62,16 +87,18 @@ module _ (τ : Tray) (i j : ℕ) (other : j ≡ i → ⊥) (p : List ℕ) where
   acted-stays : (t : Transaction) (reach : Reach) → reach ≡ one i → packOf (trayActed t (masterOf t p) reach τ) j ≡ packOf τ j
   acted-stays t reach e = rw e (stored-other τ i j (actOf (packOf τ i) t (masterOf t p)) other)
 
-  matched-stays : (k : Kind) → k ≡ kind.Transaction → reachIn τ p ≡ one i → (t : Taken) → Asks τ k p t → Stays t
-  matched-stays k is reach (Run Image) a = let z = sym (a .kind) ∙ is in contrary cc
-  matched-stays k is reach (Run (Change c)) a = let z : _≡_ {A = ℕ} 1 0 = sym (a .ahead) ∙ ap aheadOf is in absurd (omega arith)
-  matched-stays k is reach (Run (Transact t)) a =
-      acted-stays t (trayReach τ t (masterOf t p)) (ap (λ (x : Transaction). trayReach τ x (masterOf x p)) (a .asked) ∙ reach)
-  matched-stays k is reach (Refused r) a = refl
+  matched-stays : (f : Form) (k : Kind) → k ≡ kind.Transaction f → reachIn τ f p ≡ one i → (t : Taken) → Asks τ k p t → Stays t
+  matched-stays f k is reach (Run Image) a = let z = sym (a .kind) ∙ is in contrary cc
+  matched-stays f k is reach (Run (Change c)) a = let z : _≡_ {A = ℕ} 1 0 = sym (a .ahead) ∙ ap aheadOf is in absurd (omega arith)
+  matched-stays f k is reach (Run (Transact t)) a =
+      acted-stays t (trayReach τ t (masterOf t p)) (ap (λ (x : Transaction). trayReach τ x (masterOf x p)) (asked-form f is a) ∙ reach)
+  matched-stays f k is reach (Refused r) a = refl
 
 pub alone : Alone
 unfolding trayDid
 alone τ room r i j (slotted {n} {p} e slot) other =
     fitted-has (Stays τ i j other p) refl room (trayTold τ n p) (slot-stays τ i j other p (trayKindOf n) (slot-ahead n e) slot (trayTold τ n p) (tray-asks τ n p))
-alone τ room r i j (matched {p} reach) other =
-    fitted-has (Stays τ i j other p) refl room (trayTold τ 4 p) (matched-stays τ i j other p (trayKindOf 4) transaction-kind reach (trayTold τ 4 p) (tray-asks τ 4 p))
+alone τ room r i j (matched f {p} reach) other =
+    let n = formKind f in
+    fitted-has (Stays τ i j other p) refl room (trayTold τ n p)
+    (matched-stays τ i j other p f (trayKindOf n) (transaction-kind f) reach (trayTold τ n p) (tray-asks τ n p))

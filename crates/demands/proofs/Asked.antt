@@ -6,7 +6,7 @@ use Prim.Native.Nat.{ℕ, _<_}
 use native.Mathlib.Omega.{arith}
 use borrow.Author.Tests.{ltb-true, leb-false, not-true}
 use lib.Dec.{ltb, leb}
-use lib.ListN.{length, getD, take, drop}
+use lib.ListN.{length, take, drop}
 use Rattle.numbers.specs.Choice.{pick, either}
 use Rattle.numbers.proofs.Bounds.{picked}
 use Rattle.parts.specs.Parts.{pairAt}
@@ -15,8 +15,8 @@ use Rattle.ticks.specs.Ticks.{timelyOf}
 use Rattle.bus.specs.declared.Rom.{Rom}
 use Rattle.bus.specs.declared.Rom.the-variants as rom
 use Rattle.bus.specs.declared.Transaction.{Transaction}
-use Rattle.bus.specs.Ask.{askedOf}
 use Rattle.label.specs.declared.Common.{Common}
+use Rattle.events.specs.declared.Form.{Form}
 use Rattle.events.specs.declared.Kind.{Kind}
 use Rattle.events.specs.declared.Kind.the-variants as kind
 use Rattle.events.specs.declared.Refusal.{Refusal}
@@ -25,7 +25,7 @@ use Rattle.events.specs.declared.Event.{Event}
 use Rattle.events.specs.declared.Event.the-variants.{Image, Change, Transact}
 use Rattle.events.specs.declared.Taken.{Taken}
 use Rattle.events.specs.declared.Taken.the-variants.{Run, Refused}
-use Rattle.events.specs.Record.{knownOf, sizedOf, dueOf, judgedAmong, judgedOf, eventOf, eventTimely, timedOf}
+use Rattle.events.specs.Record.{knownOf, limitOf, readCount, sizedOf, dueOf, judgedAmong, judgedOf, transactionIn, eventOf, eventTimely, timedOf}
 use Rattle.events.proofs.Fits.{Taking, timed-by, judged-alone}
 use Rattle.slots.specs.declared.Tray.{Tray}
 use Rattle.slots.specs.declared.Found.{Found}
@@ -66,9 +66,10 @@ pub record Slotted (τ : Tray) (k : Kind) (p : List ℕ) : Type 0 where
   pub pack : slotIn p < τ .count
 
 pub record Heard (τ : Tray) (k : Kind) (p : List ℕ) (t : Transaction) : Type 0 where
-  pub kind : k ≡ kind.Transaction
+  pub form : Form
+  pub kind : k ≡ kind.Transaction form
   pub some : 0 < τ .count
-  pub asked : t ≡ askedOf 1 (getD p 0 0) (drop 1 p)
+  pub asked : t ≡ transactionIn form p
 
 abbrev pub Asks : Tray → Kind → List ℕ → Taken → Type 0
 Asks τ k p (Run Image) = Joins τ k p
@@ -99,9 +100,9 @@ module _ (τ : Tray) (p : List ℕ) (last : Tick) where
   event-asks kind.Image sized due = image-asks (timedOf last (judgedAmong (againOf τ p) p)) (rw sized at (timed-by (againOf τ p) false p last kind.Image)) due
   event-asks kind.Reading sized due = slotted kind.Reading refl due
   event-asks kind.Conversion sized due = slotted kind.Conversion refl due
-  event-asks kind.Transaction sized due =
-      picked (λ t. Asks τ kind.Transaction p (timedOf last t)) (leb (getD p 0 0) 64) _ _
-      (λ few. record { kind = refl; some = ltb-true 0 (τ .count) due; asked = refl })
+  event-asks (kind.Transaction f) sized due =
+      picked (λ t. Asks τ (kind.Transaction f) p (timedOf last t)) (leb (readCount f p) (limitOf f)) _ _
+      (λ few. record { form = f; kind = refl; some = ltb-true 0 (τ .count) due; asked = refl })
       (λ many. tt)
   event-asks kind.PowerOn sized due = slotted kind.PowerOn refl due
   event-asks kind.Sample sized due =

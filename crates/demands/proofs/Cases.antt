@@ -6,12 +6,14 @@ use lib.ListN.{replicate}
 use Rattle.label.specs.Label.{inLabel, inBlock}
 use Rattle.bus.specs.Ask.{romBy, commandOf, askedAt, askedOf, ownOf}
 use Rattle.replies.specs.Reply.{selectedOf}
+use Rattle.events.specs.declared.Form.the-variants.{Long}
 use Rattle.events.specs.declared.Refusal.the-variants.{Breaks, Repeated}
 use Rattle.events.specs.declared.Taken.the-variants.{Refused}
 use Rattle.events.specs.Record.{kindOf, takenOf}
 use Rattle.runs.specs.Record.{Rec, whole, cut}
 use Rattle.ticks.specs.Ticks.{timelyOf}
 use Rattle.slots.specs.Tray.{trayKindOf}
+use Rattle.demands.specs.Longer.{recordIn, reading}
 use Rattle.demands.specs.Sections.{Class, labelling, gauging, fence}
 use Rattle.demands.specs.Class.{Selects, blockOf, touchedOf, labelsOf, touchedClass, takenClass, classOf, trayClass}
 
@@ -25,6 +27,23 @@ skips count command address bytes = whole 4 (count ∷ 0xcc ∷ command ∷ addr
 -- a read of two bytes at 20h from the gauge with this address
 abbrev matches : List ℕ → Rec
 matches address = whole 4 (2 ∷ 0x55 ∷ (address ++ (0x69 ∷ 0x20 ∷ [])))
+
+-- of kind 7: reads of the whole map, from 30h past FFh, and all in the label; writes of the label, over 1Fh and 20h, and from 30h past FFh; a copy and
+-- a lock of block 0; 257 master bytes and a read count that is cut, refused with 4; a read count of 257, with 8
+abbrev long-cases : List (Rec × Class)
+long-cases =
+    (reading Long 0x00 256, fence)
+    ∷ (reading Long 0x30 256, gauging)
+    ∷ (reading Long 0x20 16, labelling)
+    ∷ (recordIn Long 0 (0xcc ∷ 0x6c ∷ 0x20 ∷ replicate 16 0), labelling)
+    ∷ (recordIn Long 0 (0xcc ∷ 0x6c ∷ 0x1f ∷ replicate 200 0), fence)
+    ∷ (recordIn Long 0 (0xcc ∷ 0x6c ∷ 0x30 ∷ replicate 253 0), gauging)
+    ∷ (recordIn Long 0 (0xcc ∷ 0x48 ∷ 0x20 ∷ []), labelling)
+    ∷ (recordIn Long 0 (0xcc ∷ 0x6a ∷ 0x20 ∷ []), fence)
+    ∷ (recordIn Long 2 (0xcc ∷ 0x69 ∷ 0x20 ∷ replicate 254 0), gauging)
+    ∷ (whole 7 (2 ∷ []), gauging)
+    ∷ (reading Long 0x20 257, gauging)
+    ∷ []
 
 abbrev pub cases : List (Rec × Class)
 cases =
@@ -74,7 +93,7 @@ cases =
     ∷ (skips 65 0x69 0x20 [], gauging)
     ∷ (whole 1 (replicate 60 0), fence)
     ∷ (cut, fence)
-    ∷ []
+    ∷ long-cases
 
 pub cases-hold : map (λ c. classOf own (c .0)) cases ≡ map (λ c. c .1) cases
 unfolding takenOf kindOf askedOf askedAt romBy commandOf selectedOf ownOf touchedClass labelsOf touchedOf blockOf inLabel inBlock
@@ -117,7 +136,7 @@ tray-cases =
     ∷ (skips 65 0x69 0x20 [], gauging)
     ∷ (whole 1 (replicate 60 0), fence)
     ∷ (cut, fence)
-    ∷ []
+    ∷ long-cases
 
 pub tray-cases-hold : map (λ c. trayClass (own ∷ second ∷ []) (c .0)) tray-cases ≡ map (λ c. c .1) tray-cases
 unfolding trayKindOf timelyOf askedOf askedAt romBy commandOf selectedOf ownOf touchedClass labelsOf touchedOf blockOf inLabel inBlock

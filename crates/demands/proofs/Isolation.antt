@@ -9,7 +9,7 @@ use Rattle.numbers.specs.Choice.{pick}
 use Rattle.bus.specs.declared.Transaction.{Transaction}
 use Rattle.gauge.specs.declared.Gauge.{Gauge}
 use Rattle.gauge.specs.Act.{replyOf}
-use Rattle.events.specs.declared.Kind.{Kind}
+use Rattle.events.specs.declared.Form.{Form}
 use Rattle.events.specs.declared.Refusal.the-variants as refusal
 use Rattle.events.specs.declared.Event.the-variants.{Image, Change, Transact}
 use Rattle.events.specs.declared.Taken.{Taken}
@@ -22,7 +22,9 @@ use Rattle.steps.specs.Steps.{answeredBy}
 use Rattle.slots.specs.declared.Tray.{Tray}
 use Rattle.slots.specs.Tray.{emptyTray, trayKindOf, againOf, slotTick, trayTold, one, trayReach, trayReply, ofTray, trayDid}
 use Rattle.demands.specs.Call.{Call, Within, gotOf, Stopped}
+use Rattle.demands.specs.Longer.{formKind}
 use Rattle.demands.specs.Alone.{reachIn}
+use Rattle.demands.proofs.Alone.{transaction-kind, asked-form}
 use Rattle.demands.specs.Isolation.{Agree, imagesAfter, Differs, none, held, here, there, images, Places, Twins, Others, Isolation}
 use Rattle.demands.proofs.Moments.{leftOf, left-cons, running, stopped-within}
 use Rattle.demands.proofs.Every.{run-exact}
@@ -119,35 +121,38 @@ twins-end {k} {c} {d} t =
 -- A transaction that is matched to another slot
 
 -- what it asks is the same
-told-others : {k : ℕ} {τ σ : Tray} → Others k τ σ → (p : List ℕ) → trayTold τ 4 p ≡ trayTold σ 4 p
-unfolding trayKindOf
-told-others {k} {τ} {σ} h p =
-    ap (λ (t : Taken). pick (leb 0 (length p)) t (Refused refusal.Size))
-    (sym (transaction-timely (slotTick τ p) (againOf τ p) (ltb 0 (τ .count)) p)
+told-others : {k : ℕ} {τ σ : Tray} → Others k τ σ → (f : Form) (p : List ℕ) → trayTold τ (formKind f) p ≡ trayTold σ (formKind f) p
+told-others {k} {τ} {σ} h f p =
+    rw (transaction-kind f)
+    (ap (λ (t : Taken). pick (leb 0 (length p)) t (Refused refusal.Size))
+    (sym (transaction-timely (slotTick τ p) (againOf τ p) (ltb 0 (τ .count)) p f)
     ∙ rw (h .count) refl
-    ∙ transaction-timely (slotTick σ p) (againOf σ p) (ltb 0 (σ .count)) p)
+    ∙ transaction-timely (slotTick σ p) (againOf σ p) (ltb 0 (σ .count)) p f))
 
-module _ {k : ℕ} {τ σ : Tray} (h : Others k τ σ) (j : ℕ) (away : j ≡ k → ⊥) (p : List ℕ) (reach : reachIn τ p ≡ one j) where
+module _ {k : ℕ} {τ σ : Tray} (h : Others k τ σ) (j : ℕ) (away : j ≡ k → ⊥) (f : Form) (p : List ℕ) (reach : reachIn τ f p ≡ one j) where
+  abbrev n : ℕ
+  n = formKind f
+
   abbrev Same : Taken → Type 0
-  Same t = lineOf (whole 4 p) (answeredBy ofTray τ p t) ≡ lineOf (whole 4 p) (answeredBy ofTray σ p t)
+  Same t = lineOf (whole n p) (answeredBy ofTray τ p t) ≡ lineOf (whole n p) (answeredBy ofTray σ p t)
 
   replied : (t : Transaction) → trayReach τ t (masterOf t p) ≡ one j
       → trayReply t (masterOf t p) (trayReach τ t (masterOf t p)) τ ≡ trayReply t (masterOf t p) (trayReach σ t (masterOf t p)) σ
   replied t e = rw (← (reach-others h t (masterOf t p)), e) (ap (λ (g : Gauge). replyOf g t (masterOf t p)) (h .packs j away))
 
-  line-same : (x : Kind) (t : Taken) → Asks τ x p t → Same t
-  line-same x (Run Image) a = refl
-  line-same x (Run (Change c)) a = refl
-  line-same x (Run (Transact t)) a =
-      ap (λ (l : List ℕ). record { kind = 4; answer = 0; reply = l })
-      (replied t (ap (λ (y : Transaction). trayReach τ y (masterOf y p)) (a .asked) ∙ reach))
-  line-same x (Refused r) a = refl
+  line-same : (t : Taken) → Asks τ (trayKindOf n) p t → Same t
+  line-same (Run Image) a = refl
+  line-same (Run (Change c)) a = refl
+  line-same (Run (Transact t)) a =
+      ap (λ (l : List ℕ). record { kind = n; answer = 0; reply = l })
+      (replied t (ap (λ (y : Transaction). trayReach τ y (masterOf y p)) (asked-form f (transaction-kind f) a) ∙ reach))
+  line-same (Refused r) a = refl
 
-  matched-same : (room : ℕ) → lineOf (whole 4 p) (trayDid τ room (whole 4 p)) ≡ lineOf (whole 4 p) (trayDid σ room (whole 4 p))
+  matched-same : (room : ℕ) → lineOf (whole n p) (trayDid τ room (whole n p)) ≡ lineOf (whole n p) (trayDid σ room (whole n p))
   unfolding trayDid
   matched-same room =
-      fitted-has Same refl room (trayTold τ 4 p) (line-same (trayKindOf 4) (trayTold τ 4 p) (tray-asks τ 4 p))
-      ∙ ap (λ (t : Taken). lineOf (whole 4 p) (answeredBy ofTray σ p (fittedOf room t))) (told-others h p)
+      fitted-has Same refl room (trayTold τ n p) (line-same (trayTold τ n p) (tray-asks τ n p))
+      ∙ ap (λ (t : Taken). lineOf (whole n p) (answeredBy ofTray σ p (fittedOf room t))) (told-others h f p)
 
 -- Two sessions that are stopped
 
@@ -186,14 +191,15 @@ pub isolation : Isolation
 isolation = record {
   stops = λ k c d t i j h a e s u. twins-stopped t i j h s u;
   states = λ k c d t. twins-end t .others;
-  replies = λ k j c d w v p l m a b e f s t twins reach away.
-      let x = run-exact trayDid emptyTray .events c w (whole 4 p) l a b s in
-      let y = run-exact trayDid emptyTray .events d v (whole 4 p) m e f t in
+  replies = λ k j c d w v x p l m a b e f s t twins reach away.
+      let n = formKind x in
+      let near = run-exact trayDid emptyTray .events c w (whole n p) l a b s in
+      let far = run-exact trayDid emptyTray .events d v (whole n p) m e f t in
       let h = twins-end twins in
       let left : length (a .room) - a .ran .replied ≡ length (e .room) - e .ran .replied =
       rw (running trayDid emptyTray (twins .one) .replied, running trayDid emptyTray (twins .other) .replied) (h .room) in
-      x .line
-      ∙ matched-same (h .others) j away p reach (length (a .room) - a .ran .replied)
-      ∙ ap (λ (n : ℕ). lineOf (whole 4 p) (trayDid (e .ran .state) n (whole 4 p))) left
-      ∙ sym (y .line);
+      near .line
+      ∙ matched-same (h .others) j away x p reach (length (a .room) - a .ran .replied)
+      ∙ ap (λ (room : ℕ). lineOf (whole n p) (trayDid (e .ran .state) room (whole n p))) left
+      ∙ sym (far .line);
 }

@@ -8,6 +8,7 @@ pub mod Packs
 pub mod Asked
 pub mod Filled
 pub mod Alone
+pub mod Longer
 pub mod Slots
 pub mod Others
 pub mod Isolation

@@ -11,6 +11,7 @@ use Rattle.numbers.specs.Choice.{pick, both}
 use Rattle.bus.specs.declared.Transaction.{Transaction}
 use Rattle.gauge.specs.declared.Gauge.{Gauge}
 use Rattle.pack.specs.Image.{imageOf}
+use Rattle.events.specs.declared.Form.the-variants.{Short, Long}
 use Rattle.events.specs.declared.Kind.{Kind}
 use Rattle.events.specs.declared.Kind.the-variants as kind
 use Rattle.events.specs.declared.Refusal.the-variants as refusal
@@ -127,18 +128,23 @@ outcome τ room n p = go (trayTold τ n p) refl
 
 image-one : (n : ℕ) → trayKindOf n ≡ kind.Image → eqb n 1 ≡ true
 unfolding trayKindOf
-image-one n = go (eqb n 1) (eqb n 4) (eqb n 18) (eqb n 19) (eqb n 21) (eqb n 22)
+image-one n = go (eqb n 1) (eqb n 4) (eqb n 7) (eqb n 18) (eqb n 19) (eqb n 21) (eqb n 22)
   where
-    go : (a b c d e f : Bool)
-        → pick a kind.Image (pick b kind.Transaction (pick c kind.Reading (pick d kind.Conversion (pick e kind.PowerOn (pick f kind.Sample kind.Unknown))))) ≡ kind.Image
+    go : (a b c d e f g : Bool)
+        → pick a kind.Image
+        (pick b (kind.Transaction Short)
+        (pick c (kind.Transaction Long)
+        (pick d kind.Reading (pick e kind.Conversion (pick f kind.PowerOn (pick g kind.Sample kind.Unknown))))))
+        ≡ kind.Image
         → a ≡ true
-    go true b c d e f h = refl
-    go false true c d e f h = contrary cc
-    go false false true d e f h = contrary cc
-    go false false false true e f h = contrary cc
-    go false false false false true f h = contrary cc
-    go false false false false false true h = contrary cc
-    go false false false false false false h = contrary cc
+    go true b c d e f g h = refl
+    go false true c d e f g h = contrary cc
+    go false false true d e f g h = contrary cc
+    go false false false true e f g h = contrary cc
+    go false false false false true f g h = contrary cc
+    go false false false false false true g h = contrary cc
+    go false false false false false false true h = contrary cc
+    go false false false false false false false h = contrary cc
 
 no-image : (n : ℕ) → (trayKindOf n ≡ kind.Image → ⊥) → eqb n 1 ≡ false
 unfolding trayKindOf

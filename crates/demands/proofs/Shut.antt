@@ -22,7 +22,7 @@ use Rattle.events.specs.declared.Event.the-variants.{Image, Change, Transact}
 use Rattle.events.specs.declared.Taken.{Taken}
 use Rattle.events.specs.declared.Taken.the-variants.{Run, Refused}
 use Rattle.events.specs.Image.{imageSize}
-use Rattle.events.specs.Record.{dueOf, eventOf, takenBy, timedOf}
+use Rattle.events.specs.Record.{limitOf, readCount, dueOf, eventOf, takenBy, timedOf}
 use Rattle.runs.specs.Record.{Rec, whole, cut}
 use Rattle.runs.specs.Run.{Did, silently, Line, lineOf, linesAfter, endAfter}
 use Rattle.steps.specs.Steps.{Steps, answeredBy}
@@ -105,7 +105,7 @@ image-or : (P : Kind → Type 0) → P kind.Image → ((k : Kind) → (k ≡ kin
 image-or P i h kind.Image = i
 image-or P i h kind.Reading = h kind.Reading (λ e. contrary cc)
 image-or P i h kind.Conversion = h kind.Conversion (λ e. contrary cc)
-image-or P i h kind.Transaction = h kind.Transaction (λ e. contrary cc)
+image-or P i h (kind.Transaction f) = h (kind.Transaction f) (λ e. contrary cc)
 image-or P i h kind.PowerOn = h kind.PowerOn (λ e. contrary cc)
 image-or P i h kind.Sample = h kind.Sample (λ e. contrary cc)
 image-or P i h kind.Unknown = h kind.Unknown (λ e. contrary cc)
@@ -135,7 +135,7 @@ module _ (count : ℕ) (closed again : Bool) (last : Tick) (p : List ℕ) where
   same-taken kind.Image other q = absurd (other refl)
   same-taken kind.Reading other q = refl
   same-taken kind.Conversion other q = refl
-  same-taken kind.Transaction other q = refl
+  same-taken (kind.Transaction f) other q = refl
   same-taken kind.PowerOn other q = refl
   same-taken kind.Sample other q = refl
   same-taken kind.Unknown other q = refl
@@ -171,7 +171,7 @@ asked-there count n p = asked-has count true false noTick p (Asked count p) (λ 
     by kind.Image due = contrary cc
     by kind.Reading due = ltb-true (slotIn p) count due
     by kind.Conversion due = ltb-true (slotIn p) count due
-    by kind.Transaction due = picked (Asked count p) (leb (getD p 0 0) 64) _ _ (λ few. ltb-true 0 count due) (λ many. tt)
+    by (kind.Transaction f) due = picked (Asked count p) (leb (readCount f p) (limitOf f)) _ _ (λ few. ltb-true 0 count due) (λ many. tt)
     by kind.PowerOn due = ltb-true (slotIn p) count due
     by kind.Sample due = ltb-true (slotIn p) count due
     by kind.Unknown due = tt

@@ -10,12 +10,13 @@ use lib.ListN.{length}
 use Rattle.bus.specs.declared.Transaction.{Transaction}
 use Rattle.gauge.specs.Change.{changedOf}
 use Rattle.gauge.specs.Act.{actOf, replyOf}
+use Rattle.events.specs.declared.Form.{Form}
 use Rattle.events.specs.declared.Kind.{Kind}
 use Rattle.events.specs.declared.Kind.the-variants as kind
 use Rattle.events.specs.declared.Event.the-variants.{Image, Change, Transact}
 use Rattle.events.specs.declared.Taken.{Taken}
 use Rattle.events.specs.declared.Taken.the-variants.{Run, Refused}
-use Rattle.events.specs.Record.{kindOf, masterOf, takenOf, timedOf}
+use Rattle.events.specs.Record.{kindOf, transactionIn, masterOf, takenOf, timedOf}
 use Rattle.events.proofs.Fits.{transaction-timely}
 use Rattle.runs.specs.Record.{whole, recsOf}
 use Rattle.steps.specs.Steps.{answeredBy}
@@ -23,13 +24,15 @@ use Rattle.steps.specs.Step.{loadedWith, lastTick, takenDid, didOf}
 use Rattle.slots.specs.declared.Tray.{Tray}
 use Rattle.slots.specs.Tray.{emptyTray, packOf, trayKindOf, aheadOf, againOf, slotTick, trayTold, Reach, one, trayReach, trayActed, trayReply, ofTray, trayDid}
 use Rattle.demands.specs.Call.{Call, Within}
-use Rattle.demands.specs.Alone.{transactionIn, reachIn}
+use Rattle.demands.specs.Longer.{formKind}
+use Rattle.demands.specs.Alone.{reachIn}
 use Rattle.demands.specs.Slots.{Stands, reading, conversion, sample, power-on, AsOld, SlotsAsOld}
 use Rattle.demands.proofs.Choice.{contrary}
 use Rattle.demands.proofs.Moments.{running}
 use Rattle.demands.proofs.Fitted.{fitted-has}
 use Rattle.demands.proofs.Packs.{Eight, There, stored-here}
 use Rattle.demands.proofs.Asked.{Asks, tray-asks, reach-there}
+use Rattle.demands.proofs.Alone.{transaction-kind, session-kind, asked-form}
 use Rattle.demands.proofs.Filled.{end-filled}
 
 module _ (τ : Tray) (h : Eight τ) (i : ℕ) (low : i < τ .count) (p : List ℕ) where
@@ -67,20 +70,20 @@ module _ (τ : Tray) (h : Eight τ) (i : ℕ) (low : i < τ .count) (p : List �
 
 -- A transaction that is matched to a slot
 
-module _ (τ : Tray) (h : Eight τ) (i : ℕ) (p : List ℕ) (reach : reachIn τ p ≡ one i) where
+module _ (τ : Tray) (h : Eight τ) (i : ℕ) (f : Form) (p : List ℕ) (reach : reachIn τ f p ≡ one i) where
   there : i < τ .count
-  there = subst (λ (r : Reach). There r (τ .count)) reach (reach-there τ (transactionIn p) (masterOf (transactionIn p) p))
+  there = subst (λ (r : Reach). There r (τ .count)) reach (reach-there τ (transactionIn f p) (masterOf (transactionIn f p) p))
 
   abbrev matchedOld : Taken
-  matchedOld = timedOf (lastTick (loadedWith (packOf τ i))) (takenOf 4 true p)
+  matchedOld = timedOf (lastTick (loadedWith (packOf τ i))) (takenOf (formKind f) true p)
 
-  asks-matched : trayTold τ 4 p ≡ matchedOld
-  unfolding trayKindOf takenOf kindOf
+  asks-matched : trayTold τ (formKind f) p ≡ matchedOld
+  unfolding takenOf
   asks-matched =
-      rw (le-leb 0 (length p) zero-le)
-      (sym (transaction-timely (slotTick τ p) (againOf τ p) (ltb 0 (τ .count)) p)
+      rw (transaction-kind f, session-kind f, le-leb 0 (length p) zero-le)
+      (sym (transaction-timely (slotTick τ p) (againOf τ p) (ltb 0 (τ .count)) p f)
       ∙ rw (lt-ltb 0 (τ .count) (omega (arith, there))) refl
-      ∙ transaction-timely (lastTick (loadedWith (packOf τ i))) false true p)
+      ∙ transaction-timely (lastTick (loadedWith (packOf τ i))) false true p f)
 
   abbrev Matched : Taken → Type 0
   Matched t = AsOld i (answeredBy ofTray τ p t) (takenDid (loadedWith (packOf τ i)) p t)
@@ -89,18 +92,19 @@ module _ (τ : Tray) (h : Eight τ) (i : ℕ) (p : List ℕ) (reach : reachIn τ
       → (trayReply t (masterOf t p) r τ ≡ replyOf (packOf τ i) t (masterOf t p)) × (packOf (trayActed t (masterOf t p) r τ) i ≡ actOf (packOf τ i) t (masterOf t p))
   acted-old t r e = rw e (refl, stored-here τ i (actOf (packOf τ i) t (masterOf t p)) h (omega (arith, there, h .few)))
 
-  taken-matched : (t : Taken) → Asks τ kind.Transaction p t → Matched t
+  taken-matched : (t : Taken) → Asks τ (kind.Transaction f) p t → Matched t
   taken-matched (Run Image) a = let z = a .kind in contrary cc
   taken-matched (Run (Change c)) a = let z = a .ahead in contrary cc
   taken-matched (Run (Transact t)) a =
-      let e = acted-old t (trayReach τ t (masterOf t p)) (ap (λ (x : Transaction). trayReach τ x (masterOf x p)) (a .asked) ∙ reach) in
+      let e = acted-old t (trayReach τ t (masterOf t p)) (ap (λ (x : Transaction). trayReach τ x (masterOf x p)) (asked-form f refl a) ∙ reach) in
       record { answer = refl; reply = e .0; pack = e .1 }
   taken-matched (Refused r) a = record { answer = refl; reply = refl; pack = refl }
 
-  did-matched : (room : ℕ) → AsOld i (trayDid τ room (whole 4 p)) (didOf (loadedWith (packOf τ i)) room (whole 4 p))
-  unfolding trayDid didOf trayKindOf
+  did-matched : (room : ℕ) → AsOld i (trayDid τ room (whole (formKind f) p)) (didOf (loadedWith (packOf τ i)) room (whole (formKind f) p))
+  unfolding trayDid didOf
   did-matched room =
-      rw asks-matched (fitted-has Matched (record { answer = refl; reply = refl; pack = refl }) room matchedOld (taken-matched matchedOld (rw asks-matched at (tray-asks τ 4 p))))
+      let asks : Asks τ (kind.Transaction f) p matchedOld = rw (asks-matched, transaction-kind f) at (tray-asks τ (formKind f) p) in
+      rw asks-matched (fitted-has Matched (record { answer = refl; reply = refl; pack = refl }) room matchedOld (taken-matched matchedOld asks))
 
 left-eight : {c : Call Tray} → Within trayDid emptyTray c → Eight (c .ran .state)
 left-eight {c} w = rw (running trayDid emptyTray w .state) (end-filled (length (c .room)) (recsOf (c .bytes)) .eight)
@@ -108,5 +112,5 @@ left-eight {c} w = rw (running trayDid emptyTray w .state) (end-filled (length (
 pub slots-as-old : SlotsAsOld
 slots-as-old = record {
   events = λ c w i low n m s room p. did-old (c .ran .state) (left-eight w) i low p n m s room;
-  matched = λ c w i room p reach. did-matched (c .ran .state) (left-eight w) i p reach room;
+  matched = λ c w i room f p reach. did-matched (c .ran .state) (left-eight w) i f p reach room;
 }

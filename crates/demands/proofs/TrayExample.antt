@@ -18,6 +18,7 @@ use Rattle.replies.specs.Reply.{readByte, selectedOf, sourceByte}
 use Rattle.gauge.specs.declared.Gauge.{Gauge}
 use Rattle.gauge.specs.Act.{ranOf, actOf, replyOf}
 use Rattle.pack.specs.Image.{imageOf}
+use Rattle.events.specs.declared.Form.the-variants.{Short}
 use Rattle.events.specs.Record.{addressedOf, orderedOf, judgedAmong}
 use Rattle.runs.specs.Record.{Rec, whole, wholeOf, recOf, sizeOf}
 use Rattle.runs.specs.Run.{Line}
@@ -142,6 +143,7 @@ isolation-met = record {
     differs = images refl refl refl (held refl (here refl refl (held refl none)));
   };
   differ = λ e. let z : _≡_ {A = ℕ} 0 7 = ap (λ (g : Gauge). getD (g .label .shadow) 0 0) e in omega arith;
+  form = Short;
   payload = measured;
   reached = refl;
   away = λ e. omega arith;

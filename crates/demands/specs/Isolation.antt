@@ -7,12 +7,15 @@ use Prim.Native.Nat.{ℕ, zero, suc, _+_}
 use lib.Dec.{eqb}
 use lib.ListN.{length}
 use Rattle.numbers.specs.Choice.{pick, both}
+use Rattle.events.specs.declared.Form.{Form}
 use Rattle.events.specs.Image.{imageAddress}
+use Rattle.events.specs.Record.{limitOf}
 use Rattle.runs.specs.Record.{Rec, whole, kindIn}
 use Rattle.runs.specs.Run.{Line}
 use Rattle.slots.specs.declared.Tray.{Tray}
 use Rattle.slots.specs.Tray.{emptyTray, packOf, slotIn, one, trayDid}
 use Rattle.demands.specs.Call.{Call, Within, gotOf, Stopped, Taking}
+use Rattle.demands.specs.Longer.{formKind}
 use Rattle.demands.specs.Alone.{slotEvent, reachIn}
 
 -- ---- two tray sessions that differ in the slot k
@@ -83,8 +86,9 @@ pub record Isolation : Type 0 where
   pub states : (k : ℕ) (c d : Call Tray) → Twins k c d → Others k (c .ran .state) (d .ran .state)
   -- a transaction that both hold, and the runs that stop before it: where the search matches it to another slot it gets the same answer and reply
   pub replies : (k j : ℕ) (c d : Call Tray) → Within trayDid emptyTray c → Within trayDid emptyTray d
-      → (p : List ℕ) (l m : Line) (a b e f : Call Tray) → Taking trayDid emptyTray c (whole 4 p) l a b → Taking trayDid emptyTray d (whole 4 p) m e f
-      → Twins k a e → reachIn (a .ran .state) p ≡ one j → (j ≡ k → ⊥) → l ≡ m
+      → (x : Form) (p : List ℕ) (l m : Line) (a b e f : Call Tray)
+      → Taking trayDid emptyTray c (whole (formKind x) p) l a b → Taking trayDid emptyTray d (whole (formKind x) p) m e f
+      → Twins k a e → reachIn (a .ran .state) x p ≡ one j → (j ≡ k → ⊥) → l ≡ m
 
 -- and it speaks of something: two such sessions that differ in the slot's pack, and a transaction that is matched to another slot, and done
 pub record IsolationMet : Type 0 where
@@ -94,7 +98,8 @@ pub record IsolationMet : Type 0 where
   pub second : Call Tray
   pub twins : Twins slot first second
   pub differ : packOf (first .ran .state) slot ≡ packOf (second .ran .state) slot → ⊥
+  pub form : Form
   pub payload : List ℕ
-  pub reached : reachIn (first .ran .state) payload ≡ one matched
+  pub reached : reachIn (first .ran .state) form payload ≡ one matched
   pub away : matched ≡ slot → ⊥
-  pub done : trayDid (first .ran .state) 64 (whole 4 payload) .answer ≡ 0
+  pub done : trayDid (first .ran .state) (limitOf form) (whole (formKind form) payload) .answer ≡ 0

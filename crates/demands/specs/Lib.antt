@@ -4,6 +4,7 @@ pub mod Class
 pub mod Demand1
 pub mod Demand2
 pub mod Demand3
+pub mod Longer
 pub mod Alone
 pub mod Slots
 pub mod Isolation

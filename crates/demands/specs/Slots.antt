@@ -3,6 +3,7 @@
 use mathlib.Core.Path.{_≡_}
 use mathlib.Core.List.{List, _∷_}
 use Prim.Native.Nat.{ℕ, _<_}
+use Rattle.events.specs.declared.Form.{Form}
 use Rattle.runs.specs.Record.{whole}
 use Rattle.runs.specs.Run.{Did}
 use Rattle.steps.specs.declared.Session.{Session}
@@ -10,6 +11,7 @@ use Rattle.steps.specs.Step.{loadedWith, didOf}
 use Rattle.slots.specs.declared.Tray.{Tray}
 use Rattle.slots.specs.Tray.{emptyTray, packOf, one, trayDid}
 use Rattle.demands.specs.Call.{Call, Within}
+use Rattle.demands.specs.Longer.{formKind}
 use Rattle.demands.specs.Alone.{reachIn}
 
 -- a kind of a tray, and the old kind
@@ -29,5 +31,5 @@ pub record AsOld (i : ℕ) (d : Did Tray) (f : Did Session) : Type 0 where
 pub record SlotsAsOld : Type 0 where
   pub events : (c : Call Tray) → Within trayDid emptyTray c → (i : ℕ) → i < c .ran .state .count → (n m : ℕ) → Stands n m → (room : ℕ) (p : List ℕ)
       → AsOld i (trayDid (c .ran .state) room (whole n (i ∷ p))) (didOf (loadedWith (packOf (c .ran .state) i)) room (whole m p))
-  pub matched : (c : Call Tray) → Within trayDid emptyTray c → (i room : ℕ) (p : List ℕ) → reachIn (c .ran .state) p ≡ one i
-      → AsOld i (trayDid (c .ran .state) room (whole 4 p)) (didOf (loadedWith (packOf (c .ran .state) i)) room (whole 4 p))
+  pub matched : (c : Call Tray) → Within trayDid emptyTray c → (i room : ℕ) (f : Form) (p : List ℕ) → reachIn (c .ran .state) f p ≡ one i
+      → AsOld i (trayDid (c .ran .state) room (whole (formKind f) p)) (didOf (loadedWith (packOf (c .ran .state) i)) room (whole (formKind f) p))

@@ -2,18 +2,19 @@
 use mathlib.Core.Path.{_≡_, refl, _∙_}
 use mathlib.Core.Bool.{Bool, true, false, not}
 use mathlib.Core.List.{List}
-use Prim.Native.Nat.{ℕ, _-_, _≤_, zero-le}
+use Prim.Native.Nat.{ℕ, _+_, _-_, _≤_, zero-le}
 use native.Mathlib.Omega.{arith}
 use borrow.Author.Tests.{le-ltb, leb-true, eqb-true, not-true}
 use lib.Dec.{leb, eqb, ltb}
-use lib.ListN.{length, getD, drop}
+use lib.ListN.{length, drop}
 use Rattle.numbers.proofs.Bounds.{picked, both-true}
 use Rattle.parts.specs.Parts.{pairAt}
 use Rattle.ticks.specs.declared.Tick.{Tick}
 use Rattle.ticks.specs.Ticks.{timelyOf}
 use Rattle.bus.specs.declared.Transaction.{Transaction}
-use Rattle.bus.specs.Ask.{askedOf}
 use Rattle.bus.proofs.Laws.{asked-placed}
+use Rattle.events.specs.declared.Form.{Form}
+use Rattle.events.specs.declared.Form.the-variants.{Short, Long}
 use Rattle.events.specs.declared.Kind.{Kind}
 use Rattle.events.specs.declared.Kind.the-variants as kind
 use Rattle.events.specs.declared.Refusal.{Refusal}
@@ -23,7 +24,17 @@ use Rattle.events.specs.declared.Event.the-variants.{Image, Change, Tran
 use Rattle.events.specs.declared.Taken.{Taken}
 use Rattle.events.specs.declared.Taken.the-variants.{Run, Refused}
 use Rattle.events.specs.Image.{imageSize, imageAddress, imageBreaks}
-use Rattle.events.specs.Record.{refusalNumber, kindOf, knownOf, sizedOf, dueOf, addressedOf, lockableOf, orderedOf, judgedAmong, judgedOf, transactionOf, eventOf, takenBy, takenOf, eventTimely, timedOf, fittedOf, Mastered}
+use Rattle.events.specs.Record.{refusalNumber, kindOf, knownOf, headOf, limitOf, readCount, sizedOf, dueOf, addressedOf, lockableOf, orderedOf, judgedAmong, judgedOf, transactionIn, transactionOf, eventOf, takenBy, takenOf, eventTimely, timedOf, fittedOf, Mastered}
+
+-- ---- the forms
+
+head-near : (f : Form) → headOf f ≤ 2
+head-near Short = omega arith
+head-near Long = omega arith
+
+limit-few : (f : Form) → limitOf f ≤ 256
+limit-few Short = omega arith
+limit-few Long = omega arith
 
 -- ---- what is taken: refused, or the event of its kind's size at its time
 
@@ -71,25 +82,27 @@ module _ (again loaded : Bool) (p : List ℕ) where
   image-taking (Run (Transact t)) v e l s = absurd v
   image-taking (Refused r) v e l s = tt
 
-  mastered : 1 ≤ length p → getD p 0 0 ≤ 64 → Mastered (askedOf 1 (getD p 0 0) (drop 1 p)) p
-  mastered h few =
-      let a = asked-placed 1 (getD p 0 0) (drop 1 p) in
+  mastered : (f : Form) → headOf f ≤ length p → readCount f p ≤ limitOf f → Mastered (transactionIn f p) p
+  mastered f h few =
+      let a = asked-placed (headOf f) (readCount f p) (drop (headOf f) p) in
       record {
         starts = omega (arith, a .starts);
         within = rw (a .starts) (a .within);
-        near = omega (arith, a .starts);
-        few = omega (arith, a .counts);
+        near = omega (arith, a .starts, head-near f);
+        few = omega (arith, a .counts, limit-few f);
       }
 
-  transaction-taking : 1 ≤ length p → loaded ≡ true → Taking again loaded p (transactionOf p)
-  transaction-taking h l = picked (Taking again loaded p) (leb (getD p 0 0) 64) _ _ (λ few. (l, mastered h (leb-true (getD p 0 0) 64 few))) (λ many. tt)
+  transaction-taking : (f : Form) → headOf f ≤ length p → loaded ≡ true → Taking again loaded p (transactionOf f p)
+  transaction-taking f h l =
+      picked (Taking again loaded p) (leb (readCount f p) (limitOf f)) _ _ (λ few. (l, mastered f h (leb-true (readCount f p) (limitOf f) few))) (λ many. tt)
 
   event-taking : (k : Kind) → sizedOf k (length p) ≡ true → dueOf k loaded ≡ true → Taking again loaded p (eventOf again k p)
   event-taking kind.Image sized due =
       image-taking (judgedAmong again p) (verdict again p) refl (not-true loaded due) (eqb-true (length p) imageSize sized)
   event-taking kind.Reading sized due = due
   event-taking kind.Conversion sized due = due
-  event-taking kind.Transaction sized due = transaction-taking (leb-true 1 (length p) (both-true (leb 1 (length p)) (leb (length p) 65) sized .0)) due
+  event-taking (kind.Transaction f) sized due =
+      transaction-taking f (leb-true (headOf f) (length p) (both-true (leb (headOf f) (length p)) (leb (length p) (headOf f + limitOf f)) sized .0)) due
   event-taking kind.PowerOn sized due = due
   event-taking kind.Sample sized due = due
   event-taking kind.Unknown sized due = tt
@@ -111,7 +124,7 @@ abbrev pub kindSort : Kind → ℕ
 kindSort kind.Image = 0
 kindSort kind.Reading = 1
 kindSort kind.Conversion = 1
-kindSort kind.Transaction = 2
+kindSort (kind.Transaction f) = 2
 kindSort kind.PowerOn = 1
 kindSort kind.Sample = 1
 kindSort kind.Unknown = 3
@@ -136,7 +149,7 @@ module _ (again loaded : Bool) (p : List ℕ) (last : Tick) where
   event-sorted kind.Image = judged-sorted (judgedAmong again p) (verdict again p)
   event-sorted kind.Reading = refl
   event-sorted kind.Conversion = refl
-  event-sorted kind.Transaction = picked (Sorted kind.Transaction) (leb (getD p 0 0) 64) _ _ (λ few. refl) (λ many. tt)
+  event-sorted (kind.Transaction f) = picked (Sorted (kind.Transaction f)) (leb (readCount f p) (limitOf f)) _ _ (λ few. refl) (λ many. tt)
   event-sorted kind.PowerOn = refl
   event-sorted kind.Sample = refl
   event-sorted kind.Unknown = tt
@@ -181,16 +194,17 @@ abbrev pub Stateless : Kind → Type 0
 Stateless kind.Image = Unit
 Stateless kind.Reading = Unit
 Stateless kind.Conversion = Unit
-Stateless kind.Transaction = ⊥
+Stateless (kind.Transaction f) = ⊥
 Stateless kind.PowerOn = Unit
 Stateless kind.Sample = ⊥
 Stateless kind.Unknown = Unit
 
 module _ (last : Tick) (again loaded : Bool) (p : List ℕ) where
-  pub transaction-timely : takenBy again kind.Transaction loaded p ≡ timedOf last (takenBy again kind.Transaction loaded p)
-  transaction-timely =
+  pub transaction-timely : (f : Form) → takenBy again (kind.Transaction f) loaded p ≡ timedOf last (takenBy again (kind.Transaction f) loaded p)
+  transaction-timely f =
       let Timely : Taken → Type 0 = λ t. t ≡ timedOf last t in
-      taken-has again loaded p Timely refl refl refl kind.Transaction (λ sized due. picked Timely (leb (getD p 0 0) 64) _ _ (λ few. refl) (λ many. refl))
+      taken-has again loaded p Timely refl refl refl (kind.Transaction f)
+      (λ sized due. picked Timely (leb (readCount f p) (limitOf f)) _ _ (λ few. refl) (λ many. refl))
 
   module _ (room : ℕ) where
     abbrev Passes : Taken → Type 0
@@ -209,7 +223,7 @@ module _ (last : Tick) (again loaded : Bool) (p : List ℕ) where
     event-passes kind.Image h = verdict-passes (judgedAmong again p) (verdict again p)
     event-passes kind.Reading h = rw no-room refl
     event-passes kind.Conversion h = rw no-room refl
-    event-passes kind.Transaction h = absurd h
+    event-passes (kind.Transaction f) h = absurd h
     event-passes kind.PowerOn h = rw no-room refl
     event-passes kind.Sample h = absurd h
     event-passes kind.Unknown h = refl
@@ -253,7 +267,7 @@ plain-event kind.Image p =
     (λ a. omega arith)
 plain-event kind.Reading p = tt
 plain-event kind.Conversion p = tt
-plain-event kind.Transaction p = picked (NumberedTo 11) (leb (getD p 0 0) 64) _ _ (λ few. tt) (λ many. omega arith)
+plain-event (kind.Transaction f) p = picked (NumberedTo 11) (leb (readCount f p) (limitOf f)) _ _ (λ few. tt) (λ many. omega arith)
 plain-event kind.PowerOn p = tt
 plain-event kind.Sample p = tt
 plain-event kind.Unknown p = omega arith

@@ -14,6 +14,8 @@ use Rattle.crc.specs.Crc.{crcOf}
 use Rattle.params.specs.declared.Breaks.{Breaks}
 use Rattle.bus.specs.declared.Transaction.{Transaction}
 use Rattle.bus.specs.Ask.{askedOf}
+use Rattle.events.specs.declared.Form.{Form}
+use Rattle.events.specs.declared.Form.the-variants.{Short, Long}
 use Rattle.events.specs.declared.Kind.{Kind}
 use Rattle.events.specs.declared.Kind.the-variants as kind
 use Rattle.events.specs.declared.Refusal.{Refusal}
@@ -51,26 +53,45 @@ kindOf n =
     pick (eqb n 1) kind.Image
     (pick (eqb n 2) kind.Reading
     (pick (eqb n 3) kind.Conversion
-    (pick (eqb n 4) kind.Transaction
+    (pick (eqb n 4) (kind.Transaction Short)
     (pick (eqb n 5) kind.PowerOn
-    (pick (eqb n 6) kind.Sample kind.Unknown)))))
+    (pick (eqb n 6) kind.Sample
+    (pick (eqb n 7) (kind.Transaction Long) kind.Unknown))))))
 
--- 3: kind not 1 to 6
+-- 3: kind not 1 to 7
 abbrev pub knownOf : Kind → Bool
 knownOf kind.Image = true
 knownOf kind.Reading = true
 knownOf kind.Conversion = true
-knownOf kind.Transaction = true
+knownOf (kind.Transaction f) = true
 knownOf kind.PowerOn = true
 knownOf kind.Sample = true
 knownOf kind.Unknown = false
 
--- 4: payload not 60, 8, 4, 1 to 65, 0, 6 bytes for kinds 1 to 6
+-- ---- the two forms of a transaction: up to 64 bytes in kind 4, "up to 256" in kind 7
+
+-- "read count 1 byte", "a two-byte read count"
+abbrev pub headOf : Form → ℕ
+headOf Short = 1
+headOf Long = 2
+
+-- how many bytes are read at most, and how many master bytes there are at most
+abbrev pub limitOf : Form → ℕ
+limitOf Short = 64
+limitOf Long = 256
+
+abbrev pub readCount : Form → List ℕ → ℕ
+readCount Short p = getD p 0 0
+readCount Long p = pairAt p 0
+
+-- ---- size and order
+
+-- 4: payload not 60, 8, 4, 1 to 65, 0, 6, 2 to 258 bytes for kinds 1 to 7
 abbrev pub sizedOf : Kind → ℕ → Bool
 sizedOf kind.Image n = eqb n imageSize
 sizedOf kind.Reading n = eqb n 8
 sizedOf kind.Conversion n = eqb n 4
-sizedOf kind.Transaction n = both (leb 1 n) (leb n 65)
+sizedOf (kind.Transaction f) n = both (leb (headOf f) n) (leb n (headOf f + limitOf f))
 sizedOf kind.PowerOn n = eqb n 0
 sizedOf kind.Sample n = eqb n 6
 sizedOf kind.Unknown n = false
@@ -80,7 +101,7 @@ abbrev pub dueOf : Kind → Bool → Bool
 dueOf kind.Image loaded = not loaded
 dueOf kind.Reading loaded = loaded
 dueOf kind.Conversion loaded = loaded
-dueOf kind.Transaction loaded = loaded
+dueOf (kind.Transaction f) loaded = loaded
 dueOf kind.PowerOn loaded = loaded
 dueOf kind.Sample loaded = loaded
 dueOf kind.Unknown loaded = false
@@ -127,16 +148,20 @@ countAt p at = offset32Of (quadAt p at)
 abbrev pub masterOf : Transaction → List ℕ → List ℕ
 masterOf t p = drop (t .start) p
 
--- a read count of one byte, and then the master bytes. 8: read count above 64
-abbrev pub transactionOf : List ℕ → Taken
-transactionOf p = pick (leb (getD p 0 0) 64) (Run (Transact (askedOf 1 (getD p 0 0) (drop 1 p)))) (Refused refusal.Count)
+-- a read count, and then the master bytes
+abbrev pub transactionIn : Form → List ℕ → Transaction
+transactionIn f p = askedOf (headOf f) (readCount f p) (drop (headOf f) p)
+
+-- 8: read count above 64, in kind 7 above 256
+abbrev pub transactionOf : Form → List ℕ → Taken
+transactionOf f p = pick (leb (readCount f p) (limitOf f)) (Run (Transact (transactionIn f p))) (Refused refusal.Count)
 
 -- the event of a record of its kind's size, at its time; of an image by whether another pack has its address
 abbrev pub eventOf : Bool → Kind → List ℕ → Taken
 eventOf again kind.Image p = judgedAmong again p
 eventOf again kind.Reading p = Run (Change (change.Reading (countAt p 0) (countAt p 4)))
 eventOf again kind.Conversion p = Run (Change (change.Conversion (countAt p 0)))
-eventOf again kind.Transaction p = transactionOf p
+eventOf again (kind.Transaction f) p = transactionOf f p
 eventOf again kind.PowerOn p = Run (Change change.PowerOn)
 eventOf again kind.Sample p = Run (Change (change.Sample (countAt p 0) (pairAt p 4)))
 eventOf again kind.Unknown p = Refused refusal.Kind
@@ -190,8 +215,8 @@ fittedOf room (Refused r) = Refused r
 pub record Mastered (t : Transaction) (p : List ℕ) : Type 0 where
   pub starts : t .start ≤ length p
   pub within : t .from ≤ length (masterOf t p)
-  pub near : t .start ≤ 1
-  pub few : t .count ≤ 64
+  pub near : t .start ≤ 2
+  pub few : t .count ≤ 256
 
 abbrev pub Fitting : Event → List ℕ → Type 0
 Fitting Image p = length p ≡ imageSize

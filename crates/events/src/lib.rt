@@ -4,8 +4,9 @@ use params::Breaks;
 use ticks::Tick;
 ghost use mathlib.Core.Bool.{false};
 ghost use mathlib.Core.Path.{_≡_};
+ghost use Prim.Native.Nat.{_≤_};
 ghost use lib.ListN.{length};
-ghost use Rattle.events.specs.Record.{numberOf, kindOf, addressedOf, orderedOf, judgedAmong, judgedOf, takenBy, takenOf, timedOf, fittedOf};
+ghost use Rattle.events.specs.Record.{numberOf, kindOf, headOf, limitOf, readCount, addressedOf, orderedOf, judgedAmong, judgedOf, takenBy, takenOf, timedOf, fittedOf};
 
 // The pack image: its size, and where its parts stand.
 pub const IMAGE_SIZE: usize = 60;
@@ -22,12 +23,18 @@ pub const AGING_AT: usize = 58;
 
 pub const LOCKS_AT: usize = 59;
 
+// The two forms of a transaction: a read count of one byte, or of two bytes and with longer limits.
+pub enum Form {
+    Short,
+    Long,
+}
+
 // The kinds of a record.
 pub enum Kind {
     Image,
     Reading,
     Conversion,
-    Transaction,
+    Transaction(Form),
     PowerOn,
     Sample,
     Unknown,
@@ -96,9 +103,10 @@ fn kind_of(n: u16) -> Kind
         1 => Kind::Image,
         2 => Kind::Reading,
         3 => Kind::Conversion,
-        4 => Kind::Transaction,
+        4 => Kind::Transaction(Form::Short),
         5 => Kind::PowerOn,
         6 => Kind::Sample,
+        7 => Kind::Transaction(Form::Long),
         _ => Kind::Unknown,
     }
 }
@@ -192,25 +200,60 @@ fn conversion_taken(loaded: bool, p: &[u8]) -> Taken
     Taken::Refused(Refusal::Order)
 }
 
-// The read count, which the room that is left must hold, and what the master bytes after it ask.
-fn transaction_taken(loaded: bool, room: usize, p: &[u8]) -> Taken
-    ensures { λ r. ⌜ r ≡ fittedOf room (takenBy false Kind.Transaction loaded (now (p .entry))) ⌝ }
+// How many bytes the read count of a form has.
+fn head(f: Form) -> usize
+    ensures { λ r. ⌜ r ≡ headOf f ⌝ }
+    ensures small { λ r. ⌜ r ≤ 2 ⌝ }
 {
-    if p.len() < 1 {
+    match f {
+        Form::Short => 1,
+        Form::Long => 2,
+    }
+}
+
+// How many bytes are read in a form at most, and how many the master sends.
+fn limit(f: Form) -> usize
+    ensures { λ r. ⌜ r ≡ limitOf f ⌝ }
+    ensures small { λ r. ⌜ r ≤ 256 ⌝ }
+{
+    match f {
+        Form::Short => 64,
+        Form::Long => 256,
+    }
+}
+
+fn read_count(f: Form, p: &[u8]) -> u16
+    requires { ⌜ headOf f ≤ length (now p) ⌝ }
+    ensures { λ r. ⌜ r ≡ readCount f (now (p .entry)) ⌝ }
+{
+    match f {
+        Form::Short => parts::wide(p[0]) as u16,
+        Form::Long => parts::pair(p, 0),
+    }
+}
+
+// The read count, which the room that is left must hold, and what the master bytes after it ask.
+fn transaction_taken(f: Form, loaded: bool, room: usize, p: &[u8]) -> Taken
+    ensures { λ r. ⌜ r ≡ fittedOf room (takenBy false (Kind.Transaction f) loaded (now (p .entry))) ⌝ }
+{
+    let start = head(f);
+    let most = limit(f);
+    if p.len() < start {
         return Taken::Refused(Refusal::Size);
     }
-    if 65 < p.len() {
+    if start + most < p.len() {
         return Taken::Refused(Refusal::Size);
     }
     if loaded {
-        let count = p[0];
-        if 64 < count {
+        let count = read_count(f, p);
+        let n = count as usize;
+        if most < n {
             return Taken::Refused(Refusal::Count);
         }
-        if room < count as usize {
+        if room < n {
             return Taken::Refused(Refusal::Room);
         }
-        let t = bus::asked(1, count as u16, &p[1..]);
+        let t = bus::asked(start as u32, count, &p[start..]);
         return Taken::Run(Event::Transact(t));
     }
     Taken::Refused(Refusal::Order)
@@ -256,7 +299,7 @@ pub fn fitted_by(k: Kind, again: bool, loaded: bool, last: Tick, room: usize, p:
         Kind::Image => image_taken(again, loaded, p),
         Kind::Reading => reading_taken(loaded, p),
         Kind::Conversion => conversion_taken(loaded, p),
-        Kind::Transaction => transaction_taken(loaded, room, p),
+        Kind::Transaction(f) => transaction_taken(f, loaded, room, p),
         Kind::PowerOn => power_on_taken(loaded, p),
         Kind::Sample => sample_taken(loaded, last, p),
         Kind::Unknown => Taken::Refused(Refusal::Kind),

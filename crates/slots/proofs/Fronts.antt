@@ -3,11 +3,11 @@
 use mathlib.Core.Path.{_≡_, refl, sym, ap, subst, _∙_}
 use mathlib.Core.Bool.{Bool, true, false}
 use mathlib.Core.List.{List}
-use Prim.Native.Nat.{ℕ, _+_, _-_, _≤_, _<_, min}
+use Prim.Native.Nat.{ℕ, _+_, _-_, _≤_, _<_}
 use native.Mathlib.Omega.{arith}
 use borrow.Author.Tests.{eqb-true, leb-true, ltb-true, ltb-false, le-ltb, lt-ltb}
 use lib.Dec.{ltb, leb, eqb}
-use lib.ListN.{length, getD, take, drop, length-take, length-drop}
+use lib.ListN.{length, getD, drop, length-take, length-drop}
 use lib.Seq.{getD-take, getD-drop, take-take}
 use Rattle.numbers.specs.Choice.{pick}
 use Rattle.numbers.proofs.Bounds.{picked}
@@ -62,9 +62,9 @@ module _ (room count : ℕ) (closed : Bool) (p : List ℕ) (again again′ : Boo
     by-kind kind.Image h i = stateless kind.Image tt (sized-image (eqb (length p) imageSize) refl (i refl))
     by-kind kind.Reading h i = stateless kind.Reading tt refl
     by-kind kind.Conversion h i = stateless kind.Conversion tt refl
-    by-kind kind.Transaction h i =
-        let loaded = acceptedFor count closed kind.Transaction p in
-        ap (fittedOf room) (sym (transaction-timely last again loaded p) ∙ transaction-timely last′ again′ loaded p)
+    by-kind (kind.Transaction f) h i =
+        let loaded = acceptedFor count closed (kind.Transaction f) p in
+        ap (fittedOf room) (sym (transaction-timely last again loaded p f) ∙ transaction-timely last′ again′ loaded p f)
     by-kind kind.PowerOn h i = stateless kind.PowerOn tt refl
     by-kind kind.Sample h i = sampled (ltb (slotIn p) count) refl (slot h)
     by-kind kind.Unknown h i = stateless kind.Unknown tt refl
@@ -83,7 +83,7 @@ abbrev Other : Kind → Type 0
 Other kind.Image = ⊥
 Other kind.Reading = Unit
 Other kind.Conversion = Unit
-Other kind.Transaction = Unit
+Other (kind.Transaction f) = Unit
 Other kind.PowerOn = Unit
 Other kind.Sample = Unit
 Other kind.Unknown = Unit
@@ -97,9 +97,10 @@ unfolding trayKindOf
 image-one n e =
     first-of (eqb n 1) _
     (picked Other (eqb n 4) _ _ (λ a. tt)
-    (λ a. picked Other (eqb n 18) _ _ (λ b. tt)
-    (λ b. picked Other (eqb n 19) _ _ (λ c. tt)
-    (λ c. picked Other (eqb n 21) _ _ (λ d. tt) (λ d. picked Other (eqb n 22) _ _ (λ f. tt) (λ f. tt))))))
+    (λ a. picked Other (eqb n 7) _ _ (λ b. tt)
+    (λ b. picked Other (eqb n 18) _ _ (λ c. tt)
+    (λ c. picked Other (eqb n 19) _ _ (λ d. tt)
+    (λ d. picked Other (eqb n 21) _ _ (λ f. tt) (λ f. picked Other (eqb n 22) _ _ (λ g. tt) (λ g. tt)))))))
     e
 
 -- ---- the slot that is named

@@ -1,11 +1,11 @@
 -- A transaction that every pack hears, pack by pack.
-use mathlib.Core.Path.{_≡_, refl, sym, ap, subst, _∙_}
+use mathlib.Core.Path.{_≡_, refl, sym, ap, _∙_}
 use mathlib.Core.List.{List, _++_}
 use Prim.Native.Nat.{ℕ, zero, suc, _+_, _≤_, _<_, zero-le}
 use native.Mathlib.Omega.{arith}
 use native.Mathlib.Numerals.{add-one}
-use lib.ListN.{length, getD, take, drop, length-append, length-drop}
-use lib.Seq.{take-at, drop-at, length-take-le}
+use lib.ListN.{length, getD, take, drop, length-append}
+use lib.Seq.{drop-at, length-take-le}
 use Rattle.bus.specs.declared.Transaction.{Transaction}
 use Rattle.label.specs.declared.Common.{Common}
 use Rattle.label.specs.declared.Label.{Label}
@@ -21,7 +21,7 @@ use Rattle.events.specs.Record.{masterOf, asksOf}
 use Rattle.steps.proofs.Steps.{Replying, reply-length}
 use Rattle.slots.specs.declared.Tray.{Tray}
 use Rattle.slots.specs.Wire.{andBytes}
-use Rattle.slots.specs.Tray.{noGauge, packOf, storedOf, actedFirst, wiredFirst, Reach, one, every, trayReach, trayReply, trayEvent, ofTray, TrayWF}
+use Rattle.slots.specs.Tray.{packOf, storedOf, actedFirst, wiredFirst, Reach, one, every, trayReach, trayReply, trayEvent, ofTray, TrayWF}
 use Rattle.slots.proofs.Anded.{and-front, and-length}
 use Rattle.slots.proofs.Laws.{pack-is, stored-wf, stored-other}
 

@@ -1,5 +1,5 @@
 -- What a record that a tray takes has: an image comes while there is room for it, a slot's event names a pack, a transaction has its bytes.
-use mathlib.Core.Path.{_≡_, refl, sym, ap, subst, _∙_}
+use mathlib.Core.Path.{_≡_, refl, sym, subst, _∙_}
 use mathlib.Core.Bool.{Bool, true, false}
 use mathlib.Core.List.{List}
 use Prim.Native.Nat.{ℕ, _≤_, _<_}
@@ -17,7 +17,7 @@ use Rattle.events.specs.declared.Taken.{Taken}
 use Rattle.events.specs.declared.Taken.the-variants.{Run, Refused}
 use Rattle.events.specs.Image.{imageSize}
 use Rattle.events.specs.Record.{judgedOf, takenBy, timedOf, Mastered}
-use Rattle.events.proofs.Fits.{Taking, timed-by, kindSort, eventSort, Sorted, sorted-by, judged-alone}
+use Rattle.events.proofs.Fits.{Taking, timed-by, kindSort, Sorted, sorted-by, judged-alone}
 use Rattle.slots.specs.declared.Tray.{Tray}
 use Rattle.slots.specs.Tray.{trayKindOf, aheadOf, slotIn, acceptedFor, trayAskedBy, againOf, slotTick, trayTold}
 
@@ -32,16 +32,16 @@ module _ (count : ℕ) (closed : Bool) (p : List ℕ) where
   image-kind kind.Image e = refl
   image-kind kind.Reading e = absurd (omega arith)
   image-kind kind.Conversion e = absurd (omega arith)
-  image-kind kind.Transaction e = absurd (omega arith)
+  image-kind (kind.Transaction f) e = absurd (omega arith)
   image-kind kind.PowerOn e = absurd (omega arith)
   image-kind kind.Sample e = absurd (omega arith)
   image-kind kind.Unknown e = absurd (omega arith)
 
-  transaction-kind : (k : Kind) → 2 ≡ kindSort k → k ≡ kind.Transaction
+  transaction-kind : (k : Kind) → 2 ≡ kindSort k → (acceptedFor count closed k p ≡ ltb 0 count) × (aheadOf k ≡ 0)
   transaction-kind kind.Image e = absurd (omega arith)
   transaction-kind kind.Reading e = absurd (omega arith)
   transaction-kind kind.Conversion e = absurd (omega arith)
-  transaction-kind kind.Transaction e = refl
+  transaction-kind (kind.Transaction f) e = (refl, refl)
   transaction-kind kind.PowerOn e = absurd (omega arith)
   transaction-kind kind.Sample e = absurd (omega arith)
   transaction-kind kind.Unknown e = absurd (omega arith)
@@ -50,7 +50,7 @@ module _ (count : ℕ) (closed : Bool) (p : List ℕ) where
   slot-kind kind.Image e h a = absurd (omega arith)
   slot-kind kind.Reading e h a = (h, ltb-true (slotIn p) count a)
   slot-kind kind.Conversion e h a = (h, ltb-true (slotIn p) count a)
-  slot-kind kind.Transaction e h a = absurd (omega arith)
+  slot-kind (kind.Transaction f) e h a = absurd (omega arith)
   slot-kind kind.PowerOn e h a = (h, ltb-true (slotIn p) count a)
   slot-kind kind.Sample e h a = (h, ltb-true (slotIn p) count a)
   slot-kind kind.Unknown e h a = absurd (omega arith)
@@ -77,8 +77,7 @@ module _ (count : ℕ) (closed : Bool) (p : List ℕ) where
   by-event again k h (Run (Change c)) s x = slot-kind k s h x
   by-event again k h (Run (Transact t)) s x =
       let e = transaction-kind k s in
-      let y = subst (λ (j : Kind). Taking again (acceptedFor count closed j p) (drop (aheadOf j) p) (Run (Transact t))) e x in
-      (ltb-true 0 count (y .0), y .1)
+      (ltb-true 0 count (sym (e .0) ∙ x .0), rw (e .1) at (x .1))
   by-event again k h (Refused r) s x = tt
 
   asked-taking : (again : Bool) (last : Tick) (k : Kind) → TrayTaking again (trayAskedBy count closed again last k p)

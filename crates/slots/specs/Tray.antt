@@ -13,14 +13,13 @@ use Rattle.bus.specs.declared.Rom.the-variants as rom
 use Rattle.bus.specs.declared.Transaction.{Transaction}
 use Rattle.bus.specs.Ask.{sameBytes}
 use Rattle.label.specs.declared.Common.{Common}
-use Rattle.label.specs.declared.Label.{Label}
-use Rattle.meter.specs.declared.Meter.{Meter}
 use Rattle.replies.specs.Reply.{listed}
 use Rattle.gauge.specs.declared.Gauge.{Gauge}
 use Rattle.gauge.specs.Gauge.{GaugeWF}
 use Rattle.gauge.specs.Change.{changedOf}
 use Rattle.gauge.specs.Act.{actOf, replyOf}
 use Rattle.pack.specs.Image.{imageOf}
+use Rattle.events.specs.declared.Form.the-variants.{Short, Long}
 use Rattle.events.specs.declared.Kind.{Kind}
 use Rattle.events.specs.declared.Kind.the-variants as kind
 use Rattle.events.specs.declared.Refusal.the-variants as refusal
@@ -102,22 +101,23 @@ isFound Nowhere = false
 
 -- ---- what a record asks
 
--- "Readings, conversions, kind 6 samples and power-ons come as kinds 18, 19, 22 and 21". 3: "any kind but 1, 4, 18, 19, 21, 22"
+-- "Readings, conversions, kind 6 samples and power-ons come as kinds 18, 19, 22 and 21". 3: "any kind but 1, 4, 18, 19, 21, 22", and no longer kind 7
 unfoldable pub trayKindOf : ℕ → Kind
 trayKindOf n =
     pick (eqb n 1) kind.Image
-    (pick (eqb n 4) kind.Transaction
+    (pick (eqb n 4) (kind.Transaction Short)
+    (pick (eqb n 7) (kind.Transaction Long)
     (pick (eqb n 18) kind.Reading
     (pick (eqb n 19) kind.Conversion
     (pick (eqb n 21) kind.PowerOn
-    (pick (eqb n 22) kind.Sample kind.Unknown)))))
+    (pick (eqb n 22) kind.Sample kind.Unknown))))))
 
 -- "with a slot byte ahead of the old payload"
 abbrev pub aheadOf : Kind → ℕ
 aheadOf kind.Image = 0
 aheadOf kind.Reading = 1
 aheadOf kind.Conversion = 1
-aheadOf kind.Transaction = 0
+aheadOf (kind.Transaction f) = 0
 aheadOf kind.PowerOn = 1
 aheadOf kind.Sample = 1
 aheadOf kind.Unknown = 0
@@ -131,7 +131,7 @@ abbrev pub acceptedFor : ℕ → Bool → Kind → List ℕ → Bool
 acceptedFor count closed kind.Image p = either closed (leb 8 count)
 acceptedFor count closed kind.Reading p = ltb (slotIn p) count
 acceptedFor count closed kind.Conversion p = ltb (slotIn p) count
-acceptedFor count closed kind.Transaction p = ltb 0 count
+acceptedFor count closed (kind.Transaction f) p = ltb 0 count
 acceptedFor count closed kind.PowerOn p = ltb (slotIn p) count
 acceptedFor count closed kind.Sample p = ltb (slotIn p) count
 acceptedFor count closed kind.Unknown p = false

@@ -1,6 +1,7 @@
 // One record of a tray, read; the search over its packs; and a transaction that every pack hears.
 use bus::Rom;
 use bus::Transaction;
+use events::Form;
 use events::IMAGE_SIZE;
 use events::Kind;
 use events::Refusal;
@@ -87,7 +88,8 @@ fn kind_of(n: u16) -> Kind
 {
     match n {
         1 => Kind::Image,
-        4 => Kind::Transaction,
+        4 => Kind::Transaction(Form::Short),
+        7 => Kind::Transaction(Form::Long),
         18 => Kind::Reading,
         19 => Kind::Conversion,
         21 => Kind::PowerOn,
@@ -105,7 +107,7 @@ fn ahead(k: Kind) -> usize
         Kind::Image => 0,
         Kind::Reading => 1,
         Kind::Conversion => 1,
-        Kind::Transaction => 0,
+        Kind::Transaction(_) => 0,
         Kind::PowerOn => 1,
         Kind::Sample => 1,
         Kind::Unknown => 0,
@@ -121,7 +123,7 @@ fn accepted(k: Kind, count: u8, closed: bool, p: &[u8]) -> bool
         Kind::Image => numbers::or(closed, 8 <= count),
         Kind::Reading => p[0] < count,
         Kind::Conversion => p[0] < count,
-        Kind::Transaction => 0 < count,
+        Kind::Transaction(_) => 0 < count,
         Kind::PowerOn => p[0] < count,
         Kind::Sample => p[0] < count,
         Kind::Unknown => false,
@@ -234,14 +236,14 @@ fn wire(reply: &[u8], room: &mut [u8])
 // A pack that hears a transaction with others: its reply joins theirs at the front of the room.
 fn heard(g: Gauge, t: Transaction, master: &[u8], room: &mut [u8]) -> Gauge
     requires { ⌜ GaugeWF g ⌝ }
-    requires { ⌜ t .count ≤ 64 ⌝ }
+    requires { ⌜ t .count ≤ 256 ⌝ }
     requires { ⌜ t .count ≤ length (now room) ⌝ }
     ensures { λ r. ⌜ r ≡ actOf g t (now (master .entry)) ⌝ }
     ensures replied { λ r. ⌜ now (room .exit) ≡ andBytes (now (room .entry)) (replyOf g t (now (master .entry))) ⌝ }
     ensures kept { λ r. ⌜ GaugeWF r ⌝ }
 {
     let n = t.count as usize;
-    let mut reply = [0u8; 64];
+    let mut reply = [0u8; 256];
     let h = g.transact(t, master, &mut reply);
     wire(&reply[..n], room);
     h
@@ -250,7 +252,7 @@ fn heard(g: Gauge, t: Transaction, master: &[u8], room: &mut [u8]) -> Gauge
 // Each pack carries the transaction out by itself; their replies go to the front of the room as one.
 fn every(mut tray: Tray, t: Transaction, master: &[u8], room: &mut [u8]) -> Tray
     requires { ⌜ TrayWF tray ⌝ }
-    requires { ⌜ t .count ≤ 64 ⌝ }
+    requires { ⌜ t .count ≤ 256 ⌝ }
     requires { ⌜ t .count ≤ length (now room) ⌝ }
     ensures { λ r. ⌜ r ≡ actedFirst t (now (master .entry)) tray (tray .count) ⌝ }
     ensures replied { λ r. ⌜ now (room .exit) ≡ wiredFirst t (now (master .entry)) tray (tray .count) ++ drop (t .count) (now (room .entry)) ⌝ }
@@ -328,7 +330,7 @@ fn one(mut tray: Tray, slot: u8, t: Transaction, master: &[u8], room: &mut [u8])
 // A transaction: its reply goes to the front of the room, exactly its read count of bytes.
 pub fn transacted(tray: Tray, t: Transaction, master: &[u8], room: &mut [u8]) -> Tray
     requires { ⌜ TrayWF tray ⌝ }
-    requires { ⌜ t .count ≤ 64 ⌝ }
+    requires { ⌜ t .count ≤ 256 ⌝ }
     requires { ⌜ t .count ≤ length (now room) ⌝ }
     ensures { λ r. ⌜ r ≡ trayActed t (now (master .entry)) (trayReach tray t (now (master .entry))) tray ⌝ }
     ensures replied { λ r. ⌜ now (room .exit) ≡ trayReply t (now (master .entry)) (trayReach tray t (now (master .entry))) tray ++ drop (t .count) (now (room .entry)) ⌝ }

@@ -1,5 +1,5 @@
 """Transactions: first bytes, commands, addresses, blocks and locks."""
-from builder import CONTROL, COPY, EDGES, LOCK, READ, RECALL, SESSION_LIMIT, TBP34, WRITE, Session, profile, scene, some
+from builder import CONTROL, COPY, EDGES, LOCK, LONG_TRANSACTION, READ, RECALL, SESSION_LIMIT, TBP34, TRANSACTION, WRITE, Session, profile, scene, some
 from scenes.pack import breakpoints, in_order, start, temperature
 
 
@@ -28,7 +28,7 @@ def any_transaction(session):
     master = any_selection(session) + some(chance, command + bytes([any_address(chance)]) + data,
                                            command + bytes([any_address(chance)]) + data,
                                            command + bytes([any_address(chance)]), command, b"")
-    session.transaction(count, master[:64])
+    session.transaction(count, master[:64], LONG_TRANSACTION if chance.random() < 0.2 else TRANSACTION)
 
 
 def any_event(session):

@@ -1,7 +1,7 @@
 """Bytes that are no session of anyone's making, and sessions of a certain size."""
 from builder import (
-    CONVERSION, COPY, FINISH_BYTES, LOCK, READ, READING, RECALL, SESSION_LIMIT, SIZES, TRANSACTION, WRITE, Session, boundaries,
-    profile, some, unknown)
+    CONVERSION, COPY, FINISH_BYTES, LOCK, LONG_TRANSACTION, READ, READING, RECALL, SESSION_LIMIT, SIZES, TRANSACTION, WRITE, Session, boundaries,
+    little, profile, some, unknown)
 from scenes.bus import any_event, bus
 from scenes.charge import walk
 from scenes.pack import battery, start
@@ -22,8 +22,10 @@ def rubbish(chance):
         if kind == TRANSACTION and size > 3 and chance.random() < 0.7:
             payload[0] %= 66
             payload[1:3] = bytes([0xCC, chance.choice([READ, WRITE, COPY, RECALL, LOCK])])
+        if kind == LONG_TRANSACTION and size > 4 and chance.random() < 0.7:
+            payload[0:4] = little(chance.randrange(258), 2) + bytes([0xCC, chance.choice([READ, WRITE, COPY, RECALL, LOCK])])
         session.add(kind, payload)
-        if not session.room_for(200):
+        if not session.room_for(400):
             break
     return session.finish() + (cut(chance) if chance.random() < 0.5 else b"")
 

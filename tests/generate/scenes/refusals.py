@@ -1,6 +1,6 @@
 """Records that are refused, and a reply room that is used up."""
 from builder import (
-    CONVERSION, IMAGE, POWER_ON, READING, REPLY_ROOM, SAMPLE, TRANSACTION, WRITE, Session, crc, profile, record, some, unknown)
+    CONVERSION, IMAGE, LONG_TRANSACTION, POWER_ON, READING, REPLY_ROOM, SAMPLE, TRANSACTION, WRITE, Session, crc, little, profile, record, some, unknown)
 from scenes.bus import any_event, any_transaction
 from scenes.pack import battery, start
 
@@ -41,6 +41,10 @@ def wrong_record(session):
          lambda: session.add(TRANSACTION, b""),
          lambda: session.add(TRANSACTION, chance.randbytes(chance.choice([66, 67, 100]))),
          lambda: session.add(TRANSACTION, bytes([200]) + bytes(65)),
+         lambda: session.add(LONG_TRANSACTION, chance.randbytes(chance.choice([0, 1, 1, 259, 259, 260, 300]))),
+         lambda: session.add(LONG_TRANSACTION, little(chance.choice([0, 300]), 2) + bytes(257)),
+         lambda: session.transaction(chance.choice([257, 258, 320, 0x0101, 0x4000, 0xFF00, 0xFFFF]),
+                                     chance.choice([b"", b"\xCC\x69\x00", b"\xCC\x6C\x10\x12\x34"]), LONG_TRANSACTION),
          lambda: session.add(POWER_ON, chance.randbytes(chance.choice([1, 4, 60]))),
          lambda: session.add(SAMPLE, chance.randbytes(chance.choice([0, 4, 5, 7, 7, 8, 60]))),
          lambda: session.sample(chance.randint(-33000, 33000), chance.choice([0, 65, 66, 300, 32768, 65535])),
@@ -58,6 +62,7 @@ def early_event(session):
          lambda: session.conversion(-5000),
          lambda: session.sample(-5000, 1),
          lambda: session.add(TRANSACTION, bytes([chance.choice([0, 8, 64, 65, 200])]) + b"\xCC\x69\x00"),
+         lambda: session.add(LONG_TRANSACTION, little(chance.choice([0, 8, 256, 257, 0x0400]), 2) + b"\xCC\x69\x00"),
          lambda: session.power_on())
 
 
@@ -78,7 +83,7 @@ def refusals(chance):
     for _ in range(chance.randint(50, 250)):
         some(chance, lambda: wrong_record(session), lambda: wrong_record(session), lambda: any_event(session),
              lambda: any_transaction(session), lambda: session.image(), lambda: session.registers())
-        if not session.room_for(1000):
+        if not session.room_for(1500):
             break
     return session.finish() + (cut(chance) if chance.random() < 0.7 else b"")
 
@@ -90,18 +95,20 @@ def room(chance):
     battery(session)
     start(session)
     usual = chance.choice([64, 64, 63, 48, 40])
-    while session.room > 0 and session.room_for(300):
+    while session.room > 0 and session.room_for(600):
         count = usual if session.room > 600 else chance.randrange(65)
         if chance.random() < 0.1:
             count = chance.randrange(66)
         some(chance,
              lambda: session.read(chance.choice([0x00, 0x60, 0xF0, chance.randrange(256)]), count),
              lambda: session.read(0x00, count),
+             lambda: session.read(0x00, count * chance.choice([1, 1, 3, 4]), LONG_TRANSACTION),
              lambda: session.transaction(count, chance.choice([b"", b"\x33", b"\x39", b"\xA5"])))
         if chance.random() < 0.02:
             any_event(session)
     for count in [chance.randrange(65) for _ in range(8)] + [1, 0, 65, 0]:
         session.read(0x01, count)
+        session.read(0x01, chance.choice([count, count + 60, 256, 257, 300]), LONG_TRANSACTION)
         any_event(session)
         session.transaction(chance.choice([0, count]), session.select() + bytes([WRITE, 0x10]) + chance.randbytes(2))
         any_event(session)

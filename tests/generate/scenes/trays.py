@@ -1,7 +1,7 @@
 """Trays: up to eight packs on one line, what opens and closes a tray, events by slot, and transactions to one pack, to all and to nobody."""
 from builder import (
-    CONTROL, CONVERSION, COPY, IMAGE, LOCK, POWER_ON, READ, READING, RECALL, SAMPLE, SESSION_LIMIT, SLOTS, TBP34, TRANSACTION, TRAY_SIZES, WRITE,
-    Tray, boundaries, crc, play, record, some, tray_profile, tray_unknown)
+    CONTROL, CONVERSION, COPY, IMAGE, LOCK, LONG_TRANSACTION, POWER_ON, READ, READING, RECALL, SAMPLE, SESSION_LIMIT, SLOT_KINDS, SLOTS, TBP34, TRANSACTION,
+    TRAY_SIZES, WRITE, Tray, boundaries, crc, little, play, record, some, tray_profile, tray_unknown)
 from scenes.bus import (
     acr_writes, any_event, any_transaction, block_dance, lock_dance, net_address_dance, past_the_end, status_dance)
 from scenes.pack import battery, in_order, temperature
@@ -111,19 +111,23 @@ def unknown_record(tray):
     tray.records += record(kind, slot + chance.randbytes(sizes.get(kind, chance.choice([0, 1, 4, 5, 9, 60]))))
 
 
-def long_count(tray):
+def count_too_large(tray):
     chance = tray.chance
-    tray.everyone.transaction(chance.choice([65, 66, 100, 200, 255]), chance.choice([b"", b"\xCC\x69\x00", b"\xCC\x6C\x10\x12\x34"]))
+    count, kind = some(chance, lambda: (chance.choice([65, 66, 100, 200, 255]), TRANSACTION), lambda: (chance.choice([257, 258, 0x4001, 0xFFFF]), LONG_TRANSACTION))
+    tray.everyone.transaction(count, chance.choice([b"", b"\xCC\x69\x00", b"\xCC\x6C\x10\x12\x34"]), kind)
 
 
-def long_transaction(tray):
+def missized_transaction(tray):
     chance = tray.chance
-    tray.everyone.add(TRANSACTION, chance.choice([b"", bytes([0]) + bytes(65), bytes([200, 0xCC]) + bytes(64), bytes([1]) + chance.randbytes(70)]))
+    tray.everyone.add(*some(
+        chance,
+        lambda: (TRANSACTION, chance.choice([b"", bytes([0]) + bytes(65), bytes([200, 0xCC]) + bytes(64), bytes([1]) + chance.randbytes(70)])),
+        lambda: (LONG_TRANSACTION, chance.choice([b"", b"\x00", bytes(259), little(300, 2) + bytes(257), chance.randbytes(300)]))))
 
 
 def refused_event(tray):
     """What is no image, and is refused while the tray is open as after it."""
-    tray.chance.choice([to_missing, to_missing, missized, unknown_record, long_count, long_transaction])(tray)
+    tray.chance.choice([to_missing, to_missing, missized, unknown_record, count_too_large, missized_transaction])(tray)
 
 
 def late_sample(pack):
@@ -150,7 +154,8 @@ def seen(tray):
 # What closes an opening.
 
 CLOSERS = [to_nobody, to_nobody, lambda tray: slot_event(tray.chance.choice(tray.packs)), lambda tray: tray.packs[0].power_on(),
-           lambda tray: tray.everyone.read(0x00, 8), lambda tray: tray.packs[-1].read(0x20, 4)]
+           lambda tray: tray.everyone.read(0x00, 8), lambda tray: tray.anyone().read(0x00, 100, LONG_TRANSACTION),
+           lambda tray: tray.packs[-1].read(0x20, 4)]
 
 
 @tray_profile(turns=3)
@@ -359,9 +364,11 @@ def shared_room(chance):
         some(chance,
              lambda: tray.everyone.read(chance.choice([0x00, 0x60, 0xF0]), count),
              lambda: chance.choice(tray.packs).read(0x00, count),
+             lambda: tray.anyone().read(0x00, count * chance.choice([1, 3, 4]), LONG_TRANSACTION),
              lambda: tray.everyone.transaction(count, chance.choice([b"", b"\x33", b"\x39", b"\xA5"])))
     for count in [chance.randrange(65) for _ in range(8)] + [1, 0, 65, 0]:
         chance.choice(tray.packs).read(0x01, count)
+        tray.anyone().read(0x01, chance.choice([count, count + 60, 256, 257, 300]), LONG_TRANSACTION)
         slot_event(chance.choice(tray.packs))
         tray.everyone.transaction(chance.choice([0, count]), b"\xCC" + bytes([WRITE, 0x10]) + chance.randbytes(2))
     return bytes(tray.records)
@@ -375,13 +382,15 @@ def tray_rubbish(chance):
         kind = some(chance, *TRAY_SIZES, TRANSACTION, TRANSACTION, 19, 18, lambda: tray_unknown(chance))
         size = chance.randint(*TRAY_SIZES.get(kind, (0, 11))) if chance.random() < 0.9 else chance.randrange(80)
         payload = bytearray(chance.randbytes(size))
-        if kind not in (IMAGE, TRANSACTION) and size > 0 and chance.random() < 0.8:
+        if kind in SLOT_KINDS.values() and size > 0 and chance.random() < 0.8:
             payload[0] = chance.randrange(len(tray.packs))
         if kind == TRANSACTION and size > 3 and chance.random() < 0.7:
             payload[0] %= 66
             payload[1:3] = bytes([0xCC, chance.choice([READ, WRITE, COPY, RECALL, LOCK])])
+        if kind == LONG_TRANSACTION and size > 4 and chance.random() < 0.7:
+            payload[0:4] = little(chance.randrange(258), 2) + bytes([0xCC, chance.choice([READ, WRITE, COPY, RECALL, LOCK])])
         tray.records += record(kind, payload)
-        if not tray.room_for(1400):
+        if not tray.room_for(1700):
             break
     whole = tray.finish()
     return some(chance, whole, whole[:-chance.choice([1, 2, 3])], lambda: whole[:chance.randrange(len(whole))],

@@ -39,25 +39,25 @@ returns-3 c =
 
 returns-4 : tie.Need-returns-4
 returns-4 c =
-    let a = c .before .before .before .before .args in
-    arm (a .room) (a .last) (a .again) (a .loaded) (now (a .p)) _ _ _ (c .before .enum-told4 .given .1)
-    (c .transaction-taken .ensures ∙ ap (fittedOf (a .room)) (transaction-timely (a .last) (a .again) (a .loaded) (now (a .p))))
+    let a = c .before .before .before .before .before .args in
+    arm (a .room) (a .last) (a .again) (a .loaded) (now (a .p)) _ _ _ (c .before .before .k .given .1)
+    (c .transaction-taken .ensures ∙ ap (fittedOf (a .room)) (transaction-timely (a .last) (a .again) (a .loaded) (now (a .p)) (c .before .before .k .given .0 .0)))
 
 returns-5 : tie.Need-returns-5
 returns-5 c =
     let a = c .before .before .before .before .args in
-    stateless (a .room) (a .last) (a .again) (a .loaded) (now (a .p)) _ _ _ (c .before .enum-told5 .given .1) tt (c .power-on-taken .ensures)
+    stateless (a .room) (a .last) (a .again) (a .loaded) (now (a .p)) _ _ _ (c .before .enum-told4 .given .1) tt (c .power-on-taken .ensures)
 
 returns-6 : tie.Need-returns-6
 returns-6 c =
     let a = c .before .before .before .before .args in
-    arm (a .room) (a .last) (a .again) (a .loaded) (now (a .p)) _ _ _ (c .before .enum-told6 .given .1)
+    arm (a .room) (a .last) (a .again) (a .loaded) (now (a .p)) _ _ _ (c .before .enum-told5 .given .1)
     (c .sample-taken .ensures ∙ sample-fits (a .last) (a .again) (a .loaded) (now (a .p)) (a .room))
 
 returns-7 : tie.Need-returns-7
 returns-7 c =
     let a = c .before .before .before .args in
-    arm (a .room) (a .last) (a .again) (a .loaded) (now (a .p)) _ _ _ (c .enum-told7 .given .1) refl
+    arm (a .room) (a .last) (a .again) (a .loaded) (now (a .p)) _ _ _ (c .enum-told6 .given .1) refl
 
 pub fitted-by-spec : {M : Type 1} → statement M
 fitted-by-spec =
