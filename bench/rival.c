@@ -13,17 +13,17 @@
 
 typedef unsigned char byte;
 
-enum { SESSION_LIMIT = 32768, REPLY_ROOM = 65536, READ_LIMIT = 64, LONGEST_SAMPLE = 64, HEADER = 4, LONGEST_LINE = 32, OFFSET_EVERY = 1024 };
+enum { SESSION_LIMIT = 32768, REPLY_ROOM = 65536, LONGEST_READ = 256, LONGEST_SAMPLE = 64, HEADER = 4, LONGEST_LINE = 32, OFFSET_EVERY = 1024 };
 enum { TEXT_ROOM = (SESSION_LIMIT / HEADER + 2) * LONGEST_LINE + 2 * REPLY_ROOM };
 
-enum { IMAGE = 1, READING, CONVERSION, TRANSACTION, POWER_ON, SAMPLE }; /* kinds */
+enum { IMAGE = 1, READING, CONVERSION, TRANSACTION, POWER_ON, SAMPLE, LONG_TRANSACTION, DS2775_IMAGE }; /* kinds */
 enum { SLOTTED = 16 }; /* in trays 2, 3, 5 and 6 are so many more, behind a slot byte */
 enum { DONE, OVERSIZED, CUT, UNKNOWN, MISSIZED, MISPLACED, WRONG_ADDRESS, WRONG_LOCKS, LONG_READ, NO_ROOM, CROSSED, LATE, REPEATED }; /* answers */
 
-/* Tables 2 and 3 of 001, and the bits that are used. */
+/* Tables 2 and 3 of 001, the cycle counter of 000, and the bits that are used. */
 enum {
     STATUS = 0x01, RAAC = 0x02, RSAC = 0x04, RARC = 0x06, RSRC = 0x07, IAVG = 0x08, TEMP = 0x0A, VOLT = 0x0C, CURRENT = 0x0E, ACR = 0x10,
-    AS = 0x14, FULL = 0x16, AE = 0x18, SE = 0x1A, LAST_RESULT = 0x1B, LOCKS = 0x1F, LABEL = 0x20, LABEL_END = 0x30,
+    AS = 0x14, FULL = 0x16, AE = 0x18, SE = 0x1A, LAST_RESULT = 0x1B, CYCLES = 0x1E, LOCKS = 0x1F, LABEL = 0x20, LABEL_END = 0x30,
     CONTROL = 0x60, AB = 0x61, AC = 0x62, VCHG = 0x64, IMIN = 0x65, VAE = 0x66, IAE = 0x67, ACTIVE_EMPTY_40 = 0x68, RSNSP = 0x69,
     FULL_40 = 0x6A, FULL_SLOPES = 0x6C, AE_SLOPES = 0x70, SE_SLOPES = 0x74, COB = 0x7B, TBP34 = 0x7C,
     PARAMETERS = CONTROL, PARAMETERS_END = 0x80
@@ -34,15 +34,18 @@ enum { NBEN = 0x80, RNAOP = 0x10 };                                        /* of
 
 /* Places in an image. */
 enum { ADDRESS = 0, LABEL_CELLS = 8, PARAMETER_CELLS = 24, BREAKPOINTS = 52, SAVED_ACR = 56, SAVED_AS = 58, LOCK_BYTE = 59, IMAGE_BYTES = 60 };
+enum { SAVED_CYCLES = IMAGE_BYTES }; /* a byte more, of a DS2775 */
 
 enum { NONE_YET = -1, NONE_SINCE = 1024 }; /* for a VOLT, which is 0 to 1,023, and for a tick */
 
 typedef struct {
-    byte memory[256 + READ_LIMIT]; /* as the bus reads it, past FFh too */
-    byte pack[IMAGE_BYTES];        /* the image as it would be taken out, but for the lock bits, which are kept in memory */
+    byte memory[256 + LONGEST_READ]; /* as the bus reads it, past FFh too */
+    byte pack[IMAGE_BYTES + 1];      /* the image as it would be taken out, but for the lock bits, which are kept in memory */
     bool accepted;
+    bool ds2775;
     int32_t previous_current; /* 0 where there is none, which no rule tells from one that is 0; so with CURRENT and IAVG */
     int32_t age_counter;
+    int32_t cycle_rest;   /* what ACR fell since the last step of the cycle counter */
     int32_t conversions;  /* since power-on, modulo OFFSET_EVERY; modulo 8 those since the last average */
     int32_t run_sum;      /* of the c since the last average */
     bool acr_written;     /* and no conversion came since */
@@ -118,18 +121,22 @@ static void power_on(Gauge *g)
     m[LOCKS] &= BL1 | BL0;
     set_acr(m, little_16(g->pack + SAVED_ACR));
     m[AS] = as_from(g->pack[SAVED_AS]);
+    m[CYCLES] = g->pack[SAVED_CYCLES];
     memcpy(m + LABEL, g->pack + LABEL_CELLS, LABEL_END - LABEL);
     memcpy(m + PARAMETERS, g->pack + PARAMETER_CELLS, PARAMETERS_END - PARAMETERS);
-    g->previous_current = g->age_counter = g->conversions = g->run_sum = 0;
+    g->previous_current = g->age_counter = g->cycle_rest = g->conversions = g->run_sum = 0;
     g->acr_written = false;
     g->last_volt = g->last_tick = NONE_YET;
     g->lowest_volt = NONE_SINCE;
 }
 
-static void accept_image(Gauge *g, const byte *image)
+/* For a pack without a cycle counter FFh stands in its cell, which is what the bus reads there, and stays through power-ons and saves. */
+static void accept_image(Gauge *g, const byte *image, bool ds2775)
 {
     g->accepted = true;
+    g->ds2775 = ds2775;
     memcpy(g->pack, image, IMAGE_BYTES);
+    g->pack[SAVED_CYCLES] = ds2775 ? image[SAVED_CYCLES] : 0xFF;
     memset(g->memory, 0xFF, sizeof g->memory);
     g->memory[LOCKS] = image[LOCK_BYTE];
     power_on(g);
@@ -174,10 +181,25 @@ static inline void age(Gauge *g, int32_t fall, int32_t conversions)
     g->age_counter = counter;
 }
 
-/* What a conversion adds to the charge count, AB with it. */
-static int32_t counted(const byte *m, int32_t c)
+/* The cycle counter of a DS2775, over a fall as above: as many steps as fit, the rest carried. */
+static inline void count_cycles(Gauge *g, int32_t fall)
 {
-    bool blanked = (0 < c && c < 64) || (-16 < c && c < 0 && (m[CONTROL] & NBEN) != 0);
+    byte *m = g->memory;
+    int32_t step = 2 * big_16(m + FULL_40), rest = g->cycle_rest + (fall > 0 ? fall : 0);
+    if (step == 0) {
+        rest = 0;
+    } else if (rest >= step) {
+        m[CYCLES] = (byte)clamped(m[CYCLES] + rest / step, 0, 255);
+        rest %= step;
+    }
+    g->cycle_rest = rest;
+}
+
+/* What a conversion adds to the charge count, AB with it. A DS2775 blanks -16 too. */
+static int32_t counted(const Gauge *g, int32_t c)
+{
+    const byte *m = g->memory;
+    bool blanked = (0 < c && c < 64) || (-16 - g->ds2775 < c && c < 0 && (m[CONTROL] & NBEN) != 0);
     return (blanked ? 0 : c) + (int8_t)m[AB];
 }
 
@@ -192,10 +214,12 @@ static inline __attribute__((always_inline)) void conversion(Gauge *g, int32_t r
     put_big_16(m + CURRENT, c);
 
     int32_t before = charge_count(m);
-    int32_t after = g->acr_written ? before : clamped(before + counted(m, c), 0, (1 << 28) - 1);
+    int32_t after = g->acr_written ? before : clamped(before + counted(g, c), 0, (1 << 28) - 1);
     g->acr_written = false;
     set_charge_count(m, after);
     age(g, (before >> 12) - (after >> 12), 1);
+    if (g->ds2775)
+        count_cycles(g, (before >> 12) - (after >> 12));
     if (after >> 12 == 0)
         m[STATUS] &= (byte)~LEARNF;
 
@@ -214,9 +238,11 @@ static void stretch(Gauge *g, int32_t c, int32_t count)
 {
     byte *m = g->memory;
     int32_t before = charge_count(m), run = (g->conversions & 7) + count;
-    int32_t after = clamped(before + count * counted(m, c), 0, (1 << 28) - 1);
+    int32_t after = clamped(before + count * counted(g, c), 0, (1 << 28) - 1);
     set_charge_count(m, after);
     age(g, (before >> 12) - (after >> 12), count);
+    if (g->ds2775)
+        count_cycles(g, (before >> 12) - (after >> 12));
     if (after >> 12 == 0)
         m[STATUS] &= (byte)~LEARNF;
     g->previous_current = c;
@@ -323,6 +349,7 @@ static void reading(Gauge *g, int32_t voltage, int32_t temperature)
         g->pack[SAVED_ACR] = m[ACR + 1];
         g->pack[SAVED_ACR + 1] = m[ACR];
         g->pack[SAVED_AS] = m[AS];
+        g->pack[SAVED_CYCLES] = m[CYCLES];
     }
     g->last_volt = volt;
     if (volt < g->lowest_volt)
@@ -369,7 +396,7 @@ static void write_registers(Gauge *g, Write w)
 {
     byte *m = g->memory;
     const byte *status = written_at(w, STATUS), *acr_high = written_at(w, ACR), *acr_low = written_at(w, ACR + 1);
-    const byte *as = written_at(w, AS), *locks = written_at(w, LOCKS);
+    const byte *as = written_at(w, AS), *cycles = written_at(w, CYCLES), *locks = written_at(w, LOCKS);
     if (status && (*status & PORF) == 0)
         m[STATUS] &= (byte)~PORF;
     if (acr_high && acr_low) {
@@ -379,6 +406,8 @@ static void write_registers(Gauge *g, Write w)
     }
     if (as)
         m[AS] = as_from(*as);
+    if (cycles && g->ds2775 && (m[LOCKS] & BL1) == 0)
+        m[CYCLES] = *cycles;
     if (locks)
         m[LOCKS] = (byte)((m[LOCKS] & (BL1 | BL0)) | (*locks & LOCK));
 }
@@ -445,9 +474,13 @@ static char *transaction(Gauge *g, const byte *master, int32_t masters, char *ou
 
 /* ---- The session */
 
-static int32_t image_answer(const byte *image)
+/* 4, of an image. */
+static bool image_fits(int32_t length, bool ds2775) { return length == IMAGE_BYTES + ds2775; }
+
+/* 6, 7 and 10. */
+static int32_t image_answer(const byte *image, bool ds2775)
 {
-    if (image[ADDRESS] != 0x3D || crc(image + ADDRESS, 7) != image[ADDRESS + 7])
+    if (image[ADDRESS] != (ds2775 ? 0x32 : 0x3D) || crc(image + ADDRESS, 7) != image[ADDRESS + 7])
         return WRONG_ADDRESS;
     if (image[LOCK_BYTE] > 3)
         return WRONG_LOCKS;
@@ -458,15 +491,36 @@ static int32_t image_answer(const byte *image)
 /* 4 and 5, of all events but an image. */
 static int32_t event_answer(const Gauge *g, bool fits) { return !fits ? MISSIZED : !g->accepted ? MISPLACED : DONE; }
 
+/* Ahead of the master bytes of a transaction stand so many bytes of read count, and at most so many bytes are read, or are master bytes. */
+typedef struct {
+    int32_t ahead, most;
+} Form;
+
+static Form form_of(int32_t kind) { return kind == TRANSACTION ? (Form){1, 64} : (Form){2, LONGEST_READ}; }
+static int32_t read_count(Form form, const byte *payload) { return form.ahead == 1 ? payload[0] : little_16(payload); }
+
+/* 4, 5, 8 and 9, of a transaction. */
+static inline int32_t transaction_answer(const Gauge *g, Form form, const byte *payload, int32_t length, int32_t room)
+{
+    int32_t answer = event_answer(g, form.ahead <= length && length <= form.ahead + form.most);
+    if (answer != DONE)
+        return answer;
+    int32_t count = read_count(form, payload);
+    return count > form.most ? LONG_READ : count > room ? NO_ROOM : DONE;
+}
+
 /* A whole record of any kind: its answer, and what it does to the gauge. A reply is put at reply, and *line_end moved behind it. */
 static inline int32_t record(Gauge *g, int32_t kind, const byte *payload, int32_t length, char *reply, char **line_end, int32_t *room)
 {
     int32_t answer;
+    bool ds2775 = kind == DS2775_IMAGE;
+    Form form = form_of(kind);
     switch (kind) {
     case IMAGE:
-        answer = length != IMAGE_BYTES ? MISSIZED : g->accepted ? MISPLACED : image_answer(payload);
+    case DS2775_IMAGE:
+        answer = !image_fits(length, ds2775) ? MISSIZED : g->accepted ? MISPLACED : image_answer(payload, ds2775);
         if (answer == DONE)
-            accept_image(g, payload);
+            accept_image(g, payload, ds2775);
         return answer;
     case READING:
         answer = event_answer(g, length == 8);
@@ -479,13 +533,13 @@ static inline int32_t record(Gauge *g, int32_t kind, const byte *payload, int32_
             conversion(g, little_32(payload));
         return answer;
     case TRANSACTION:
-        answer = event_answer(g, 1 <= length && length <= 65);
-        if (answer == DONE)
-            answer = payload[0] > READ_LIMIT ? LONG_READ : payload[0] > *room ? NO_ROOM : DONE;
+    case LONG_TRANSACTION:
+        answer = transaction_answer(g, form, payload, length, *room);
         if (answer == DONE) {
-            char *end = transaction(g, payload + 1, length - 1, reply, payload[0]);
-            *room -= payload[0];
-            if (payload[0] > 0)
+            int32_t count = read_count(form, payload);
+            char *end = transaction(g, payload + form.ahead, length - form.ahead, reply, count);
+            *room -= count;
+            if (count > 0)
                 *line_end = end;
         }
         return answer;
@@ -541,7 +595,7 @@ static Gauge *matched(Tray *t, const byte *address)
 /* What all packs have from an address on, eight bytes at a time; the memory goes on past FFh as far as any read. */
 static char *read_every(const Tray *t, int32_t address, char *out, int32_t count)
 {
-    uint64_t line[READ_LIMIT / 8];
+    uint64_t line[LONGEST_READ / 8];
     for (int32_t word = 0; 8 * word < count; word++) {
         line[word] = ~UINT64_C(0);
         for (int32_t slot = 0; slot < t->count; slot++)
@@ -584,17 +638,17 @@ static char *tray_transaction(Tray *t, const byte *master, int32_t masters, char
     return put_ff(out, count);
 }
 
-static int32_t tray_image(Tray *t, const byte *payload, int32_t length)
+static int32_t tray_image(Tray *t, const byte *payload, int32_t length, bool ds2775)
 {
-    if (length != IMAGE_BYTES)
+    if (!image_fits(length, ds2775))
         return MISSIZED;
     if (t->closed || t->count == SLOTS)
         return MISPLACED;
-    int32_t answer = image_answer(payload);
+    int32_t answer = image_answer(payload, ds2775);
     if ((answer == DONE || answer == CROSSED) && matched(t, payload))
         return REPEATED;
     if (answer == DONE)
-        accept_image(&t->packs[t->count++], payload);
+        accept_image(&t->packs[t->count++], payload, ds2775);
     return answer;
 }
 
@@ -603,17 +657,19 @@ static inline int32_t tray_record(Tray *t, int32_t kind, const byte *payload, in
 {
     static Gauge nobody; /* in each slot that has no image */
     int32_t answer;
+    Form form = form_of(kind);
     switch (kind) {
     case IMAGE:
-        return tray_image(t, payload, length);
+    case DS2775_IMAGE:
+        return tray_image(t, payload, length, kind == DS2775_IMAGE);
     case TRANSACTION:
-        answer = event_answer(&t->packs[0], 1 <= length && length <= 65);
-        if (answer == DONE)
-            answer = payload[0] > READ_LIMIT ? LONG_READ : payload[0] > *room ? NO_ROOM : DONE;
+    case LONG_TRANSACTION:
+        answer = transaction_answer(&t->packs[0], form, payload, length, *room);
         if (answer == DONE) {
-            char *end = tray_transaction(t, payload + 1, length - 1, reply, payload[0]);
-            *room -= payload[0];
-            if (payload[0] > 0)
+            int32_t count = read_count(form, payload);
+            char *end = tray_transaction(t, payload + form.ahead, length - form.ahead, reply, count);
+            *room -= count;
+            if (count > 0)
                 *line_end = end;
             t->closed = true;
         }

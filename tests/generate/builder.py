@@ -7,27 +7,33 @@ A scene is a function that adds records to a session; a profile is one that make
 
 SESSION_LIMIT = 32768
 REPLY_ROOM = 65536
-IMAGE, READING, CONVERSION, TRANSACTION, POWER_ON, SAMPLE, LONG_TRANSACTION = 1, 2, 3, 4, 5, 6, 7
+IMAGE, READING, CONVERSION, TRANSACTION, POWER_ON, SAMPLE, LONG_TRANSACTION, CAMERA_IMAGE = 1, 2, 3, 4, 5, 6, 7, 8
 READ, WRITE, COPY, RECALL, LOCK = 0x69, 0x6C, 0x48, 0xB8, 0x6A
 
 # How many bytes a payload of each kind has, at least and at most.
-SIZES = {IMAGE: (60, 60), READING: (8, 8), CONVERSION: (4, 4), TRANSACTION: (1, 65), POWER_ON: (0, 0), SAMPLE: (6, 6), LONG_TRANSACTION: (2, 258)}
+SIZES = {IMAGE: (60, 60), READING: (8, 8), CONVERSION: (4, 4), TRANSACTION: (1, 65), POWER_ON: (0, 0), SAMPLE: (6, 6), LONG_TRANSACTION: (2, 258),
+         CAMERA_IMAGE: (61, 61)}
+
+# Of the two kinds of image: the first byte of the address. Kind 8 is of the profile that cameras use.
+FAMILY = {IMAGE: 0x3D, CAMERA_IMAGE: 0x32}
 
 # Of the two kinds of transaction: how many bytes the read count has, and how many may be read, or sent by the master.
 COUNT_SIZE = {TRANSACTION: 1, LONG_TRANSACTION: 2}
 MOST = {TRANSACTION: 64, LONG_TRANSACTION: 256}
 
 # Kinds that are meant as unknown. A request that gives a number a meaning takes it out of here, and nowhere else.
-UNKNOWN = [0, 8, 9, 18, 19, 20, 21, 22, 99, 0x0100, 0x0101, 0x0501, 0xFFFF]
+UNKNOWN = [0, 9, 10, 18, 19, 20, 21, 22, 99, 0x0100, 0x0101, 0x0501, 0xFFFF]
 
 # In trays these come behind a slot byte, and have other numbers.
 SLOTS = 8
 SLOT_KINDS = {READING: 18, CONVERSION: 19, POWER_ON: 21, SAMPLE: 22}
-TRAY_SIZES = {IMAGE: SIZES[IMAGE], TRANSACTION: SIZES[TRANSACTION], LONG_TRANSACTION: SIZES[LONG_TRANSACTION],
+TRAY_SIZES = {IMAGE: SIZES[IMAGE], CAMERA_IMAGE: SIZES[CAMERA_IMAGE], TRANSACTION: SIZES[TRANSACTION], LONG_TRANSACTION: SIZES[LONG_TRANSACTION],
               **{there: tuple(size + 1 for size in SIZES[kind]) for kind, there in SLOT_KINDS.items()}}
 
 # The same for trays: kinds that are meant as unknown there.
-TRAY_UNKNOWN = [0, 2, 3, 5, 6, 8, 9, 17, 20, 23, 34, 99, 0x0100, 0x0112, 0x1200, 0x1600, 0xFFFF]
+TRAY_UNKNOWN = [0, 2, 3, 5, 6, 9, 10, 17, 20, 23, 34, 99, 0x0100, 0x0112, 0x1200, 0x1600, 0xFFFF]
+
+CYCLES = 0x1E  # the cycle counter of camera packs
 
 # Table 3 of the DS2781 sheet.
 CONTROL, AB, AC, VCHG, IMIN, VAE, IAE, EMPTY_40 = 0x60, 0x61, 0x62, 0x64, 0x65, 0x66, 0x67, 0x68
@@ -64,8 +70,9 @@ def record(kind, payload):
 class Session:
     """The bytes of a session as they grow."""
 
-    def __init__(self, chance):
+    def __init__(self, chance, camera=None):
         self.chance = chance
+        self.camera = chance.random() < 0.25 if camera is None else camera  # whether the image is of kind 8
         self.records = bytearray()
         self.room = REPLY_ROOM  # what is left if every transaction so far was accepted
         self.address = self.new_address()
@@ -74,8 +81,12 @@ class Session:
         self.conversions = 0  # since power-on
         self.tick = None  # of the last sample since power-on
 
+    @property
+    def image_kind(self):
+        return CAMERA_IMAGE if self.camera else IMAGE
+
     def new_address(self):
-        serial = bytes([0x3D]) + self.chance.randbytes(6)
+        serial = bytes([FAMILY[self.image_kind]]) + self.chance.randbytes(6)
         return serial + bytes([crc(serial)])
 
     def parameter(self, address, size=1):
@@ -103,9 +114,13 @@ class Session:
         self.records += record(kind, payload)
 
     def image(self, saved_acr=0, saved_as=128, locks=0, address=None):
-        cells = little(saved_acr, 2) + bytes([saved_as, locks])
-        self.add(IMAGE, (address or self.address) + self.block_0 + self.block_1 + cells)
+        cells = little(saved_acr, 2) + bytes([saved_as, locks]) + self.saved_cycles()
+        self.add(self.image_kind, (address or self.address) + self.block_0 + self.block_1 + cells)
         self.conversions, self.tick = 0, None
+
+    def saved_cycles(self):
+        """The last byte of an image, of a camera pack alone."""
+        return bytes([self.chance.choice([0, 0, 1, 127, 253, 254, 255, self.chance.randrange(256)])]) if self.camera else b""
 
     def power_on(self):
         self.add(POWER_ON)

@@ -12,7 +12,7 @@ import random
 import sys
 
 from builder import (  # what the tests and the bench take from here
-    CONVERSION, COPY, LONG_TRANSACTION, MOST, POWER_ON, PROFILES, READ, READING, SAMPLE, SLOT_KINDS, TRANSACTION, TRAY_TURNS, TRAYS, TURNS, WRITE, boundaries, little,
+    CAMERA_IMAGE, CONVERSION, COPY, IMAGE, LONG_TRANSACTION, MOST, POWER_ON, PROFILES, READ, READING, SAMPLE, SLOT_KINDS, TRANSACTION, TRAY_TURNS, TRAYS, TURNS, WRITE, boundaries, little,
     record)
 
 for file in sorted(pathlib.Path(__file__).with_name("scenes").glob("*.py")):

@@ -33,6 +33,10 @@ def spoilt(whole):
     yield "61 bytes", whole + b"\x00"
     yield "100,000 bytes", whole + bytes(99940)
     yield "another family", put(0, 0x32)
+    camera = b"\x32" + whole[1:7]
+    camera += bytes([crc(camera)]) + whole[8:]
+    yield "the family of kind 8, its CRC right", camera
+    yield "an image of kind 8", camera + b"\x05"
     yield "a wrong CRC", put(7, whole[7] ^ 1)
     yield "lock byte 4", put(59, 4)
     yield "a breakpoint of 41", put(0x34, 41)

@@ -1,5 +1,6 @@
 """The three classes of document 01, worked out from its words and not from the crates, and sessions that are mixed anew by them."""
 LABEL, GAUGE, FENCE = "label", "gauge", "fence"
+IMAGES = {1: 60, 8: 61}  # of the two kinds of image: the bytes of the payload
 COUNT_SIZE = {4: 1, 7: 2}  # of the two kinds of transaction: the bytes of the read count
 MOST = {4: 64, 7: 256}  # that may be read
 SIZES = {kind: range(COUNT_SIZE[kind], COUNT_SIZE[kind] + MOST[kind] + 1) for kind in MOST}  # of the payload
@@ -19,6 +20,17 @@ def kind_of(record):
     """The kind of a record; None where it is cut."""
     whole = len(record) >= 4 and len(record) == 4 + int.from_bytes(record[:2], "little")
     return int.from_bytes(record[2:4], "little") if whole else None
+
+
+def image_record(image):
+    """An image as a record, of the kind that has its length."""
+    kind = next(kind for kind, size in IMAGES.items() if size == len(image))
+    return len(image).to_bytes(2, "little") + kind.to_bytes(2, "little") + image
+
+
+def accepted(line):
+    """Whether a line, without its number, is that of an image that was taken."""
+    return line[:2] in [[f"{kind:04x}", "0"] for kind in IMAGES]
 
 
 def asked(kind, payload):

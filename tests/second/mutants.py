@@ -5,8 +5,8 @@ those of MEND of damaged images (tests/cases/mend), and those of HEX of Intel HE
 A mutant is a label (the rule's row first), then pairs of a text that stands once in second.c and the text put in its
 place. They show that the comparison can fail. SLIPS are the paper's "Likely slips", RULES go through its rules in order,
 SAMPLES through those of samples, OFFSETS through those of the offset conversion, LONGER through those of longer
-transactions, LONGER_TRAYS the same in trays, LATCHED take a parameter or a result at
-another moment than the one at which a rule is worked out.
+transactions, CYCLES through those of the DS2775 profile; LONGER_TRAYS and CYCLES_TRAYS do the same in trays. LATCHED
+take a parameter or a result at another moment than the one at which a rule is worked out.
 """
 
 SLIPS = [
@@ -36,15 +36,15 @@ RULES = [
     ("A3-last-bytes-overlooked", "for (int32_t number = 1; at < size; number++) {",
      "for (int32_t number = 1; at + 3 < size; number++) {"),
     ("A4-payload-past-end", "size - at - 4 < little_endian_16(header)", "size - at - 3 < little_endian_16(header)"),
-    ("A5-one-kind-more", "if (kind < 1 || kind > 7)", "if (kind < 1 || kind > 8)"),
+    ("A5-one-kind-more", "if (kind < 1 || kind > 8)", "if (kind < 1 || kind > 9)"),
     ("A5-kind-one-byte", "kind = little_endian_16(header + 2);", "kind = header[2];"),
     ("A6-66-bytes", "1 <= length && length <= 65", "1 <= length && length <= 66"),
     ("A6-64-bytes", "1 <= length && length <= 65", "1 <= length && length <= 64"),
     ("A6-no-read-count", "1 <= length && length <= 65", "length <= 65"),
     ("A6-long-power-on", "default: return length == 0;", "default: return true;"),
-    ("A8-second-image", "if ((kind == 1) == g->accepted)", "if (kind != 1 && !g->accepted)"),
-    ("A9-any-family", "payload[0] != 0x3D || ", ""),
-    ("A10-crc-not-checked", "(payload[0] != 0x3D || payload[7] != crc(payload, 7))", "payload[0] != 0x3D"),
+    ("A8-second-image", "if (is_image(kind) == g->accepted)", "if (!is_image(kind) && !g->accepted)"),
+    ("A9-any-family", "payload[0] != family_code(kind) || ", ""),
+    ("A10-crc-not-checked", "(payload[0] != family_code(kind) || payload[7] != crc(payload, 7))", "payload[0] != family_code(kind)"),
     ("A11-lock-byte-four", "payload[59] > 3", "payload[59] > 4"),
     ("A12-read-count-65", " READ_LIMIT = 64, LONG", " READ_LIMIT = 65, LONG"),
     ("A12-read-count-63", " READ_LIMIT = 64, LONG", " READ_LIMIT = 63, LONG"),
@@ -52,12 +52,12 @@ RULES = [
     ("A13-room-one-more", ASKED + " > room_left", ASKED + " > room_left + 1"),
     ("A13-refuses-below-64", ASKED + " > room_left", "room_left < 64"),
     ("A15-five-before-four",
-     "    if (!length_fits(kind, length))\n        return 4;\n    if ((kind == 1) == g->accepted)\n        return 5;",
-     "    if ((kind == 1) == g->accepted)\n        return 5;\n    if (!length_fits(kind, length))\n        return 4;"),
+     "    if (!length_fits(kind, length))\n        return 4;\n    if (is_image(kind) == g->accepted)\n        return 5;",
+     "    if (is_image(kind) == g->accepted)\n        return 5;\n    if (!length_fits(kind, length))\n        return 4;"),
     ("A15-eight-before-five", "    if (!length_fits(kind, length))\n        return 4;",
      "    if (!length_fits(kind, length))\n        return 4;\n" + TOO_MANY),
-    ("A15-seven-before-six", "    if ((kind == 1) == g->accepted)\n        return 5;",
-     "    if ((kind == 1) == g->accepted)\n        return 5;\n    if (kind == 1 && payload[59] > 3)\n        return 7;"),
+    ("A15-seven-before-six", "    if (is_image(kind) == g->accepted)\n        return 5;",
+     "    if (is_image(kind) == g->accepted)\n        return 5;\n    if (is_image(kind) && payload[59] > 3)\n        return 7;"),
     ("A17-refusal-uses-room", "room_left -= replied;", "room_left -= answer == 8 ? 1 : replied;"),
     # Crossed breakpoints.
     ("W3.1-equal-lower-refused", "return low <= middle &&", "return low < middle &&"),
@@ -76,15 +76,15 @@ RULES = [
     ("W3.2-one-byte-late",
      "int32_t low = signed_byte(image[0x36]), middle = signed_byte(image[0x35]), high = signed_byte(image[0x34]);",
      "int32_t low = signed_byte(image[0x37]), middle = signed_byte(image[0x36]), high = signed_byte(image[0x35]);"),
-    ("W3.3-ten-before-seven", "    if (kind == 1 && payload[59] > 3)\n        return 7;\n",
-     "    if (kind == 1 && !breakpoints_ordered(payload))\n        return 10;\n"
-     "    if (kind == 1 && payload[59] > 3)\n        return 7;\n"),
-    ("W3.3-ten-before-six", "    if ((kind == 1) == g->accepted)\n        return 5;\n",
-     "    if ((kind == 1) == g->accepted)\n        return 5;\n"
-     "    if (kind == 1 && !breakpoints_ordered(payload))\n        return 10;\n"),
-    ("W3.3-ten-before-five", "    if ((kind == 1) == g->accepted)\n        return 5;\n",
-     "    if (kind == 1 && !breakpoints_ordered(payload))\n        return 10;\n"
-     "    if ((kind == 1) == g->accepted)\n        return 5;\n"),
+    ("W3.3-ten-before-seven", "    if (is_image(kind) && payload[59] > 3)\n        return 7;\n",
+     "    if (is_image(kind) && !breakpoints_ordered(payload))\n        return 10;\n"
+     "    if (is_image(kind) && payload[59] > 3)\n        return 7;\n"),
+    ("W3.3-ten-before-six", "    if (is_image(kind) == g->accepted)\n        return 5;\n",
+     "    if (is_image(kind) == g->accepted)\n        return 5;\n"
+     "    if (is_image(kind) && !breakpoints_ordered(payload))\n        return 10;\n"),
+    ("W3.3-ten-before-five", "    if (is_image(kind) == g->accepted)\n        return 5;\n",
+     "    if (is_image(kind) && !breakpoints_ordered(payload))\n        return 10;\n"
+     "    if (is_image(kind) == g->accepted)\n        return 5;\n"),
     ("W3.4-session-stops", "at += 4 + length;", "at += answer == 10 ? size : 4 + length;"),
     ("W3.4-counts-as-accepted", "room_left -= replied;", "room_left -= replied;\n        of.gauge->accepted |= answer == 10;"),
     ("W3.6-crossed-write-dropped", "            g->shadow[at] = (byte)value;",
@@ -174,7 +174,7 @@ RULES = [
      "case 0x12: return high_of(g->fraction);"),
     ("B36-00h-reads-zero", "    switch (address) {\n", "    switch (address) {\n    case 0x00: return 0x00;\n"),
     ("B49-15h-reads-one", "case 0x15: return 0x00;", "case 0x15: return 0x01;"),
-    ("B53-1eh-reads-zero", "    switch (address) {\n", "    switch (address) {\n    case 0x1E: return 0x00;\n"),
+    ("B53-1eh-reads-zero", "? g->cycles : 0xFF;", "? g->cycles : 0x00;"),
     ("B56-30h-in-block-0", "0x20 <= address && address <= 0x2F", "0x20 <= address && address <= 0x30"),
     ("B56-5fh-in-block-1", "0x60 <= address && address <= 0x7F", "0x5F <= address && address <= 0x7F"),
     ("B58-80h-in-block-1", "0x60 <= address && address <= 0x7F", "0x60 <= address && address <= 0x80"),
@@ -213,14 +213,13 @@ RULES = [
     ("C6-zero-counts-as-negative", "g->currents > 0 && g->current < 0;", "g->currents > 0 && g->current <= 0;"),
     ("C9-63-counts", "if (0 < c && c < 64)", "if (0 < c && c < 63)"),
     ("C9-64-blanked", "if (0 < c && c < 64)", "if (0 < c && c <= 64)"),
-    ("C10-16-blanked", "-16 < c && c < 0)", "-16 <= c && c < 0)"),
-    ("C10-always-blanks-negative", "if (blanks_negative && -16", "if ((blanks_negative || true) && -16"),
+    ("C10-16-blanked", "g->ds2775 ? -16 : -15;", "-16;"),
+    ("C10-always-blanks-negative", "if (blanks_negative && lowest", "if ((blanks_negative || true) && lowest"),
     ("C10-nbef-bit", "enum { NBEN = 0x80, RNAOP = 0x10 };", "enum { NBEN = 0x40, RNAOP = 0x10 };"),
     ("C12-bias-unsigned", "+ signed_parameter(g, AB)", "+ parameter(g, AB)"),
     ("C14-acr-to-7fffh", "0, 268435455)", "0, 134217727)"),
     ("C14-top-drops-fraction", "0, 268435455)", "0, 268431360)"),
-    ("C16-rise-ages", "if (g->acr < acr_before)\n        g->age_counter += acr_before - g->acr;",
-     "g->age_counter += acr_before < g->acr ? g->acr - acr_before : acr_before - g->acr;"),
+    ("C16-rise-ages", "    g->age_counter += fall;\n", "    g->age_counter += acr_before < g->acr ? g->acr - acr_before : fall;\n"),
     ("C17-more-than", "g->age_counter >= ageing_step)", "g->age_counter > ageing_step)"),
     ("C17-only-with-a-fall", "} else if (g->age_counter >= ageing_step) {",
      "} else if (g->acr < acr_before && g->age_counter >= ageing_step) {"),
@@ -367,10 +366,10 @@ SAMPLES = [
     ("W5.1-tick-of-one-byte", "return little_endian_16(payload + 4);", "return payload[4];"),
     ("W5.1-current-of-sixteen-bits", "sample(g, little_endian_signed_32(payload), tick_of(payload));",
      "sample(g, (int16_t)little_endian_signed_32(payload), tick_of(payload));"),
-    ("W5.2-no-kind", "if (kind < 1 || kind > 7)", "if (kind < 1 || kind == 6 || kind > 7)"),
+    ("W5.2-no-kind", "if (kind < 1 || kind > 8)", "if (kind < 1 || kind == 6 || kind > 8)"),
     ("W5.2-longer", "return length == SAMPLE_BYTES;", "return length >= SAMPLE_BYTES;"),
     ("W5.2-a-byte-less", "return length == SAMPLE_BYTES;", "return length == SAMPLE_BYTES || length == SAMPLE_BYTES - 1;"),
-    ("W5.2-before-an-image", "if ((kind == 1) == g->accepted)", "if (kind != 6 && (kind == 1) == g->accepted)"),
+    ("W5.2-before-an-image", "if (is_image(kind) == g->accepted)", "if (kind != 6 && is_image(kind) == g->accepted)"),
     ("W5.3-not-round", DIFFERENCE, "tick - g->last_tick"),
     ("W5.3-round-at-65535", DIFFERENCE, "tick >= g->last_tick ? tick - g->last_tick : tick + 65535 - g->last_tick"),
     ("W5.3-in-eight-bits", DIFFERENCE, "(tick + 65536 - g->last_tick) % 256"),
@@ -614,7 +613,7 @@ LONGER = [
      "i < count && (count > 62 || address + i <= 0xFF); i++) {\n        int32_t at = (address + i) & 0xFF,"),
     ("W11.1-writes-127-at-most", "i < count && address + i <= 0xFF;", "i < count && i < 127 && address + i <= 0xFF;"),
     ("W11.1-write-stops-at-30h", "i < count && address + i <= 0xFF;", "i < count && !(count > 62 && address + i == 0x30) && address + i <= 0xFF;"),
-    ("W11.2-no-kind", "if (kind < 1 || kind > 7)", "if (kind < 1 || kind > 6)"),
+    ("W11.2-no-kind", "if (kind < 1 || kind > 8)", "if (kind < 1 || kind == 7 || kind > 8)"),
     ("W11.2-259-bytes", LONG_SIZES, LONG_SIZES.replace("258", "259")),
     ("W11.2-257-bytes", LONG_SIZES, LONG_SIZES.replace("258", "257")),
     ("W11.2-256-bytes", LONG_SIZES, LONG_SIZES.replace("258", "256")),
@@ -622,8 +621,8 @@ LONGER = [
     ("W11.2-half-a-count", LONG_SIZES, LONG_SIZES.replace("2 <= length", "1 <= length")),
     ("W11.2-no-count", LONG_SIZES, "return length <= 258;"),
     ("W11.2-a-master-byte-asked", LONG_SIZES, LONG_SIZES.replace("2 <= length", "3 <= length")),
-    ("W11.2-before-an-image", "if ((kind == 1) == g->accepted)", "if (kind != 7 && (kind == 1) == g->accepted)"),
-    ("W11.2-five-after-eight", "    if ((kind == 1) == g->accepted)\n", TOO_MANY + "    if ((kind == 1) == g->accepted)\n"),
+    ("W11.2-before-an-image", "if (is_image(kind) == g->accepted)", "if (kind != 7 && is_image(kind) == g->accepted)"),
+    ("W11.2-five-after-eight", "    if (is_image(kind) == g->accepted)\n", TOO_MANY + "    if (is_image(kind) == g->accepted)\n"),
     ("W11.2-no-room-asked", "if (is_transaction(kind) && read_count(kind, payload) > room_left)", "if (kind == 4 && payload[0] > room_left)"),
     ("W11.2-room-by-the-low-byte", ASKED + " > room_left", ASKED + " % 256 > room_left"),
     ("W11.3-257-allowed", LIMITS, "return kind == 4 ? READ_LIMIT : 257;", "byte reply[LONG_READ_LIMIT];", "byte reply[512];"),
@@ -645,6 +644,115 @@ LONGER = [
     ("W11.7-label-alone", *THE_KIND, "(in_block_1(at) && !g->bl1)", "(in_block_1(at) && !g->bl1 && the_kind == 4)"),
     ("W11.7-replies-256-bytes", FORM, FORM.replace("return read_count", "return kind == 7 && read_count(kind, payload) > 0 ? 256 : read_count")),
     ("W11.7-uses-256-of-the-room", "room_left -= replied;", "room_left -= kind == 7 && replied > 0 && room_left >= 256 ? 256 : replied;"),
+]
+
+EDGE = "g->ds2775 ? -16 : -15;"
+STEP = "int32_t step = 2 * wide_parameter(g, FULL_40);"
+FALLEN = "    g->cycle_rest += fall;\n"
+ZEROED = "    if (step == 0)\n        g->cycle_rest = 0;\n"
+EACH_STEP = "    while (step > 0 && g->cycle_rest >= step) {\n"
+TAKEN_OFF = "        g->cycle_rest -= step;\n"
+ADVANCED = "        g->cycles = (int32_t)clamped(g->cycles + 1, 0, 255);\n"
+COUNTED_FALL = "    count_cycles(g, fall);\n"
+CELL = "        g->saved_cycles = g->cycles; /* W12.13; 0 of kind 1 */\n"
+SHOWN_AT = "case 0x1E: return g->ds2775 ? g->cycles : 0xFF; /* W12.6 */"
+WRITTEN_AT = "        if (at == 0x1E && g->ds2775 && !g->bl1)\n            g->cycles = value; /* W12.7 */\n"
+STARTED = "    g->cycles = g->saved_cycles; /* W12.12 */\n    g->cycle_rest = 0;\n"
+PICKED = "    g->ds2775 = kind == 8;\n"
+FULL_ACR = "    g->acr = (int32_t)divided_up(age_scaled_full(g) * full_40, 16384);\n"
+
+CYCLES = [
+    ("W12.1-no-profile", PICKED, "    g->ds2775 = kind == 8 && false;\n"),
+    ("W12.1-cell-ahead-of-the-locks", "g->ds2775 ? image[60] : 0;", "g->ds2775 ? image[59] : 0;"),
+    ("W12.1-cell-always-0", "g->ds2775 ? image[60] : 0;", "0;"),
+    ("W12.1-power-on-forgets-the-profile", "default: power_on(g); return 0;", "default: power_on(g); g->ds2775 = false; return 0;"),
+    ("W12.2-no-kind", "if (kind < 1 || kind > 8)", "if (kind < 1 || kind > 7)"),
+    ("W12.2-60-bytes", "return length == image_bytes(kind == 8);", "return length == image_bytes(kind == 8) || length == IMAGE_BYTES;"),
+    ("W12.2-kind-1-of-61-bytes", "return length == image_bytes(kind == 8);", "return length == image_bytes(kind == 8) || length == DS2775_IMAGE_BYTES;"),
+    ("W12.2-62-bytes", "return length == image_bytes(kind == 8);", "return length == image_bytes(kind == 8) || (kind == 8 && length == 62);"),
+    ("W12.2-after-an-image-of-kind-1", "    if (is_image(kind) == g->accepted)\n", "    if (is_image(kind) == (g->accepted && !(kind == 8 && !g->ds2775)))\n"),
+    ("W12.2-kind-1-after-it", "    if (is_image(kind) == g->accepted)\n", "    if (is_image(kind) == (g->accepted && !(kind == 1 && g->ds2775)))\n"),
+    ("W12.3-family-of-kind-1", "return kind == 8 ? 0x32 : 0x3D;", "return kind > 0 ? 0x3D : 0;"),
+    ("W12.3-either-family", "payload[0] != family_code(kind) ||", "(payload[0] != 0x3D && payload[0] != 0x32) ||"),
+    ("W12.3-family-picks-the-profile", PICKED, "    g->ds2775 = image[0] == 0x32;\n", "payload[0] != family_code(kind) ||", "(payload[0] != 0x3D && payload[0] != 0x32) ||"),
+    ("W12.3-crc-of-kind-1-alone", "payload[7] != crc(payload, 7)))", "(kind == 1 && payload[7] != crc(payload, 7))))"),
+    ("W12.3-locks-of-kind-1-alone", "if (is_image(kind) && payload[59] > 3)", "if (kind == 1 && payload[59] > 3)"),
+    ("W12.3-breakpoints-of-kind-1-alone", "if (is_image(kind) && !breakpoints_ordered(payload))", "if (kind == 1 && !breakpoints_ordered(payload))"),
+    ("W12.4-16-counted", EDGE, "-15;"),
+    ("W12.4-17-blanked", EDGE, "g->ds2775 ? -17 : -15;"),
+    ("W12.4-without-nben-too", "bool blanks_negative = (", "bool blanks_negative = g->ds2775 || ("),
+    ("W12.4-64-blanked", "if (0 < c && c < 64)", "if (0 < c && c < (g->ds2775 ? 65 : 64))"),
+    ("W12.4-the-register-too", "    accumulate_and_age(g, c);\n", "    accumulate_and_age(g, c);\n    g->current = g->ds2775 && c == -16 ? counted(g, c) : g->current;\n"),
+    ("W12.6-reserved", SHOWN_AT, "case 0x1E: return 0xFF;"),
+    ("W12.6-not-while-locked", SHOWN_AT, "case 0x1E: return g->ds2775 && !g->bl1 ? g->cycles : 0xFF;"),
+    ("W12.6-of-kind-1-too", SHOWN_AT, "case 0x1E: return g->cycles;"),
+    ("W12.6-at-1dh", "case 0x1E: return g->ds2775 ?", "case 0x1D: return g->ds2775 ?"),
+    ("W12.6-the-cell-is-read", SHOWN_AT, "case 0x1E: return g->ds2775 ? g->saved_cycles : 0xFF;"),
+    ("W12.7-while-locked-too", WRITTEN_AT, WRITTEN_AT.replace(" && !g->bl1", "")),
+    ("W12.7-by-bl0", WRITTEN_AT, WRITTEN_AT.replace("!g->bl1", "!g->bl0")),
+    ("W12.7-never", WRITTEN_AT, ""),
+    ("W12.7-upward-only", WRITTEN_AT, WRITTEN_AT.replace("g->cycles = value;", "g->cycles = value > g->cycles ? value : g->cycles;")),
+    ("W12.7-rest-zeroed", WRITTEN_AT, WRITTEN_AT.replace("g->cycles = value;", "g->cycles = value, g->cycle_rest = 0;")),
+    ("W12.7-the-cell-too", WRITTEN_AT, WRITTEN_AT.replace("g->cycles = value;", "g->cycles = g->saved_cycles = value;")),
+    ("W12.8-a-rise-counts", COUNTED_FALL, "    count_cycles(g, fall + (g->acr > acr_before ? g->acr - acr_before : 0));\n"),
+    ("W12.8-by-the-current", COUNTED_FALL, "    count_cycles(g, c < 0 ? -c / 4096 : 0);\n"),
+    ("W12.8-full-counts", FULL_ACR, "    int32_t before = g->acr;\n" + FULL_ACR + "    count_cycles(g, before > g->acr ? before - g->acr : 0);\n"),
+    ("W12.8-empty-counts", "        WATCH(saw_point(g, e));\n", "        count_cycles(g, g->acr > e ? g->acr - e : 0);\n"),
+    ("W12.8-cut-counts", "    } else if (!g->learnf && g->acr > e) {\n", "    } else if (!g->learnf && g->acr > e) {\n        count_cycles(g, g->acr - e);\n"),
+    ("W12.8-a-write-counts", "            g->acr = 256 * held + value;\n",
+     "            if (g->acr > 256 * held + value)\n                count_cycles(g, g->acr - 256 * held - value);\n            g->acr = 256 * held + value;\n"),
+    ("W12.8-by-the-age-counter", FALLEN, "    g->cycle_rest = g->age_counter + 0 * fall;\n"),
+    ("W12.9-one-full40", STEP, "int32_t step = wide_parameter(g, FULL_40);"),
+    ("W12.9-four-full40", STEP, "int32_t step = 4 * wide_parameter(g, FULL_40);"),
+    ("W12.9-aged-by-as", STEP, "int32_t step = 2 * wide_parameter(g, FULL_40) * g->as / 128;"),
+    ("W12.9-full40-of-eeprom", STEP, "int32_t step = 2 * (256 * g->eeprom[FULL_40] + g->eeprom[FULL_40 + 1]);"),
+    ("W12.9-by-ac", STEP, "int32_t step = 2 * wide_parameter(g, AC);"),
+    ("W12.9-once-a-conversion", EACH_STEP, EACH_STEP.replace("while", "if")),
+    ("W12.9-more-than-a-step", EACH_STEP, EACH_STEP.replace(">=", ">")),
+    ("W12.9-only-with-a-fall", EACH_STEP, EACH_STEP.replace("step > 0", "fall > 0 && step > 0")),
+    ("W12.9-rest-lost", TAKEN_OFF, "        g->cycle_rest = 0;\n"),
+    ("W12.9-rest-lost-after-many", EACH_STEP, EACH_STEP.replace("    while", "    int32_t fits = step > 0 ? g->cycle_rest / step : 0;\n    if (fits > 1)\n"
+     "        g->cycle_rest = fits * step;\n    while")),
+    ("W12.9-whole-falls-alone", FALLEN, "    g->cycle_rest = fall > 0 ? g->cycle_rest + fall : 0;\n"),
+    ("W12.9-no-offset-conversion", COUNTED_FALL, "    count_cycles(g, g->conversions == 0 ? 0 : fall);\n"),
+    ("W12.9-a-sample-once", "        conversion(g, raw);\n", "        int32_t cycles = g->cycles, rest = g->cycle_rest;\n        conversion(g, raw);\n"
+     "        if (i > 0)\n            g->cycles = cycles, g->cycle_rest = rest;\n"),
+    ("W12.10-goes-round", ADVANCED, "        g->cycles = (g->cycles + 1) % 256;\n"),
+    ("W12.10-stops-at-254", ADVANCED, ADVANCED.replace("255", "254")),
+    ("W12.10-stops-at-127", ADVANCED, ADVANCED.replace("255", "g->cycles > 127 ? g->cycles : 127")),
+    ("W12.10-steps-kept-at-255", EACH_STEP, EACH_STEP.replace("step > 0", "g->cycles < 255 && step > 0")),
+    ("W12.11-rest-kept", ZEROED, ""),
+    ("W12.11-at-the-write", "            g->shadow[at] = (byte)value;",
+     "            g->shadow[at] = (byte)value, g->cycle_rest = wide_parameter(g, FULL_40) == 0 ? 0 : g->cycle_rest;"),
+    ("W12.11-not-at-a-marked-one", "    if (!g->acr_written)\n        count = clamped", "    bool marked = g->acr_written;\n    if (!g->acr_written)\n        count = clamped",
+     COUNTED_FALL, "    if (!marked)\n        count_cycles(g, fall);\n"),
+    ("W12.11-counter-zeroed", ZEROED, ZEROED.replace("g->cycle_rest = 0", "g->cycle_rest = g->cycles = 0")),
+    ("W12.12-counter-kept", STARTED, "    if (!g->porf)\n        g->cycles = g->saved_cycles;\n    g->cycle_rest = 0;\n"),
+    ("W12.12-counter-0", STARTED, "    g->cycles = 0;\n    g->cycle_rest = 0;\n"),
+    ("W12.12-rest-kept", STARTED, "    g->cycles = g->saved_cycles;\n"),
+    ("W12.12-moved-as-as-is", STARTED, STARTED.replace("= g->saved_cycles;", "= (int32_t)clamped(g->saved_cycles, 0, 254);")),
+    ("W12.13-not-saved", CELL, ""),
+    ("W12.13-saved-at-each-step", ADVANCED, ADVANCED + "        g->saved_cycles = g->cycles;\n"),
+    ("W12.13-saved-at-each-reading", "    g->had_reading = true;\n", "    g->had_reading = true;\n    g->saved_cycles = g->cycles;\n"),
+    ("W12.13-a-step-saves-all", ADVANCED, ADVANCED + "        g->saved_acr = g->acr, g->saved_as = g->as;\n"),
+    ("W12.13-saved-at-255-no-more", CELL, CELL.replace("= g->cycles;", "= g->cycles < 255 ? g->cycles : g->saved_cycles;")),
+    ("W12.14-copied-with-block-1", "    if (command == 0x48 && !*locked)\n",
+     "    if (command == 0x48 && !*locked && first == 0x60)\n        g->saved_cycles = g->cycles;\n    if (command == 0x48 && !*locked)\n"),
+    ("W12.14-recalled-with-block-1", "    if (command == 0xB8)\n", "    if (command == 0xB8 && first == 0x60)\n        g->cycles = g->saved_cycles;\n    if (command == 0xB8)\n"),
+    ("W12.14-no-advance-while-locked", COUNTED_FALL, "    count_cycles(g, g->bl1 ? 0 : fall);\n"),
+    ("W12.14-no-save-while-locked", CELL, CELL.replace("        g->", "        if (!g->bl1)\n            g->")),
+    ("W12.15-60-bytes-out", "    return image_bytes(g->ds2775);\n", "    return IMAGE_BYTES;\n"),
+    ("W12.15-61-bytes-of-kind-1", "    return image_bytes(g->ds2775);\n", "    return DS2775_IMAGE_BYTES;\n"),
+    ("W12.15-counter-out", "image[60] = (byte)g->saved_cycles;", "image[60] = (byte)g->cycles;"),
+    ("W12.15-cell-first", "image[60] = (byte)g->saved_cycles;",
+     "memmove(image + 57, image + 56, 4), image[56] = (byte)g->saved_cycles;"),
+    ("W12.16-as-stops-at-64", "g->as = moved_into_as_range(g->as - 1);", "g->as = g->ds2775 && g->as == 64 ? 64 : moved_into_as_range(g->as - 1);"),
+    ("W12.16-block-1-to-80h", "static bool in_block_1", "static bool wide;\nstatic bool in_block_1", "address <= 0x7F; }", "address <= (wide ? 0x80 : 0x7F); }",
+     PICKED, PICKED + "    extern void widen(bool);\n    widen(g->ds2775);\n", "/* Tables 2 and 3", "void widen(bool value) { wide = value; }\n\n/* Tables 2 and 3"),
+    ("W12.16-1dh-reads-zero", "    switch (address) {\n", "    switch (address) {\n    case 0x1D: return g->ds2775 ? 0x00 : 0xFF;\n"),
+    ("W12.16-learn-resets-the-age-counter", "    g->learnf = false;\n    g->acr = (int32_t)divided_up(age",
+     "    g->age_counter = g->ds2775 && g->learnf ? 0 : g->age_counter;\n    g->learnf = false;\n    g->acr = (int32_t)divided_up(age"),
+    ("W12.20-kind-1-counts", "    if (!g->ds2775)\n        return;\n", "", SHOWN_AT, "case 0x1E: return g->cycles > 0 ? g->cycles : g->ds2775 ? 0 : 0xFF;"),
 ]
 
 LATCHED = [
@@ -732,18 +840,22 @@ PRESET = [
     ("W2.9-above-40-refused", "    if (answer != 0) {\n        fprintf(stderr, \"%d: no",
      "    if (answer == 0 && signed_byte(wanted[28]) > 40)\n        answer = 10;\n"
      "    if (answer != 0) {\n        fprintf(stderr, \"%d: no"),
+    ("W12.17-preset-of-kind-8", "int32_t answer = judged(&fresh, 0, 1, image, image_size);",
+     "int32_t answer = judged(&fresh, 0, image_size == DS2775_IMAGE_BYTES ? 8 : 1, image, image_size);"),
+    ("W12.17-preset-of-its-family", "int32_t answer = judged(&fresh, 0, 1, image, image_size);",
+     "int32_t answer = judged(&fresh, 0, 1, image, image_size);\n    answer = answer == 6 && image[0] == 0x32 ? 0 : answer;"),
     ("W2.9-7fh-cleared", "memcpy(write + 4, wanted, BLOCK_1_BYTES);",
      "memcpy(write + 4, wanted, BLOCK_1_BYTES);\n    write[35] = 0;"),
 ]
 
 KINDS = "kind == 18 || kind == 19 || kind == 21 || kind == 22"
 OPEN = "    t->closed = true;\n"
-TAKEN = "        accept_image(&t->packs[t->count++], payload);\n"
+TAKEN = "        accept_image(&t->packs[t->count++], kind, payload);\n"
 SLOT_EVENT = "    return event(&t->packs[payload[0]], kind - SLOT_KINDS, payload + 1, length - 1, reply);"
 BY_SLOT = "    return judged(&t->packs[payload[0]], room_left, kind - SLOT_KINDS, payload + 1, length - 1);"
 MISSING = "    if (payload[0] >= t->count)\n        return 5;\n"
 REPEATED = "    if (slot_with(t, image) >= 0)\n        return 12;\n"
-BY_ITSELF = "    int32_t by_itself = judged(&nobody, 0, 1, image, IMAGE_BYTES);\n"
+BY_ITSELF = "    int32_t by_itself = judged(&nobody, 0, kind, image, image_bytes(kind == 8));\n"
 WRONG_FIRST = "    if (by_itself == 6 || by_itself == 7)\n        return by_itself;\n"
 TRAY_JUDGED = "    int32_t answer = tray_judged(t, room_left, kind, payload, length);\n"
 TRAY_REFUSED = TRAY_JUDGED + "    if (answer != 0)\n        "
@@ -764,16 +876,16 @@ def to_the_first_alone(command):
 
 TRAYS = [
     ("W8.1-no-entry-of-its-own", 'strncmp(mode, "tray", 4) == 0 ? &tray : NULL', "NULL"),
-    ("W8.2-refused-image-takes-a-slot", TRAY_JUDGED, TRAY_JUDGED + "    if (answer == 10 && kind == 1)\n"
+    ("W8.2-refused-image-takes-a-slot", TRAY_JUDGED, TRAY_JUDGED + "    if (answer == 10 && is_image(kind))\n"
      "        t->packs[t->count++].accepted = true;\n"),
     ("W8.2-images-from-slot-7-down", TAKEN, "        memmove(t->packs + 1, t->packs, (SLOTS - 1) * sizeof t->packs[0]);\n"
-     "        accept_image(&t->packs[0], payload);\n        t->count++;\n"),
+     "        accept_image(&t->packs[0], kind, payload);\n        t->count++;\n"),
     ("W8.2-one-image-alone", "    if (t->count == SLOTS)", "    if (t->count == 1)"),
     ("W8.2-no-power-on", TAKEN, TAKEN + "        t->packs[t->count - 1].porf = t->count == 1;\n"),
-    ("W8.3-refused-event-closes", TRAY_JUDGED, TRAY_REFUSED + "t->closed |= kind != 1;\n"),
-    ("W8.3-missing-slot-closes", TRAY_JUDGED, TRAY_JUDGED + "    t->closed |= answer == 5 && kind != 1;\n"),
+    ("W8.3-refused-event-closes", TRAY_JUDGED, TRAY_REFUSED + "t->closed |= !is_image(kind);\n"),
+    ("W8.3-missing-slot-closes", TRAY_JUDGED, TRAY_JUDGED + "    t->closed |= answer == 5 && !is_image(kind);\n"),
     ("W8.3-read-count-above-64-closes", TRAY_JUDGED, TRAY_JUDGED + "    t->closed |= answer == 8;\n"),
-    ("W8.3-refused-image-closes", TRAY_JUDGED, TRAY_REFUSED + "t->closed |= kind == 1;\n"),
+    ("W8.3-refused-image-closes", TRAY_JUDGED, TRAY_REFUSED + "t->closed |= is_image(kind);\n"),
     ("W8.3-nobody-does-not-close", OPEN,
      "    t->closed |= !is_transaction(kind) || kind == 7 || (length > 1 && (payload[1] == 0xCC || payload[1] == 0x33 || payload[1] == 0x39)) ||\n"
      "                 (length > 9 && slot_with(t, payload + 2) >= 0);\n"),
@@ -801,15 +913,15 @@ TRAYS = [
      "        room_left -= of.tray != NULL && kind == 4 && header[5] == 0xCC ? of.tray->count * replied : replied;\n"),
     ("W8.5-a-room-for-each-match", "        room_left -= replied;\n",
      "        room_left -= of.tray != NULL && kind == 4 && length > 1 && header[5] == 0x55 ? 0 : replied;\n"),
-    ("W8.6-plain-reading-of-slot-0", "if (kind != 1 && !is_transaction(kind) && !has_slot(kind))",
-     "if (kind == 2 && length == 8 && t->count > 0)\n        return 0;\n    if (kind != 1 && !is_transaction(kind) && !has_slot(kind))",
+    ("W8.6-plain-reading-of-slot-0", "if (!is_image(kind) && !is_transaction(kind) && !has_slot(kind))",
+     "if (kind == 2 && length == 8 && t->count > 0)\n        return 0;\n    if (!is_image(kind) && !is_transaction(kind) && !has_slot(kind))",
      SLOT_EVENT, "    if (kind == 2)\n        return event(&t->packs[0], kind, payload, length, reply);\n" + SLOT_EVENT),
-    ("W8.6-plain-sample-is-4", "if (kind != 1 && !is_transaction(kind) && !has_slot(kind))",
-     "if (kind == 6)\n        return 4;\n    if (kind != 1 && !is_transaction(kind) && !has_slot(kind))"),
-    ("W8.6-twenty-is-a-transaction", "if (kind != 1 && !is_transaction(kind) && !has_slot(kind))",
-     "if (kind == 20)\n        return 4;\n    if (kind != 1 && !is_transaction(kind) && !has_slot(kind))"),
-    ("W8.6-low-byte-of-the-kind", "    if (kind != 1 && !is_transaction(kind) && !has_slot(kind))",
-     "    kind %= 256;\n    if (kind != 1 && !is_transaction(kind) && !has_slot(kind))"),
+    ("W8.6-plain-sample-is-4", "if (!is_image(kind) && !is_transaction(kind) && !has_slot(kind))",
+     "if (kind == 6)\n        return 4;\n    if (!is_image(kind) && !is_transaction(kind) && !has_slot(kind))"),
+    ("W8.6-twenty-is-a-transaction", "if (!is_image(kind) && !is_transaction(kind) && !has_slot(kind))",
+     "if (kind == 20)\n        return 4;\n    if (!is_image(kind) && !is_transaction(kind) && !has_slot(kind))"),
+    ("W8.6-low-byte-of-the-kind", "    if (!is_image(kind) && !is_transaction(kind) && !has_slot(kind))",
+     "    kind %= 256;\n    if (!is_image(kind) && !is_transaction(kind) && !has_slot(kind))"),
     ("W8.7-power-on-without-a-slot", "return length >= 1 && length_fits(kind - SLOT_KINDS, length - 1);",
      "return (kind == 21 && length == 0) || (length >= 1 && length_fits(kind - SLOT_KINDS, length - 1));"),
     ("W8.7-lengths-without-the-slot", "return length >= 1 && length_fits(kind - SLOT_KINDS, length - 1);",
@@ -853,11 +965,11 @@ TRAYS = [
     ("W8.11-eight-before-five", "    if (t->count == 0)\n        return 5;\n",
      TOO_MANY + "    if (t->count == 0)\n        return 5;\n"),
     ("W8.12-repeated-image-is-put-in-place", TRAY_JUDGED,
-     TRAY_JUDGED + "    if (answer == 12)\n        accept_image(&t->packs[slot_with(t, payload)], payload);\n"),
+     TRAY_JUDGED + "    if (answer == 12)\n        accept_image(&t->packs[slot_with(t, payload)], kind, payload);\n"),
     ("W8.12-late-sample-forgets-the-tick", TRAY_JUDGED,
      TRAY_JUDGED + "    if (answer == 11)\n        t->packs[payload[0]].had_sample = false;\n"),
     ("W8.12-refused-reads-use-room", "        room_left -= replied;\n", "        room_left -= of.tray != NULL && answer == 8 ? 1 : replied;\n"),
-    ("W8.12-refused-image-clears-slot-0", TRAY_JUDGED, TRAY_REFUSED.replace("answer != 0", "answer != 0 && kind == 1 && t->count > 0") +
+    ("W8.12-refused-image-clears-slot-0", TRAY_JUDGED, TRAY_REFUSED.replace("answer != 0", "answer != 0 && is_image(kind) && t->count > 0") +
      "power_on(&t->packs[0]);\n"),
     ("W8.13-the-search-goes-on", EACH_SLOT + SEARCHED,
      "    int32_t found = -1;\n" + EACH_SLOT + "        found = memcmp(t->packs[slot].address, address, 8) == 0 ? slot : -1;\n    return found;"),
@@ -920,7 +1032,7 @@ TRAYS = [
     ("W8.18-missing-slot-is-9", 'fprintf(stderr, "5: %s\\n", none);', 'fprintf(stderr, "9: %s\\n", none);'),
 ]
 
-TRAY_KINDS = "    if (kind != 1 && !is_transaction(kind) && !has_slot(kind))"
+TRAY_KINDS = "    if (!is_image(kind) && !is_transaction(kind) && !has_slot(kind))"
 TRAY_FORM = "        tray_transaction(t, payload + count_size(kind), length - count_size(kind), reply, read_count(kind, payload));\n"
 
 LONGER_TRAYS = [
@@ -936,6 +1048,24 @@ LONGER_TRAYS = [
     ("W11.7-tray-long-match-to-nobody", "masters >= 9 ? slot_with(t, master + 1) : -1;", "masters >= 9 && masters <= 64 ? slot_with(t, master + 1) : -1;"),
     ("W11.7-tray-master-a-byte-early", TRAY_FORM, TRAY_FORM.replace("payload + count_size(kind)", "payload + 1")),
     ("W11.7-tray-long-does-not-close", OPEN, "    t->closed |= kind != 7;\n"),
+]
+
+CYCLES_TRAYS = [
+    ("W12.1-no-mixed-trays", "    if (t->count == SLOTS)\n        return 5;\n",
+     "    if (t->count == SLOTS || (t->count > 0 && t->packs[0].ds2775 != (kind == 8)))\n        return 5;\n"),
+    ("W12.1-profile-of-slot-0", "        accept_image(&t->packs[t->count++], kind, payload);\n",
+     "        accept_image(&t->packs[t->count++], kind, payload);\n        t->packs[t->count - 1].ds2775 = t->packs[0].ds2775;\n"),
+    ("W12.1-profile-of-the-last", "        accept_image(&t->packs[t->count++], kind, payload);\n",
+     "        accept_image(&t->packs[t->count++], kind, payload);\n        for (int32_t slot = 0; slot < t->count; slot++)\n"
+     "            t->packs[slot].ds2775 = kind == 8;\n"),
+    ("W12.2-not-in-trays", "    if (!is_image(kind) && !is_transaction(kind) && !has_slot(kind))", "    if (kind != 1 && !is_transaction(kind) && !has_slot(kind))"),
+    ("W12.2-not-before-a-slot", "    if (t->closed)\n        return 5;\n", "    if (t->closed && kind == 1)\n        return 5;\n"),
+    ("W12.3-tray-family-of-kind-1", "judged(&nobody, 0, kind, image, image_bytes(kind == 8));", "judged(&nobody, 0, 1, image, IMAGE_BYTES);"),
+    ("W12.3-address-repeated", "    if (slot_with(t, image) >= 0)\n", "    if (kind == 1 && slot_with(t, image) >= 0)\n"),
+    ("W12.6-tray-counter-of-slot-0", "case 0x1E: return g->ds2775 ? g->cycles : 0xFF;", "case 0x1E: return g->ds2775 ? tray_cycles(g) : 0xFF;",
+     "/* Tables 2 and 3", "static int32_t tray_cycles(const Gauge *g);\n\n/* Tables 2 and 3", "int main(int count",
+     "static int32_t tray_cycles(const Gauge *g) { return tray.count > 0 && tray.packs[0].ds2775 ? tray.packs[0].cycles : g->cycles; }\n\nint main(int count"),
+    ("W12.15-tray-60-bytes-out", "    return image_bytes(g->ds2775);\n", "    return IMAGE_BYTES;\n"),
 ]
 
 MEND = [
@@ -954,6 +1084,8 @@ MEND = [
     ("W9.3-family-mended", "    if (image[0] != 0x3D)\n        return 31;\n", "", "    image[0x07] = (byte)crc(image, 7);",
      "    image[0] = 0x3D;\n    image[0x07] = (byte)crc(image, 7);"),
     ("W9.3-kind-8-family-too", "if (image[0] != 0x3D)\n        return 31;", "if (image[0] != 0x3D && image[0] != 0x32)\n        return 31;"),
+    ("W12.17-61-bytes-mended", "if (size != IMAGE_BYTES || room < IMAGE_BYTES)\n        return 30;\n    if (image[0] != 0x3D)\n        return 31;",
+     "if (size != image_bytes(image[0] == 0x32) || room < IMAGE_BYTES)\n        return 30;\n    if (image[0] != 0x3D && image[0] != 0x32)\n        return 31;"),
     ("W9.3-a-wrong-crc-too", "if (image[0] != 0x3D)\n        return 31;", "if (image[0] != 0x3D || image[7] != crc(image, 7))\n        return 31;"),
     ("W9.3-answer-6", "        return 31;", "        return 6;"),
     ("W9.4-file-made-on-a-refusal", "    if (answer != 0) {\n        fprintf(stderr, \"%d: it is",
@@ -1024,6 +1156,10 @@ HEX = [
     ("W10.5-the-factory's-block", "put_hex_line(at, 0x70, 0, pack + 40, 16)", "put_hex_line(at, 0x70, 0, factory + 40, 16)"),
     ("W10.6-factory-not-judged", " || judged(&none_accepted, 0, 1, factory, factory_size) != 0)", " || factory_size < 0)"),
     ("W10.6-pack-not-judged", "if (judged(&none_accepted, 0, 1, pack, pack_size) != 0 ||", "if (pack_size < 0 ||"),
+    ("W12.17-export-of-kind-8", "if (judged(&none_accepted, 0, 1, pack, pack_size) != 0 ||",
+     "if (judged(&none_accepted, 0, pack_size == DS2775_IMAGE_BYTES ? 8 : 1, pack, pack_size) != 0 ||"),
+    ("W12.17-factory-of-kind-8", " || judged(&none_accepted, 0, 1, factory, factory_size) != 0)",
+     " || judged(&none_accepted, 0, factory_size == DS2775_IMAGE_BYTES ? 8 : 1, factory, factory_size) != 0)"),
     ("W10.8-halves-swapped", "read.place = address == 0x20 ? 0 : address - 0x50;",
      "read.place = address == 0x20 ? 0 : address == 0x60 ? 32 : 16;"),
     ("W10.8-only-in-order", "        if (ended || (!line.end && had[line.place / 16]))",

@@ -50,7 +50,10 @@ static int32_t nearest_degree(int32_t temperature);
 static bool in_block_0(int32_t address);
 static bool in_block_1(int32_t address);
 static int32_t signed_byte(int32_t value);
-static void take_image_out(const Gauge *g, byte *image);
+static int32_t take_image_out(const Gauge *g, byte *image);
+static bool is_image(int32_t kind);
+static int32_t image_bytes(bool ds2775);
+static int32_t family_code(int32_t kind);
 static bool length_fits(int32_t kind, int32_t length);
 static bool is_transaction(int32_t kind);
 static int32_t count_size(int32_t kind);
@@ -86,16 +89,16 @@ static void saw_image_answer(const byte *image, int32_t answer)
 
 static void saw_answer(const Gauge *g, int32_t kind, const byte *payload, int32_t length, int32_t answer)
 {
-    bool known = kind >= 1 && kind <= 7, sized = known && length_fits(kind, length);
-    bool wrong_family = sized && kind == 1 && payload[0] != 0x3D;
-    bool wrong_crc = sized && kind == 1 && payload[7] != crc(payload, 7);
-    bool wrong_lock_byte = sized && kind == 1 && payload[59] > 3;
+    bool known = kind >= 1 && kind <= 8, sized = known && length_fits(kind, length);
+    bool wrong_family = sized && is_image(kind) && payload[0] != family_code(kind);
+    bool wrong_crc = sized && is_image(kind) && payload[7] != crc(payload, 7);
+    bool wrong_lock_byte = sized && is_image(kind) && payload[59] > 3;
     bool wrong_count = sized && is_transaction(kind) && read_count(kind, payload) > read_limit(kind);
 
     SAW(answer == 0, "answer: 0");
     SAW(answer == 3, "answer: 3");
     SAW(answer == 3 && kind < 256, "answer: 3 for a kind below 256");
-    SAW(answer == 3 && kind % 256 >= 1 && kind % 256 <= 7, "answer: 3 for a kind whose low byte is known");
+    SAW(answer == 3 && kind % 256 >= 1 && kind % 256 <= 8, "answer: 3 for a kind whose low byte is known");
     SAW(answer == 4 && kind == 1, "answer: 4 for an image");
     SAW(answer == 4 && kind == 2, "answer: 4 for a reading");
     SAW(answer == 4 && kind == 3, "answer: 4 for a conversion");
@@ -105,7 +108,7 @@ static void saw_answer(const Gauge *g, int32_t kind, const byte *payload, int32_
     SAW(answer == 4 && kind == 6 && length == 5, "answer: 4 for a sample of 5 bytes");
     SAW(answer == 4 && kind == 6 && length == 7, "answer: 4 for a sample of 7 bytes");
     SAW(answer == 0 && kind == 4 && length == 65, "answer: 0 for a transaction of 65 bytes");
-    SAW(answer == 5 && kind == 1, "answer: 5 for a second image");
+    SAW(answer == 5 && is_image(kind), "answer: 5 for a second image");
     SAW(answer == 5 && kind == 2, "answer: 5 for a reading before an image");
     SAW(answer == 5 && kind == 3, "answer: 5 for a conversion before an image");
     SAW(answer == 5 && kind == 4, "answer: 5 for a transaction before an image");
@@ -122,7 +125,7 @@ static void saw_answer(const Gauge *g, int32_t kind, const byte *payload, int32_
     SAW(answer == 5 && (wrong_family || wrong_crc), "answer: 5 where 6 would come next");
     SAW(answer == 5 && wrong_count, "answer: 5 where 8 would come next");
     SAW(answer == 6 && wrong_lock_byte, "answer: 6 where 7 would come next");
-    if (sized && kind == 1)
+    if (sized && is_image(kind))
         saw_image_answer(payload, answer);
 }
 
@@ -367,6 +370,108 @@ static void saw_mark(const Gauge *was, const Gauge *is, int32_t measured, int32_
     SAW(full_now, "mark: full is found");
 }
 
+/* ---- The cycle counter ---- */
+
+static int32_t cycles_in_sample; /* steps that came within the sample that is run */
+
+/* W12.4, W12.5 and W12.8 to W12.11, of each conversion of a DS2775 pack: place is from 1, and ticks is 0 for a conversion. */
+static void saw_cycles(const Gauge *was, const Gauge *is, int32_t place, int32_t ticks)
+{
+    int32_t step = 2 * wide_parameter(was, FULL_40), c = is->current, bias = signed_parameter(was, AB);
+    int64_t count = (int64_t)was->acr * 4096 + was->fraction + added(was, c);
+    int32_t after = count < 0 ? 0 : count > 268435455 ? 65535 : (int32_t)(count / 4096), fall = was->acr > after ? was->acr - after : 0;
+    int32_t rest = was->cycle_rest + fall, steps = step > 0 ? rest / step : 0;
+    bool blanks = (parameter(was, CONTROL) & NBEN) != 0 && !was->acr_written;
+    cycles_in_sample = place <= 1 ? steps : cycles_in_sample + steps;
+    SAW(blanks && c == -15, "cycle: -15 is blanked");
+    SAW(blanks && c == -16 && bias == 0, "cycle: -16 is blanked with NBEN");
+    SAW(blanks && c == -17, "cycle: -17 is counted");
+    SAW(!blanks && c == -16 && !was->acr_written, "cycle: -16 is counted without NBEN");
+    SAW(steps == 1, "cycle: a step");
+    SAW(steps == 2, "cycle: two steps in a conversion");
+    SAW(steps >= 3 && was->cycle_rest < step, "cycle: three steps and more in a conversion");
+    SAW(steps >= 3 && was->cycle_rest >= step, "cycle: many steps at once, Full40 was lowered");
+    SAW(steps > 255, "cycle: more steps at once than the counter has");
+    SAW(steps > 0 && fall == 0, "cycle: a step though ACR does not fall");
+    SAW(steps > 0 && fall == 0 && after > was->acr, "cycle: a step though ACR rises");
+    SAW(steps > 0 && was->acr_written, "cycle: a step at the conversion after a write of ACR");
+    SAW(steps > 0 && offset_due(was), "cycle: a step at a 1024th");
+    SAW(steps > 0 && was->bl1, "cycle: a step while block 1 is locked");
+    SAW(steps > 0 && is->as < was->as && !full_now, "cycle: a step as AS falls");
+    SAW(steps > 0 && was->as < 120, "cycle: a step with AS well below 128");
+    SAW(fall > 0 && steps == 0 && step > 0, "cycle: a fall that is carried");
+    SAW(fall > 0 && step > 0 && rest == step, "cycle: a rest that comes to a step exactly");
+    SAW(fall > 0 && step > 0 && rest == step - 1, "cycle: a rest that is one short of a step");
+    SAW(steps > 0 && rest % step > 0, "cycle: a rest that is left by a step");
+    SAW(was->cycles == 254 && is->cycles == 255, "cycle: 254 becomes 255");
+    SAW(was->cycles == 255 && steps > 0, "cycle: 255 stays, and the step is taken off");
+    SAW(was->cycles < 255 && was->cycles + steps > 255, "cycle: 255 is passed at once");
+    SAW(was->cycles == 127 && is->cycles == 128, "cycle: 127 becomes 128");
+    SAW(step == 0 && was->cycle_rest > 0, "cycle: Full40 = 0 zeroes the rest");
+    SAW(step == 0 && was->cycle_rest == 0 && fall > 0, "cycle: Full40 = 0, and a fall is not kept");
+    SAW(step == 0 && was->cycle_rest > 0 && was->acr_written, "cycle: Full40 = 0 zeroes the rest at the conversion after a write of ACR");
+    SAW(full_now && was->acr > is->acr + step && step > 0, "cycle: full lowers ACR by more than a step");
+    SAW(ticks > 1 && place == ticks && cycles_in_sample > 1, "cycle: steps within a sample");
+    SAW(ticks > 1 && place == ticks && cycles_in_sample > 100, "cycle: a hundred steps within a sample");
+}
+
+/* W12.12 and W12.13: what a reading or a power-on does with the cell. */
+static void saw_cycle_cell(const Gauge *was, const Gauge *is, int32_t kind)
+{
+    bool again = was->accepted && was->ds2775, powered = kind == 5 || kind == 8, saves = was->saved_acr != is->saved_acr;
+    if (!is->ds2775)
+        return;
+    SAW(powered && is->cycles == 255, "cycle: 255 taken from the cell");
+    SAW(powered && is->cycles == 0, "cycle: 0 taken from the cell");
+    SAW(powered && again && was->cycles > is->cycles, "cycle: a power-on takes the counter back");
+    SAW(powered && again && was->cycles < is->cycles, "cycle: a power-on takes back a counter that was written lower");
+    SAW(powered && again && was->cycle_rest > 0, "cycle: a power-on loses the rest");
+    SAW(kind == 2 && was->saved_cycles != is->saved_cycles, "cycle: the counter is saved");
+    SAW(kind == 2 && was->saved_cycles != is->saved_cycles && is->bl1, "cycle: the counter is saved while block 1 is locked");
+    SAW(kind == 2 && was->had_reading && !saves && was->saved_cycles != is->cycles && was->saved_cycles == is->saved_cycles,
+        "cycle: a reading that leaves the cell behind the counter");
+    SAW(kind == 2 && is->acr < was->acr && was->acr - is->acr > 2 * wide_parameter(is, FULL_40), "cycle: a reading lowers ACR by more than a step");
+}
+
+/* W12.6, W12.7 and W12.14: what the bus does. */
+static void saw_cycle_bus(const Gauge *was, const Gauge *is, int32_t command, int32_t address, int32_t touched)
+{
+    bool here = address <= 0x1E && address + touched > 0x1E;
+    SAW(!is->ds2775 && command == 0x69 && here, "cycle: 1Eh is read in kind 1");
+    SAW(!is->ds2775 && command == 0x6C && here, "cycle: 1Eh is written in kind 1");
+    if (!is->ds2775)
+        return;
+    SAW(command == 0x69 && here && !is->bl1, "cycle: the counter is read");
+    SAW(command == 0x69 && here && is->bl1, "cycle: the counter is read while block 1 is locked");
+    SAW(command == 0x6C && here && touched == 1 && was->cycles != is->cycles, "cycle: the counter is written");
+    SAW(command == 0x6C && here && touched > 1 && was->cycles != is->cycles, "cycle: the counter is written among others");
+    SAW(command == 0x6C && here && was->cycles > is->cycles, "cycle: the counter is written lower");
+    SAW(command == 0x6C && here && was->cycle_rest > 0 && was->cycles != is->cycles, "cycle: the counter is written, and the rest stays");
+    SAW(command == 0x6C && here && was->bl1, "cycle: a write is dropped, block 1 is locked");
+    SAW(command == 0x6C && here && was->bl0 && !was->bl1 && was->cycles != is->cycles, "cycle: the counter is written while block 0 is locked");
+    SAW(command == 0x6C && was->acr > is->acr + 2 * wide_parameter(is, FULL_40), "cycle: a write lowers ACR by more than a step");
+    SAW(command == 0x48 && in_block_1(address) && is->cycles != is->saved_cycles, "cycle: a copy leaves the cell");
+    SAW(command == 0xB8 && in_block_1(address) && is->cycles != is->saved_cycles, "cycle: a recall leaves the counter");
+}
+
+/* W12.1 to W12.3. */
+static void saw_camera_answer(const Gauge *g, int32_t kind, const byte *payload, int32_t length, int32_t answer)
+{
+    bool whole = length >= 60, camera = kind == 8;
+    SAW(camera && answer == 0, "camera: 0");
+    SAW(camera && answer == 4 && length == 60, "camera: 4 for 60 bytes");
+    SAW(camera && answer == 4 && length == 62, "camera: 4 for 62 bytes");
+    SAW(kind == 1 && answer == 4 && length == 61, "camera: 4 for 61 bytes of kind 1");
+    SAW(camera && answer == 5 && !g->ds2775, "camera: 5 after an image of kind 1");
+    SAW(kind == 1 && answer == 5 && g->ds2775, "camera: 5 for kind 1 after an image of kind 8");
+    SAW(camera && answer == 5 && g->ds2775, "camera: 5 for a second one");
+    SAW(camera && answer == 6 && payload[0] == 0x3D && payload[7] == crc(payload, 7), "camera: 6 for the family of kind 1");
+    SAW(kind == 1 && answer == 6 && whole && payload[0] == 0x32 && payload[7] == crc(payload, 7), "camera: 6 for its family in kind 1");
+    SAW(camera && answer == 6 && payload[0] == 0x32, "camera: 6 for the CRC");
+    SAW(camera && answer == 7, "camera: 7");
+    SAW(camera && answer == 10, "camera: 10");
+}
+
 /* Each conversion, those of samples too. */
 static void saw_each(const Gauge *was, const Gauge *is, int32_t raw, int32_t place, int32_t ticks)
 {
@@ -377,6 +482,8 @@ static void saw_each(const Gauge *was, const Gauge *is, int32_t raw, int32_t pla
         saw_offset(was, is, measured, place, ticks);
     if (was->acr_written)
         saw_mark(was, is, measured, place, ticks);
+    if (was->ds2775)
+        saw_cycles(was, is, place, ticks);
     SAW(since_write == 1 && adds && ticks == 0, "mark: the second conversion after a write adds");
     SAW(since_write == 1 && adds && place == 2, "mark: the second of a sample adds");
     SAW(full_last && adds, "mark: none after full, a conversion adds");
@@ -711,6 +818,7 @@ static void saw_selected(const Gauge *was, const Gauge *is, int32_t kind, const 
     SAW(block && left > 2, "command: surplus bytes after 48h, B8h or 6Ah");
     SAW(command == 0x6C && count > 0, "command: a reply to 6Ch");
     SAW(block && count > 0, "command: a reply to 48h, B8h or 6Ah");
+    saw_cycle_bus(was, is, command, address, command == 0x69 ? count : left - 2);
     if (command == 0x69) {
         saw_read(address, count);
         first = address, last = address + count - 1;
@@ -871,7 +979,10 @@ static void after_record(const Gauge *is, int32_t kind, const byte *payload, int
     if (answer == 0 && is_transaction(kind) && in_the_other_form(kind, payload, length) && length > count_size(kind) + 2)
         saw_both_forms(was, kind, payload);
     saw_answer(was, kind, payload, length, answer);
+    saw_camera_answer(was, kind, payload, length, answer);
     saw_flags(was, is);
+    if (answer == 0)
+        saw_cycle_cell(was, is, kind);
     if (was->accepted && (answer != 0 || !is_transaction(kind)))
         saw_class(kind, answer, 1, 0, false);
     saw_late(was, kind, payload, length, answer);
@@ -880,7 +991,8 @@ static void after_record(const Gauge *is, int32_t kind, const byte *payload, int
     if (answer != 0)
         return;
     switch (kind) {
-    case 1: saw_power_on(was, is); break;
+    case 1:
+    case 8: saw_power_on(was, is); break;
     case 2: saw_reading(was, is, little_endian_signed_32(payload), little_endian_signed_32(payload + 4)); break;
     case 3:
         saw_conversion(was, is, little_endian_signed_32(payload));
@@ -898,10 +1010,12 @@ static void after_record(const Gauge *is, int32_t kind, const byte *payload, int
 static void saw_image_out(const Gauge *g)
 {
     static const Gauge fresh;
-    byte image[IMAGE_BYTES];
-    take_image_out(g, image);
-    int32_t answer = g->accepted ? judged(&fresh, REPLY_ROOM, 1, image, IMAGE_BYTES) : -1;
+    byte image[DS2775_IMAGE_BYTES];
+    int32_t size = take_image_out(g, image), answer = g->accepted ? judged(&fresh, REPLY_ROOM, g->ds2775 ? 8 : 1, image, size) : -1;
     SAW(answer == 0, "image out: accepted");
+    SAW(answer == 0 && g->ds2775, "image out: accepted as kind 8");
+    SAW(answer == 10 && g->ds2775, "image out: refused with 10 as kind 8");
+    SAW(g->ds2775 && g->cycles != g->saved_cycles, "image out: the cell is behind the counter");
     SAW(answer == 0 && crossed(g->shadow), "image out: accepted, crossed breakpoints were not copied");
     SAW(answer == 10, "image out: refused with 10");
     SAW(answer == 10 && !crossed(g->shadow), "image out: refused with 10, though the shadow is in order");
@@ -933,6 +1047,8 @@ static void saw_tray_kind(int32_t kind, int32_t length, int32_t answer)
     SAW(answer == 3 && kind == 20, "tray answer: 3 for kind 20");
     SAW(answer == 3 && kind > 255 && has_slot(kind % 256), "tray answer: 3 for a kind whose low byte is known");
     SAW(answer == 4 && kind == 1, "tray answer: 4 for an image");
+    SAW(answer == 4 && kind == 8 && length == 60, "tray camera: 4 for 60 bytes");
+    SAW(answer == 4 && kind == 8 && length == 62, "tray camera: 4 for 62 bytes");
     SAW(answer == 4 && kind == 4 && length == 0, "tray answer: 4 for a transaction without a count");
     SAW(answer == 4 && kind == 4 && length == 66, "tray answer: 4 for a transaction of 66 bytes");
     SAW(answer == 4 && kind == 18 && length == 8, "tray answer: 4 for a reading of 8 bytes");
@@ -947,11 +1063,22 @@ static void saw_tray_kind(int32_t kind, int32_t length, int32_t answer)
 }
 
 /* W8.2, W8.3, W8.9 to W8.11: an image of its size. */
-static void saw_tray_image(const Tray *was, const byte *image, int32_t answer)
+static void saw_tray_image(const Tray *was, int32_t kind, const byte *image, int32_t answer)
 {
-    bool wrong_address = image[0] != 0x3D || image[7] != crc(image, 7), wrong_locks = image[59] > 3, wrong = !breakpoints_ordered(image);
+    bool wrong_address = image[0] != family_code(kind) || image[7] != crc(image, 7), wrong_locks = image[59] > 3, wrong = !breakpoints_ordered(image);
     int32_t known = slot_with(was, image);
-    bool full = was->count == SLOTS;
+    bool full = was->count == SLOTS, other_kind = was->count > 0 && was->packs[was->count - 1].ds2775 != (kind == 8);
+    SAW(answer == 0 && kind == 8, "tray camera: an image");
+    SAW(answer == 0 && other_kind, "tray camera: images of both kinds");
+    SAW(answer == 0 && other_kind && memcmp(image + 1, was->packs[was->count - 1].address + 1, 6) == 0,
+        "tray camera: an address that differs in the family alone");
+    SAW(answer == 5 && kind == 8 && was->closed, "tray camera: 5 once the tray is closed");
+    SAW(answer == 5 && kind == 8 && full && !was->closed, "tray camera: 5 for a ninth");
+    SAW(answer == 6 && kind == 8 && image[0] == 0x3D && image[7] == crc(image, 7), "tray camera: 6 for the family of kind 1");
+    SAW(answer == 6 && kind == 1 && image[0] == 0x32 && image[7] == crc(image, 7), "tray camera: 6 for its family in kind 1");
+    SAW(answer == 7 && kind == 8, "tray camera: 7");
+    SAW(answer == 12 && kind == 8, "tray camera: 12");
+    SAW(answer == 10 && kind == 8, "tray camera: 10");
     SAW(answer == 0 && was->count == 0, "tray opening: an image in slot 0");
     SAW(answer == 0 && was->count == SLOTS - 1, "tray opening: an image in slot 7");
     SAW(answer == 0 && was->count > 0 && memcmp(image, was->packs[was->count - 1].address, 6) == 0,
@@ -1018,6 +1145,12 @@ static void saw_tray_event(const Tray *was, const Tray *is, int32_t kind, const 
     bool other_marked = false;
     for (int32_t i = 0; i < was->count; i++)
         other_marked |= i != slot && was->packs[i].acr_written;
+    bool other_camera = false;
+    for (int32_t i = 0; i < was->count; i++)
+        other_camera |= i != slot && was->packs[i].ds2775;
+    SAW(own->ds2775 && other_camera && own->cycles != is->packs[slot].cycles && kind != 21, "tray camera: a step in one of several");
+    SAW(own->ds2775 && own->saved_cycles != is->packs[slot].saved_cycles, "tray camera: the counter of a slot is saved");
+    SAW(kind == 21 && own->ds2775 && own->cycles != is->packs[slot].cycles, "tray camera: a power-on takes the counter back");
     SAW(slot == 7 && kind == 18, "tray packs: a reading at slot 7");
     SAW(slot == 7 && kind == 19, "tray packs: a conversion at slot 7");
     SAW(slot == 7 && kind == 21, "tray packs: a power-on at slot 7");
@@ -1034,7 +1167,7 @@ static void saw_tray_closed(const Tray *was, int32_t kind, const byte *payload, 
 {
     int32_t ahead = count_size(kind), first = is_transaction(kind) && length > ahead ? payload[ahead] : -1;
     bool whole = length >= ahead + 9, known = whole && slot_with(was, payload + ahead + 1) >= 0;
-    if (was->closed || was->count == 0 || kind == 1)
+    if (was->closed || was->count == 0 || is_image(kind))
         return;
     SAW(answer == 0 && kind == 18, "tray opening: closed by a reading");
     SAW(answer == 0 && kind == 19, "tray opening: closed by a conversion");
@@ -1055,7 +1188,7 @@ static void saw_tray_closed(const Tray *was, int32_t kind, const byte *payload, 
 static void saw_tray_every(const Tray *was, const Tray *is, const byte *master, int32_t masters, const byte *reply, int32_t count)
 {
     bool some_other = false, each_other = was->count > 1;
-    int32_t rnaop = 0, took = 0, locked = 0, copied = 0, marked = 0;
+    int32_t rnaop = 0, took = 0, locked = 0, copied = 0, marked = 0, cameras = 0, cycled = 0;
     for (int32_t slot = 0; slot < was->count; slot++) {
         const Gauge *before = &was->packs[slot], *after = &is->packs[slot];
         int32_t own = 0;
@@ -1068,6 +1201,8 @@ static void saw_tray_every(const Tray *was, const Tray *is, const byte *master, 
         locked += (before->bl0 != after->bl0) + (before->bl1 != after->bl1);
         copied += memcmp(before->eeprom, after->eeprom, sizeof before->eeprom) != 0;
         marked += !before->acr_written && after->acr_written;
+        cameras += before->ds2775;
+        cycled += before->cycles != after->cycles;
     }
     bool skip = master[0] == 0xCC, many = was->count > 1, named = count >= 8;
     int32_t command = skip && masters >= 3 ? master[1] : -1;
@@ -1077,6 +1212,11 @@ static void saw_tray_every(const Tray *was, const Tray *is, const byte *master, 
     SAW(command == 0x6C && many && took == was->count, "tray line: a Skip write that every pack takes");
     SAW(command == 0x6C && took > 0 && took < was->count, "tray line: a Skip write that some pack takes and some drops");
     SAW(command == 0x6C && marked > 1, "tray line: a Skip write of ACR");
+    bool counter = command == 0x69 && master[2] <= 0x1E && master[2] + count > 0x1E;
+    SAW(counter && cameras > 0 && cameras < was->count, "tray camera: a Skip read of 1Eh where some packs have a counter");
+    SAW(counter && cameras > 1 && some_other, "tray camera: a Skip read of 1Eh where several packs have a counter");
+    SAW(command == 0x6C && cycled > 1, "tray camera: a Skip write that several counters take");
+    SAW(command == 0x6C && cycled > 0 && cycled < cameras, "tray camera: a Skip write that some counter takes and some drops");
     SAW(command == 0x6A && many && locked == was->count, "tray line: a Skip lock of every pack");
     SAW(command == 0x6A && locked > 0 && locked < was->count, "tray line: a Skip lock of some pack, by its LOCK");
     SAW(command == 0x48 && copied > 1, "tray line: a Skip copy that several packs take");
@@ -1156,8 +1296,8 @@ static void after_tray_record(const Tray *is, int32_t kind, const byte *payload,
     saw_tray_closed(was, kind, payload, length, answer);
     if (answer == 3 || answer == 4)
         return;
-    if (kind == 1)
-        saw_tray_image(was, payload, answer);
+    if (is_image(kind))
+        saw_tray_image(was, kind, payload, answer);
     else
         saw_tray_event_answer(was, kind, payload, answer);
     if (kind == 22 && answer != 5)
@@ -1173,11 +1313,12 @@ static void saw_tray_images_out(const Tray *t)
 {
     static const Gauge fresh;
     for (int32_t slot = 0; slot < t->count; slot++) {
-        byte image[IMAGE_BYTES];
-        take_image_out(&t->packs[slot], image);
-        int32_t answer = judged(&fresh, REPLY_ROOM, 1, image, IMAGE_BYTES);
+        byte image[DS2775_IMAGE_BYTES];
+        int32_t size = take_image_out(&t->packs[slot], image);
+        int32_t answer = judged(&fresh, REPLY_ROOM, t->packs[slot].ds2775 ? 8 : 1, image, size);
         SAW(answer == 0 && slot == 7, "tray image out: slot 7");
         SAW(answer == 0 && slot > 0, "tray image out: accepted of a slot above 0");
+        SAW(answer == 0 && slot > 0 && t->packs[slot].ds2775, "tray image out: accepted as kind 8 of a slot above 0");
         SAW(answer == 10, "tray image out: refused with 10");
     }
     SAW(t->count == 0, "tray image out: none was accepted");

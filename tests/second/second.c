@@ -24,7 +24,7 @@
 
 typedef unsigned char byte;
 
-enum { SESSION_LIMIT = 32768, REPLY_ROOM = 65536, IMAGE_BYTES = 60, READ_LIMIT = 64, LONG_READ_LIMIT = 256 };
+enum { SESSION_LIMIT = 32768, REPLY_ROOM = 65536, IMAGE_BYTES = 60, DS2775_IMAGE_BYTES = 61, READ_LIMIT = 64, LONG_READ_LIMIT = 256 };
 
 /* Table 3 of 001: where each parameter stands. A slope of segment s stands at its base + 4 - s. */
 enum {
@@ -36,15 +36,17 @@ enum { NBEN = 0x80, RNAOP = 0x10 };
 
 typedef struct {
     bool accepted; /* an image was accepted */
+    bool ds2775;   /* by an image of kind 8 (W12.1) */
 
     /* What outlives a power-on. Blocks are held under their bus addresses: 20h..2Fh and 60h..7Fh. */
     byte address[8];
     byte eeprom[256];
-    int32_t saved_acr, saved_as;
+    int32_t saved_acr, saved_as, saved_cycles;
     bool bl0, bl1;
 
     byte shadow[256];
     int32_t acr, fraction, as, age_counter;
+    int32_t cycles, cycle_rest; /* the cycle counter, and what ACR has fallen since its last step */
     int32_t full, ae, se, raac, rsac, rarc, rsrc;
     int32_t iavg, temperature, voltage, current; /* temperature and voltage as clamped counts */
     bool chgtf, aef, sef, learnf, porf, lock;
@@ -151,6 +153,8 @@ static void power_on(Gauge *g)
     g->acr = g->saved_acr;
     g->as = moved_into_as_range(g->saved_as);
     g->fraction = g->age_counter = 0;
+    g->cycles = g->saved_cycles; /* W12.12 */
+    g->cycle_rest = 0;
     g->full = g->ae = g->se = g->raac = g->rsac = g->rarc = g->rsrc = 0;
     g->iavg = g->temperature = g->voltage = g->current = 0;
     g->chgtf = g->aef = g->sef = g->learnf = g->lock = false;
@@ -163,9 +167,16 @@ static void power_on(Gauge *g)
     g->currents = g->previous_current = g->run = g->run_sum = g->lowest_voltage = 0;
 }
 
-static void accept_image(Gauge *g, const byte *image)
+/* An image comes as kind 1 or, of the DS2775 profile, as kind 8: its own family, and a byte more (W12.1, W12.3). */
+static bool is_image(int32_t kind) { return kind == 1 || kind == 8; }
+static int32_t image_bytes(bool ds2775) { return ds2775 ? DS2775_IMAGE_BYTES : IMAGE_BYTES; }
+static int32_t family_code(int32_t kind) { return kind == 8 ? 0x32 : 0x3D; }
+
+static void accept_image(Gauge *g, int32_t kind, const byte *image)
 {
     g->accepted = true;
+    g->ds2775 = kind == 8;
+    g->saved_cycles = g->ds2775 ? image[60] : 0;
     memcpy(g->address, image, 8);
     memcpy(g->eeprom + 0x20, image + 8, 16);
     memcpy(g->eeprom + 0x60, image + 24, 32);
@@ -176,7 +187,8 @@ static void accept_image(Gauge *g, const byte *image)
     power_on(g);
 }
 
-static void take_image_out(const Gauge *g, byte *image)
+/* Hands back how many bytes it has (W12.15). */
+static int32_t take_image_out(const Gauge *g, byte *image)
 {
     memcpy(image, g->address, 8);
     memcpy(image + 8, g->eeprom + 0x20, 16);
@@ -185,6 +197,9 @@ static void take_image_out(const Gauge *g, byte *image)
     image[57] = (byte)(g->saved_acr / 256);
     image[58] = (byte)g->saved_as;
     image[59] = (byte)((g->bl1 ? 2 : 0) + (g->bl0 ? 1 : 0));
+    if (g->ds2775)
+        image[60] = (byte)g->saved_cycles;
+    return image_bytes(g->ds2775);
 }
 
 /* ---- Conversion ---- */
@@ -195,15 +210,31 @@ static int32_t age_scaled_full(const Gauge *g)
     return (int32_t)divided_down((int64_t)g->full * g->as, 128);
 }
 
-/* C9 to C11: what of c goes into the charge count. */
+/* C9 to C11: what of c goes into the charge count. The DS2775 takes in 25 uV itself (W12.4). */
 static int32_t counted(const Gauge *g, int32_t c)
 {
     bool blanks_negative = (parameter(g, CONTROL) & NBEN) != 0;
+    int32_t lowest_blanked = g->ds2775 ? -16 : -15;
     if (0 < c && c < 64)
         return 0;
-    if (blanks_negative && -16 < c && c < 0)
+    if (blanks_negative && lowest_blanked <= c && c < 0)
         return 0;
     return c;
+}
+
+/* W12.8 to W12.11, at each conversion: the fall is the one that ageing counts. */
+static void count_cycles(Gauge *g, int32_t fall)
+{
+    int32_t step = 2 * wide_parameter(g, FULL_40);
+    if (!g->ds2775)
+        return;
+    g->cycle_rest += fall;
+    if (step == 0)
+        g->cycle_rest = 0;
+    while (step > 0 && g->cycle_rest >= step) {
+        g->cycle_rest -= step;
+        g->cycles = (int32_t)clamped(g->cycles + 1, 0, 255);
+    }
 }
 
 /* Steps 3 and 4, C12 to C21. The first conversion after a write of ACR adds nothing and uses up the mark (W7.7, W7.9). */
@@ -218,14 +249,15 @@ static void accumulate_and_age(Gauge *g, int32_t c)
     g->fraction = (int32_t)(count % 4096);
 
     int32_t ageing_step = 32 * wide_parameter(g, AC);
-    if (g->acr < acr_before)
-        g->age_counter += acr_before - g->acr;
+    int32_t fall = g->acr < acr_before ? acr_before - g->acr : 0;
+    g->age_counter += fall;
     if (ageing_step == 0) {
         g->age_counter = 0;
     } else if (g->age_counter >= ageing_step) {
         g->age_counter -= ageing_step;
         g->as = moved_into_as_range(g->as - 1);
     }
+    count_cycles(g, fall);
 }
 
 /* C29 to C35, W1.1. A reading came before, so FULL is not 0. */
@@ -413,6 +445,7 @@ static void reading(Gauge *g, int32_t voltage, int32_t temperature)
     if (g->had_reading && g->rarc / 4 != previous_rarc / 4) {
         g->saved_acr = g->acr;
         g->saved_as = g->as;
+        g->saved_cycles = g->cycles; /* W12.13; 0 of kind 1 */
     }
 
     g->had_reading = true;
@@ -462,6 +495,7 @@ static int32_t read_at(const Gauge *g, int32_t address)
     case 0x19: return low_of(g->ae);
     case 0x1A: return high_of(g->se);
     case 0x1B: return low_of(g->se);
+    case 0x1E: return g->ds2775 ? g->cycles : 0xFF; /* W12.6 */
     case 0x1F: return bit(g->lock, 0x40) + bit(g->bl1, 0x02) + bit(g->bl0, 0x01);
     }
     return in_block_0(address) || in_block_1(address) ? g->shadow[address] : 0xFF; /* past FFh too (B11) */
@@ -485,6 +519,8 @@ static void write_from(Gauge *g, int32_t address, const byte *data, int32_t coun
         }
         if (at == 0x14)
             g->as = moved_into_as_range(value);
+        if (at == 0x1E && g->ds2775 && !g->bl1)
+            g->cycles = value; /* W12.7 */
         if (at == 0x1F)
             g->lock = (value & 0x40) != 0;
         if ((in_block_0(at) && !g->bl0) || (in_block_1(at) && !g->bl1))
@@ -559,7 +595,8 @@ static int32_t read_limit(int32_t kind) { return kind == 4 ? READ_LIMIT : LONG_R
 static bool length_fits(int32_t kind, int32_t length)
 {
     switch (kind) {
-    case 1: return length == IMAGE_BYTES;
+    case 1:
+    case 8: return length == image_bytes(kind == 8);
     case 2: return length == 8;
     case 3: return length == 4;
     case 4: return 1 <= length && length <= 65;
@@ -579,17 +616,17 @@ static bool breakpoints_ordered(const byte *image)
 /* Answers 3 to 11, the first that applies, or 0. */
 static int32_t judged(const Gauge *g, int32_t room_left, int32_t kind, const byte *payload, int32_t length)
 {
-    if (kind < 1 || kind > 7)
+    if (kind < 1 || kind > 8)
         return 3;
     if (!length_fits(kind, length))
         return 4;
-    if ((kind == 1) == g->accepted)
+    if (is_image(kind) == g->accepted)
         return 5;
-    if (kind == 1 && (payload[0] != 0x3D || payload[7] != crc(payload, 7)))
+    if (is_image(kind) && (payload[0] != family_code(kind) || payload[7] != crc(payload, 7)))
         return 6;
-    if (kind == 1 && payload[59] > 3)
+    if (is_image(kind) && payload[59] > 3)
         return 7;
-    if (kind == 1 && !breakpoints_ordered(payload))
+    if (is_image(kind) && !breakpoints_ordered(payload))
         return 10;
     if (kind == 6 && !tick_fits(g, tick_of(payload)))
         return 11;
@@ -626,14 +663,14 @@ static bool tray_length_fits(int32_t kind, int32_t length)
 }
 
 /* W8.9 to W8.11, of an image of its size: 5, 6, 7, 12, 10. */
-static int32_t tray_image_judged(const Tray *t, const byte *image)
+static int32_t tray_image_judged(const Tray *t, int32_t kind, const byte *image)
 {
     static const Gauge nobody;
     if (t->closed)
         return 5;
     if (t->count == SLOTS)
         return 5;
-    int32_t by_itself = judged(&nobody, 0, 1, image, IMAGE_BYTES);
+    int32_t by_itself = judged(&nobody, 0, kind, image, image_bytes(kind == 8));
     if (by_itself == 6 || by_itself == 7)
         return by_itself;
     if (slot_with(t, image) >= 0)
@@ -644,12 +681,12 @@ static int32_t tray_image_judged(const Tray *t, const byte *image)
 /* W8.6 to W8.11: the first answer that applies, or 0. */
 static int32_t tray_judged(const Tray *t, int32_t room_left, int32_t kind, const byte *payload, int32_t length)
 {
-    if (kind != 1 && !is_transaction(kind) && !has_slot(kind))
+    if (!is_image(kind) && !is_transaction(kind) && !has_slot(kind))
         return 3;
     if (!tray_length_fits(kind, length))
         return 4;
-    if (kind == 1)
-        return tray_image_judged(t, payload);
+    if (is_image(kind))
+        return tray_image_judged(t, kind, payload);
     if (t->count == 0)
         return 5;
     if (is_transaction(kind))
@@ -694,6 +731,8 @@ static void dump(const Gauge *g)
     for (int32_t i = 0x20; i <= 0x7F; i++)
         if (in_block_0(i) || in_block_1(i))
             printf("%02x", g->shadow[i]);
+    if (g->ds2775)
+        printf(" cycles %d rest %d kept %d", (int)g->cycles, (int)g->cycle_rest, (int)g->saved_cycles);
     printf(" eeprom ");
     for (int32_t i = 0x20; i <= 0x7F; i++)
         if (in_block_0(i) || in_block_1(i))
@@ -737,7 +776,8 @@ static int32_t event(Gauge *g, int32_t kind, const byte *payload, int32_t length
 {
     int32_t ahead = count_size(kind);
     switch (kind) {
-    case 1: accept_image(g, payload); return 0;
+    case 1:
+    case 8: accept_image(g, kind, payload); return 0;
     case 2: reading(g, little_endian_signed_32(payload), little_endian_signed_32(payload + 4)); return 0;
     case 3: conversion(g, little_endian_signed_32(payload)); return 0;
     case 4:
@@ -750,8 +790,8 @@ static int32_t event(Gauge *g, int32_t kind, const byte *payload, int32_t length
 /* The same of a record of a tray. */
 static int32_t tray_event(Tray *t, int32_t kind, const byte *payload, int32_t length, byte *reply)
 {
-    if (kind == 1) {
-        accept_image(&t->packs[t->count++], payload);
+    if (is_image(kind)) {
+        accept_image(&t->packs[t->count++], kind, payload);
         return 0;
     }
     t->closed = true;
@@ -1135,6 +1175,9 @@ static void hold_conversions(void)
     g.shadow[CONTROL] = NBEN;
     hold("with NBEN -15 counts as", 0, counted(&g, -15));
     hold("with NBEN -16 counts as", -16, counted(&g, -16));
+    g.ds2775 = true;
+    hold("with NBEN, as kind 8, -16 counts as", 0, counted(&g, -16));
+    hold("with NBEN, as kind 8, -17 counts as", -17, counted(&g, -17));
 
     g = model_m();
     g.acr = 100;
@@ -1254,7 +1297,7 @@ static Tray tray;
 /* The image of a gauge at the end of a session of so many bytes, or why there is none (W8.18). */
 static int image_at_end(const Gauge *g, int32_t size, const char *none)
 {
-    byte image[IMAGE_BYTES];
+    byte image[DS2775_IMAGE_BYTES];
     if (SESSION_LIMIT < size) {
         fprintf(stderr, "1: the session is over 32,768 bytes\n");
         return 1;
@@ -1263,8 +1306,7 @@ static int image_at_end(const Gauge *g, int32_t size, const char *none)
         fprintf(stderr, "5: %s\n", none);
         return 1;
     }
-    take_image_out(g, image);
-    fwrite(image, 1, IMAGE_BYTES, stdout);
+    fwrite(image, 1, (size_t)take_image_out(g, image), stdout);
     return 0;
 }
 

@@ -7,6 +7,7 @@ use lib.Dec.{eqb, ltb}
 use borrow.Author.Tests.{ltb-true, eqb-false}
 use Rattle.numbers.proofs.Bounds.{times, picked}
 use Rattle.params.specs.declared.Counting.{Counting}
+use Rattle.profile.specs.declared.Profile.{Profile}
 use Rattle.charge.specs.declared.Charge.{Charge}
 use Rattle.charge.specs.declared.Age.{Age}
 use Rattle.charge.specs.Charge.{ChargeWF, setOf, withAs, markedOf, blankedOf, grownOf, addedOf, fallOf, agedOf, newAge, countedOf, agedFullOf, shareOf, shareUpOf}
@@ -40,20 +41,20 @@ aged-wf ac age fall aging p q h low high =
     (λ l. (omega (arith, ltb-true (age + fall) (32 * ac) l), low, high))
     (λ l. (omega (arith, eqb-false ac 0 e), omega arith, omega arith)))
 
-pub counted-wf : (p : Counting) (g : Charge) (last c : ℕ) → p .ac ≤ 65535 → ChargeWF g → ChargeWF (countedOf p g last c)
+pub counted-wf : (f : Profile) (p : Counting) (g : Charge) (last c : ℕ) → p .ac ≤ 65535 → ChargeWF g → ChargeWF (countedOf f p g last c)
 unfolding countedOf
-counted-wf p g last c h w =
-    let near = added-near (g .mark) (g .count) (blankedOf (p .nben) c) (p .ab) (w .count) in
+counted-wf f p g last c h w =
+    let near = added-near (g .mark) (g .count) (blankedOf f (p .nben) c) (p .ab) (w .count) in
     let aged = aged-wf (p .ac) (g .age) _ (g .aging) h (w .age) (near .1) (w .low) (w .high) in
     record { count = near .0; age = aged .0; low = aged .1; high = aged .2 }
 
 -- a conversion that finds the mark adds nothing, and ageing is looked at as ever, with no fall
-module _ (p : Counting) (g : Charge) (last c : ℕ) (e : g .mark ≡ true) where
-  pub marked-count : countedOf p g last c .count ≡ g .count
+module _ (f : Profile) (p : Counting) (g : Charge) (last c : ℕ) (e : g .mark ≡ true) where
+  pub marked-count : countedOf f p g last c .count ≡ g .count
   unfolding countedOf
   marked-count = simp e
 
-  pub marked-age : newAge p g c ≡ agedOf (p .ac) (g .age) (g .aging)
+  pub marked-age : newAge f p g c ≡ agedOf (p .ac) (g .age) (g .aging)
   marked-age =
       let none : g .age + fallOf (g .count) (g .count) ≡ g .age = omega arith in
       simp e (ap (λ (x : ℕ). agedOf (p .ac) x (g .aging)) none)

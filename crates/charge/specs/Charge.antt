@@ -5,6 +5,8 @@ use lib.Dec.{ltb, eqb}
 use Rattle.numbers.specs.Offset.{zeroAt}
 use Rattle.numbers.specs.Choice.{pick, both, either, butNot}
 use Rattle.params.specs.declared.Counting.{Counting}
+use Rattle.profile.specs.declared.Profile.{Profile}
+use Rattle.profile.specs.Profile.{edgeOf}
 use Rattle.charge.specs.declared.Charge.{Charge}
 use Rattle.charge.specs.declared.Trace.{Trace}
 use Rattle.charge.specs.declared.Age.{Age}
@@ -54,12 +56,12 @@ turnedOf last c = both (negative c) (not (negative last))
 abbrev pub tracedOf : Trace → ℕ → Trace
 tracedOf t c = record { last = c; before = t .last; any = true; two = t .any }
 
--- ---- step 2: 0 < c < 64 counts as 0; with NBEN, -16 < c < 0 counts as 0
+-- ---- step 2: 0 < c < 64 counts as 0; with NBEN, -16 < c < 0 counts as 0, and in the DS2775 profile -16 too
 
-abbrev pub blankedOf : Bool → ℕ → ℕ
-blankedOf nben c =
+abbrev pub blankedOf : Profile → Bool → ℕ → ℕ
+blankedOf f nben c =
     pick
-    (either (both (ltb (zeroAt 15) c) (ltb c (zeroAt 15 + 64))) (both nben (both (ltb (zeroAt 15 - 16) c) (ltb c (zeroAt 15)))))
+    (either (both (ltb (zeroAt 15) c) (ltb c (zeroAt 15 + 64))) (both nben (both (ltb (zeroAt 15 - edgeOf f) c) (ltb c (zeroAt 15)))))
     (zeroAt 15) c
 
 -- ---- step 3: ACR × 4,096 + fraction grows by that plus AB, clamped to 0..2^28 - 1. AB is kept as z + 2^7
@@ -85,20 +87,20 @@ agedOf ac age aging =
 
 -- ---- steps 1 to 5, of the charge
 
-abbrev pub newCount : Counting → Charge → ℕ → ℕ
-newCount p g c = addedOf (g .mark) (g .count) (blankedOf (p .nben) c) (p .ab)
+abbrev pub newCount : Profile → Counting → Charge → ℕ → ℕ
+newCount f p g c = addedOf (g .mark) (g .count) (blankedOf f (p .nben) c) (p .ab)
 
 -- the age counter with a fall of ACR added, and AS
-abbrev pub newAge : Counting → Charge → ℕ → Age
-newAge p g c = agedOf (p .ac) (g .age + fallOf (g .count) (newCount p g c)) (g .aging)
+abbrev pub newAge : Profile → Counting → Charge → ℕ → Age
+newAge f p g c = agedOf (p .ac) (g .age + fallOf (g .count) (newCount f p g c)) (g .aging)
 
 -- step 5: ACR = 0 clears LEARNF. Any conversion uses up the mark
-unfoldable pub countedOf : Counting → Charge → ℕ → ℕ → Charge
-countedOf p g last c = record {
-  count = newCount p g c;
-  age = newAge p g c .age;
-  aging = newAge p g c .aging;
-  learnf = butNot (butNot (g .learnf) (turnedOf last c)) (eqb (acrOf (newCount p g c)) 0);
+unfoldable pub countedOf : Profile → Counting → Charge → ℕ → ℕ → Charge
+countedOf f p g last c = record {
+  count = newCount f p g c;
+  age = newAge f p g c .age;
+  aging = newAge f p g c .aging;
+  learnf = butNot (butNot (g .learnf) (turnedOf last c)) (eqb (acrOf (newCount f p g c)) 0);
   mark = false;
 }
 

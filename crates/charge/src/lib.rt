@@ -1,8 +1,9 @@
 // The charge count: steps 1 to 5 of a conversion, and the count set outright; AF, and a share of Full40 as ACR.
 use params::Counting;
+use profile::Profile;
 ghost use mathlib.Core.Path.{_≡_};
 ghost use Prim.Native.Nat.{_*_, _≤_};
-ghost use Rattle.charge.specs.Charge.{ChargeWF, currentOf, tracedOf, blankedOf, grownOf, addedOf, agedOf, countedOf, setOf, agedFullOf, shareOf, shareUpOf};
+ghost use Rattle.charge.specs.Charge.{ChargeWF, currentOf, tracedOf, blankedOf, grownOf, addedOf, fallOf, agedOf, countedOf, setOf, agedFullOf, shareOf, shareUpOf};
 
 // ACR × 4,096 + fraction, AS, LEARNF, the mark after an ACR write and the age counter. (Side by side, count and age would be passed as one
 // number of eight bytes.)
@@ -38,12 +39,12 @@ pub fn current(raw: u32, cob: u8) -> u16
 }
 
 // Step 2.
-pub fn blanked(nben: bool, c: u16) -> u16
-    ensures { λ r. ⌜ r ≡ blankedOf nben c ⌝ }
+pub fn blanked(f: Profile, nben: bool, c: u16) -> u16
+    ensures { λ r. ⌜ r ≡ blankedOf f nben c ⌝ }
 {
     let zero = numbers::ZERO15;
     let small = numbers::and(zero < c, c < zero + 64);
-    let slight = numbers::and(nben, numbers::and(zero - 16 < c, c < zero));
+    let slight = numbers::and(nben, numbers::and(zero - profile::edge(f) < c, c < zero));
     numbers::choose16(numbers::or(small, slight), zero, c)
 }
 
@@ -62,6 +63,13 @@ fn added(mark: bool, count: u32, counted: u16, ab: u8) -> u32
 {
     let sum = grown(count, counted, ab);
     if mark { count } else { sum }
+}
+
+// Step 4: how far ACR fell.
+pub fn fall(old: u32, new: u32) -> u32
+    ensures { λ r. ⌜ r ≡ fallOf old new ⌝ }
+{
+    numbers::less((old / 4096) as u64, (new / 4096) as u64) as u32
 }
 
 // Step 4.
@@ -103,13 +111,12 @@ impl Trace {
 
 impl Charge {
     // Steps 1 to 5: last is the c before and c this one.
-    pub fn counted(self, p: Counting, last: u16, c: u16) -> Charge
+    pub fn counted(self, f: Profile, p: Counting, last: u16, c: u16) -> Charge
         requires { ⌜ ChargeWF self ⌝ }
-        ensures { λ r. ⌜ r ≡ countedOf p self last c ⌝ }
+        ensures { λ r. ⌜ r ≡ countedOf f p self last c ⌝ }
     {
-        let count = added(self.mark, self.count, blanked(p.nben, c), p.ab);
-        let fall = numbers::less((self.count / 4096) as u64, (count / 4096) as u64) as u32;
-        let a = aged(p.ac, self.age + fall, self.aging);
+        let count = added(self.mark, self.count, blanked(f, p.nben, c), p.ab);
+        let a = aged(p.ac, self.age + fall(self.count, count), self.aging);
         let was = last < numbers::ZERO15;
         let turned = numbers::and(c < numbers::ZERO15, !was);
         let learnf = numbers::and_not(self.learnf, turned);

@@ -33,11 +33,11 @@ module _ (g : Gauge) where
   address = g .common .address
 
   pub taken-stays : (p : List ℕ) (t : Taken) → Taking false true p t → Stays address (takenDid (loadedWith g) p t .state)
-  taken-stays p (Run Image) h = let z = h .0 in contrary cc
+  taken-stays p (Run (Image f)) h = let z = h .0 in contrary cc
   taken-stays p (Run (Change c)) h =
-      record { loaded = refl; owned = address-kept (λ a. a ≡ address) .change g c refl }
+      record { loaded = refl; owned = address-kept (λ f a. a ≡ address) .change g c refl }
   taken-stays p (Run (Transact t)) h =
-      record { loaded = refl; owned = address-kept (λ a. a ≡ address) .act g t (masterOf t p) refl }
+      record { loaded = refl; owned = address-kept (λ f a. a ≡ address) .act g t (masterOf t p) refl }
   taken-stays p (Refused r) h = record { loaded = refl; owned = refl }
 
   did-stays : (room : ℕ) (r : Rec) → Stays address (didOf (loadedWith g) room r .state)

@@ -60,7 +60,7 @@ one-form : {f g : Form} → kind.Transaction f ≡ kind.Transaction g → f ≡ 
 one-form e = ap formOf e
   where
     formOf : Kind → Form
-    formOf kind.Image = Short
+    formOf (kind.Image f) = Short
     formOf kind.Reading = Short
     formOf kind.Conversion = Short
     formOf (kind.Transaction f) = f
@@ -78,7 +78,7 @@ module _ (τ : Tray) (i j : ℕ) (other : j ≡ i → ⊥) (p : List ℕ) where
   Stays t = packOf (answeredBy ofTray τ p t .state) j ≡ packOf τ j
 
   slot-stays : (k : Kind) → aheadOf k ≡ 1 → slotIn p ≡ i → (t : Taken) → Asks τ k p t → Stays t
-  slot-stays k ahead slot (Run Image) a = let z : _≡_ {A = ℕ} 1 0 = sym ahead ∙ ap aheadOf (a .kind) in absurd (omega arith)
+  slot-stays k ahead slot (Run (Image f)) a = let z : _≡_ {A = ℕ} 1 0 = sym ahead ∙ ap aheadOf (a .kind) in absurd (omega arith)
   slot-stays k ahead slot (Run (Change c)) a =
       stored-other τ (slotIn p) j (changedOf (packOf τ (slotIn p)) c) (λ e. other (e ∙ slot))
   slot-stays k ahead slot (Run (Transact t)) a = let z : _≡_ {A = ℕ} 1 0 = sym ahead ∙ ap aheadOf (a .kind) in absurd (omega arith)
@@ -88,7 +88,7 @@ module _ (τ : Tray) (i j : ℕ) (other : j ≡ i → ⊥) (p : List ℕ) where
   acted-stays t reach e = rw e (stored-other τ i j (actOf (packOf τ i) t (masterOf t p)) other)
 
   matched-stays : (f : Form) (k : Kind) → k ≡ kind.Transaction f → reachIn τ f p ≡ one i → (t : Taken) → Asks τ k p t → Stays t
-  matched-stays f k is reach (Run Image) a = let z = sym (a .kind) ∙ is in contrary cc
+  matched-stays f k is reach (Run (Image g)) a = let z = sym (a .kind) ∙ is in contrary cc
   matched-stays f k is reach (Run (Change c)) a = let z : _≡_ {A = ℕ} 1 0 = sym (a .ahead) ∙ ap aheadOf is in absurd (omega arith)
   matched-stays f k is reach (Run (Transact t)) a =
       acted-stays t (trayReach τ t (masterOf t p)) (ap (λ (x : Transaction). trayReach τ x (masterOf x p)) (asked-form f is a) ∙ reach)

@@ -7,6 +7,7 @@ use native.Mathlib.Omega.{arith}
 use borrow.Author.Tests.{ltb-true, leb-false, not-true}
 use lib.Dec.{ltb, leb}
 use lib.ListN.{length, take, drop}
+use Rattle.profile.specs.declared.Profile.{Profile}
 use Rattle.numbers.specs.Choice.{pick, either}
 use Rattle.numbers.proofs.Bounds.{picked}
 use Rattle.parts.specs.Parts.{pairAt}
@@ -25,7 +26,7 @@ use Rattle.events.specs.declared.Event.{Event}
 use Rattle.events.specs.declared.Event.the-variants.{Image, Change, Transact}
 use Rattle.events.specs.declared.Taken.{Taken}
 use Rattle.events.specs.declared.Taken.the-variants.{Run, Refused}
-use Rattle.events.specs.Record.{knownOf, limitOf, readCount, sizedOf, dueOf, judgedAmong, judgedOf, transactionIn, eventOf, eventTimely, timedOf}
+use Rattle.events.specs.Record.{knownOf, limitOf, readCount, sizedOf, dueOf, judgedAmong, judgedBy, transactionIn, eventOf, eventTimely, timedOf}
 use Rattle.events.proofs.Fits.{Taking, timed-by, judged-alone}
 use Rattle.slots.specs.declared.Tray.{Tray}
 use Rattle.slots.specs.declared.Found.{Found}
@@ -53,12 +54,13 @@ module _ (count : ℕ) (closed again : Bool) (last : Tick) (p : List ℕ) (P : T
 -- What the tray has for it
 
 -- an image that joins: the opening is not closed, and no pack has its address
-pub record Joins (τ : Tray) (k : Kind) (p : List ℕ) : Type 0 where
-  pub kind : k ≡ kind.Image
+pub record Joins (τ : Tray) (k : Kind) (f : Profile) (p : List ℕ) : Type 0 where
+  pub asked : Profile
+  pub kind : k ≡ kind.Image asked
   pub before : τ .closed ≡ false
   pub few : τ .count < 8
   pub new : againOf τ p ≡ false
-  pub judged : judgedOf p ≡ Run Image
+  pub judged : judgedBy f p ≡ Run (Image f)
 
 -- a slot's event: the slot has a pack
 pub record Slotted (τ : Tray) (k : Kind) (p : List ℕ) : Type 0 where
@@ -72,32 +74,33 @@ pub record Heard (τ : Tray) (k : Kind) (p : List ℕ) (t : Transaction) : Type 
   pub asked : t ≡ transactionIn form p
 
 abbrev pub Asks : Tray → Kind → List ℕ → Taken → Type 0
-Asks τ k p (Run Image) = Joins τ k p
+Asks τ k p (Run (Image f)) = Joins τ k f p
 Asks τ k p (Run (Change c)) = Slotted τ k p
 Asks τ k p (Run (Transact t)) = Heard τ k p t
 Asks τ k p (Refused r) = Unit
 
 module _ (τ : Tray) (p : List ℕ) (last : Tick) where
-  image-asks : (t : Taken) → Taking (againOf τ p) false p t → not (either (τ .closed) (leb 8 (τ .count))) ≡ true → Asks τ kind.Image p t
-  image-asks (Run Image) h due =
-      let j = judged-alone (againOf τ p) p (h .1) in
+  image-asks : (f : Profile) (t : Taken) → Taking (againOf τ p) false p t → not (either (τ .closed) (leb 8 (τ .count))) ≡ true → Asks τ (kind.Image f) p t
+  image-asks f (Run (Image g)) h due =
+      let j = judged-alone g (againOf τ p) p (h .1) in
       let e = not-true (either (τ .closed) (leb 8 (τ .count))) due in
       let s = shut (τ .closed) (leb 8 (τ .count)) e in
-      record { kind = refl; before = s .0; few = leb-false 8 (τ .count) (s .1); new = j .0; judged = j .1 }
+      record { asked = f; kind = refl; before = s .0; few = leb-false 8 (τ .count) (s .1); new = j .0; judged = j .1 }
     where
       shut : (a b : Bool) → either a b ≡ false → (a ≡ false) × (b ≡ false)
       shut true b e = contrary cc
       shut false b e = (refl, e)
-  image-asks (Run (Change c)) h due = contrary cc
-  image-asks (Run (Transact t)) h due = let z = h .0 in contrary cc
-  image-asks (Refused r) h due = tt
+  image-asks f (Run (Change c)) h due = contrary cc
+  image-asks f (Run (Transact t)) h due = let z = h .0 in contrary cc
+  image-asks f (Refused r) h due = tt
 
   slotted : (k : Kind) → aheadOf k ≡ 1 → ltb (slotIn p) (τ .count) ≡ true → Slotted τ k p
   slotted k ahead due = record { ahead = ahead; pack = ltb-true (slotIn p) (τ .count) due }
 
   event-asks : (k : Kind) → sizedOf k (length (drop (aheadOf k) p)) ≡ true → dueOf k (acceptedFor (τ .count) (τ .closed) k p) ≡ true
       → Asks τ k p (timedOf last (eventOf (againOf τ p) k (drop (aheadOf k) p)))
-  event-asks kind.Image sized due = image-asks (timedOf last (judgedAmong (againOf τ p) p)) (rw sized at (timed-by (againOf τ p) false p last kind.Image)) due
+  event-asks (kind.Image f) sized due =
+      image-asks f (timedOf last (judgedAmong f (againOf τ p) p)) (rw sized at (timed-by (againOf τ p) false p last (kind.Image f))) due
   event-asks kind.Reading sized due = slotted kind.Reading refl due
   event-asks kind.Conversion sized due = slotted kind.Conversion refl due
   event-asks (kind.Transaction f) sized due =

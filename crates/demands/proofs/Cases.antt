@@ -45,6 +45,15 @@ long-cases =
     ∷ (reading Long 0x20 257, gauging)
     ∷ []
 
+-- of kind 8: an image of its size, refused with 5; one of the size of kind 1, with 4. A read and a write at 1Eh
+abbrev camera-cases : List (Rec × Class)
+camera-cases =
+    (whole 8 (replicate 61 0), fence)
+    ∷ (whole 8 (replicate 60 0), gauging)
+    ∷ (skips 1 0x69 0x1e [], gauging)
+    ∷ (skips 0 0x6c 0x1e (1 ∷ []), gauging)
+    ∷ long-cases
+
 abbrev pub cases : List (Rec × Class)
 cases =
     -- reads: all in the label; over 1Fh and 20h; over 2Fh and 30h; up to 1Fh; from 30h; past FFh; of count 0
@@ -93,7 +102,7 @@ cases =
     ∷ (skips 65 0x69 0x20 [], gauging)
     ∷ (whole 1 (replicate 60 0), fence)
     ∷ (cut, fence)
-    ∷ long-cases
+    ∷ camera-cases
 
 pub cases-hold : map (λ c. classOf own (c .0)) cases ≡ map (λ c. c .1) cases
 unfolding takenOf kindOf askedOf askedAt romBy commandOf selectedOf ownOf touchedClass labelsOf touchedOf blockOf inLabel inBlock
@@ -136,7 +145,7 @@ tray-cases =
     ∷ (skips 65 0x69 0x20 [], gauging)
     ∷ (whole 1 (replicate 60 0), fence)
     ∷ (cut, fence)
-    ∷ long-cases
+    ∷ camera-cases
 
 pub tray-cases-hold : map (λ c. trayClass (own ∷ second ∷ []) (c .0)) tray-cases ≡ map (λ c. c .1) tray-cases
 unfolding trayKindOf timelyOf askedOf askedAt romBy commandOf selectedOf ownOf touchedClass labelsOf touchedOf blockOf inLabel inBlock

@@ -1,26 +1,29 @@
 -- Demand 2, proved: the read-back of any gauge that events reach, and of sessions and slots.
 use mathlib.Core.Path.{_≡_, refl, sym, ap, _∙_}
 use mathlib.Core.Bool.{Bool, true, false}
-use mathlib.Core.List.{List, [], _∷_, map}
+use mathlib.Core.List.{List, [], _∷_, map, append-nil}
 use Prim.Native.Nat.{ℕ, _≤_, _<_, zero-le}
 use native.Mathlib.Omega.{arith}
 use lib.ListN.{length, getD, take, drop}
 use lib.Seq.{take-at}
 use lib.Dec.{eqb, leb}
 use borrow.Author.Tests.{le-leb, le-ltb, lt-ltb}
+use Rattle.profile.specs.declared.Profile.{Profile}
+use Rattle.profile.specs.Profile.{imageSizeOf}
+use Rattle.demands.specs.Images.{imageKind, profileOf}
+use Rattle.demands.proofs.Images.{session-image}
 use Rattle.numbers.specs.Choice.{pick}
 use Rattle.gauge.specs.declared.Gauge.{Gauge}
 use Rattle.gauge.specs.Gauge.{powerOnOf}
-use Rattle.pack.specs.Image.{imageOf, bytesOf, roomAfter}
+use Rattle.pack.specs.Image.{imageOf, bytesOf, sizeFor, roomAfter}
 use Rattle.pack.specs.Reach.{Reached}
 use Rattle.pack.proofs.Image.{image-length}
 use Rattle.pack.proofs.Reached.{reached-sized, out-judged, out-in}
 use Rattle.events.specs.declared.Event.the-variants.{Image}
 use Rattle.events.specs.declared.Refusal.the-variants.{Breaks}
 use Rattle.events.specs.declared.Taken.the-variants.{Run, Refused}
-use Rattle.events.specs.Image.{imageSize}
-use Rattle.events.specs.Record.{kindOf, orderedOf, judgedAmong, judgedOf, takenOf}
-use Rattle.runs.specs.Record.{Rec, whole, recsOf}
+use Rattle.events.specs.Record.{kindOf, orderedOf, judgedAmong, judgedBy, takenOf}
+use Rattle.runs.specs.Record.{Rec, whole, recsOf, recordOf}
 use Rattle.runs.specs.Run.{Did, Line, silently, endAfter}
 use Rattle.steps.specs.declared.Session.{Session}
 use Rattle.steps.specs.Step.{loadedWith, didOf}
@@ -31,7 +34,7 @@ use Rattle.trays.specs.Run.{slotHeld}
 use Rattle.demands.specs.Call.{Call, Within}
 use Rattle.demands.specs.Demand2.{Fresh, eepromBreaks, Crossed, AnswersImage, PoweredOn, Restored, ReadBack, Carried, PowersOn, SlotCarried, SlotPowersOn, Demand2, TrayDemand2}
 use Rattle.demands.proofs.Choice.{contrary, pick-twice}
-use Rattle.demands.proofs.Headers.{recs-image}
+use Rattle.runs.proofs.Records.{recs-record}
 use Rattle.demands.proofs.Reached.{end-reached}
 use Rattle.demands.proofs.Moments.{leftOf, end-append, running, tells}
 use Rattle.demands.proofs.Every.{run-exact}
@@ -40,13 +43,15 @@ use Rattle.demands.proofs.Filled.{Filled, end-filled}
 
 -- An image that is accepted first, or refused for its breakpoints, and a power-on
 
-pub did-image : (p : List ℕ) (room : ℕ) → takenOf 1 false p ≡ Run Image → didOf emptyOf room (whole 1 p) ≡ silently (loadedWith (imageOf p)) 0
+pub did-image : (f : Profile) (p : List ℕ) (room : ℕ) → takenOf (imageKind f) false p ≡ Run (Image f)
+    → didOf emptyOf room (whole (imageKind f) p) ≡ silently (loadedWith (imageOf f p)) 0
 unfolding didOf
-did-image p room accepted = rw (accepted, le-ltb room 0 zero-le) refl
+did-image f p room accepted = rw (accepted, le-ltb room 0 zero-le) refl
 
-did-crossed : (p : List ℕ) (room : ℕ) → takenOf 1 false p ≡ Refused Breaks → didOf emptyOf room (whole 1 p) ≡ silently emptyOf 10
+did-crossed : (f : Profile) (p : List ℕ) (room : ℕ) → takenOf (imageKind f) false p ≡ Refused Breaks
+    → didOf emptyOf room (whole (imageKind f) p) ≡ silently emptyOf 10
 unfolding didOf
-did-crossed p room refused = rw refused refl
+did-crossed f p room refused = rw refused refl
 
 did-power-on : (σ : Session) (room : ℕ) → σ .loaded ≡ true → didOf σ room (whole 5 []) ≡ silently (loadedWith (powerOnOf (σ .gauge))) 0
 unfolding didOf takenOf kindOf
@@ -55,43 +60,46 @@ did-power-on σ room loaded = rw (loaded, le-ltb room 0 zero-le) refl
 -- The image taken out
 
 -- no session has two answers
-never-both : {ls : List Line} → ls ≡ record { kind = 1; answer = 10; reply = [] } ∷ [] → ls ≡ record { kind = 1; answer = 0; reply = [] } ∷ [] → ⊥
+never-both : {kind : ℕ} {ls : List Line} → ls ≡ record { kind = kind; answer = 10; reply = [] } ∷ [] → ls ≡ record { kind = kind; answer = 0; reply = [] } ∷ [] → ⊥
 never-both a b = let z : _≡_ {A = ℕ} 10 0 = ap (λ (ls : List Line). getD (map (λ l. l .answer) ls) 0 0) (sym a ∙ b) in omega arith
 
 -- what an image record gets is what the judge says, of any size
-pub taken-image : (p : List ℕ) → takenOf 1 false p ≡ judgedOf p
-unfolding takenOf kindOf judgedAmong
-taken-image p = pick-twice (eqb (length p) imageSize) _ _
+pub taken-image : (f : Profile) (p : List ℕ) → takenOf (imageKind f) false p ≡ judgedBy f p
+unfolding takenOf judgedAmong
+taken-image f p = rw (session-image f) (pick-twice (eqb (length p) (imageSizeOf f)) _ _)
 
 -- of any gauge that events reach, whose image the room holds
-module _ (g : Gauge) (reached : Reached g) {after : List ℕ} (written : take imageSize after ≡ bytesOf g) {e : Call Session} (k : Fresh after e) where
+module _ (g : Gauge) (reached : Reached g) {after : List ℕ} (written : take (sizeFor g) after ≡ bytesOf g) {e : Call Session} (k : Fresh (profileOf g) after e) where
+  abbrev f : Profile
+  f = profileOf g
+
   abbrev p : List ℕ
   p = bytesOf g
 
-  records : recsOf (e .bytes) ≡ whole 1 p ∷ []
+  records : recsOf (e .bytes) ≡ whole (imageKind f) p ∷ []
   records =
-      ap recsOf (k .image ∙ ap (λ (l : List ℕ). imageSize ∷ 0 ∷ 1 ∷ 0 ∷ l) written)
-      ∙ recs-image p (image-length g (reached-sized g reached))
+      ap recsOf (k .image ∙ ap (recordOf (imageKind f)) written ∙ sym (append-nil (recordOf (imageKind f) p)))
+      ∙ recs-record (imageKind f) p []
 
-  judged : {t : Bool} → orderedOf (eepromBreaks g) ≡ t → takenOf 1 false p ≡ pick t (Run Image) (Refused Breaks)
-  judged h = taken-image p ∙ out-judged g reached ∙ rw h refl
+  judged : {t : Bool} → orderedOf (eepromBreaks g) ≡ t → takenOf (imageKind f) false p ≡ pick t (Run (Image f)) (Refused Breaks)
+  judged h = taken-image f p ∙ out-judged g reached ∙ rw h refl
 
   -- what the image does is what the fresh session does
-  gives : {τ : Session} {n : ℕ} → didOf emptyOf (length (e .room)) (whole 1 p) ≡ silently τ n → AnswersImage e n × (e .ran .state ≡ τ)
+  gives : {τ : Session} {n : ℕ} → didOf emptyOf (length (e .room)) (whole (imageKind f) p) ≡ silently τ n → AnswersImage f e n × (e .ran .state ≡ τ)
   gives does = (
     rw (records, does) refl,
     running didOf emptyOf (k .run) .state ∙ ap (endAfter didOf emptyOf (length (e .room))) records ∙ ap (λ (x : Did Session). x .state) does,
   )
 
-  declines : Crossed g → AnswersImage e 10 × (e .ran .state ≡ emptyOf)
-  declines h = gives (did-crossed p (length (e .room)) (judged h))
+  declines : Crossed g → AnswersImage f e 10 × (e .ran .state ≡ emptyOf)
+  declines h = gives (did-crossed f p (length (e .room)) (judged h))
 
-  restores : orderedOf (eepromBreaks g) ≡ true → AnswersImage e 0 × (e .ran .state ≡ loadedWith (powerOnOf g))
+  restores : orderedOf (eepromBreaks g) ≡ true → AnswersImage f e 0 × (e .ran .state ≡ loadedWith (powerOnOf g))
   restores h =
-      gives (did-image p (length (e .room)) (judged h) ∙ ap (λ (x : Gauge). silently (loadedWith x) 0) (out-in g reached))
+      gives (did-image f p (length (e .room)) (judged h) ∙ ap (λ (x : Gauge). silently (loadedWith x) 0) (out-in g reached))
 
   -- 10 is answered in no other case
-  only : (t : Bool) → orderedOf (eepromBreaks g) ≡ t → AnswersImage e 10 → Crossed g
+  only : (t : Bool) → orderedOf (eepromBreaks g) ≡ t → AnswersImage f e 10 → Crossed g
   only true h a = absurd (never-both a (restores h .0))
   only false h a = h
 
@@ -120,9 +128,9 @@ powered-state {S} {did} {start} {r} {Leaves} {d} {h} w x =
     ∙ ap (λ (τ : S). did τ n r .state) (sym (running did start w .state))
 
 -- what stands in the room after an image was written into it
-room-written : (g : Gauge) → Reached g → (room : List ℕ) → imageSize ≤ length room → take imageSize (roomAfter (leb imageSize (length room)) g room) ≡ bytesOf g
+room-written : (g : Gauge) → Reached g → (room : List ℕ) → sizeFor g ≤ length room → take (sizeFor g) (roomAfter (leb (sizeFor g) (length room)) g room) ≡ bytesOf g
 room-written g reached room fits =
-    rw (le-leb imageSize (length room) fits) (take-at (bytesOf g) (drop imageSize room) imageSize (image-length g (reached-sized g reached)))
+    rw (le-leb (sizeFor g) (length room) fits) (take-at (bytesOf g) (drop (sizeFor g) room) (sizeFor g) (image-length g (reached-sized g reached)))
 
 -- Sessions
 
@@ -140,10 +148,10 @@ module _ {d : Call Session} {room : List ℕ} {answer : ℕ} {after : List ℕ} 
       let n = leftOf didOf emptyOf (length (d .room)) (recsOf (d .bytes)) in
       ap (λ (τ : Session). τ .gauge) (sym (x .leaves) ∙ powered-state (k .run) x ∙ ap (λ (y : Did Session). y .state) (did-power-on σ n (k .loaded)))
 
-  session-images : (answer ≡ 0) × ((e : Call Session) → Fresh after e → ReadBack (σ .gauge) (PowersOn d) e)
+  session-images : (answer ≡ 0) × ((e : Call Session) → Fresh (profileOf (σ .gauge)) after e → ReadBack (σ .gauge) (PowersOn d) e)
   session-images = (
-    k .out .number ∙ rw (k .loaded, le-leb imageSize (length room) (k .fits)) refl,
-    λ e f. read-back (σ .gauge) session-reached (ap (take imageSize) (k .out .written) ∙ rw (k .loaded) (room-written (σ .gauge) session-reached room (k .fits))) f session-powered,
+    k .out .number ∙ rw (k .loaded, le-leb (sizeFor (σ .gauge)) (length room) (k .fits)) refl,
+    λ e f. read-back (σ .gauge) session-reached (ap (take (sizeFor (σ .gauge))) (k .out .written) ∙ rw (k .loaded) (room-written (σ .gauge) session-reached room (k .fits))) f session-powered,
   )
 
 pub demand-2 : Demand2
@@ -172,12 +180,12 @@ module _ {d : Call Tray} {i : ℕ} {room : List ℕ} {answer : ℕ} {after : Lis
       let n = leftOf trayDid emptyTray (length (d .room)) (recsOf (d .bytes)) in
       sym (x .leaves) ∙ ap (λ (y : Tray). packOf y i) (powered-state (k .run) x) ∙ did-slot-power-on τ n i (filled .eight) (k .pack)
 
-  slot-images : (answer ≡ 0) × ((e : Call Session) → Fresh after e → ReadBack (packOf τ i) (SlotPowersOn i d) e)
+  slot-images : (answer ≡ 0) × ((e : Call Session) → Fresh (profileOf (packOf τ i)) after e → ReadBack (packOf τ i) (SlotPowersOn i d) e)
   slot-images = (
-    k .out .number ∙ rw (held, le-leb imageSize (length room) (k .fits)) refl,
+    k .out .number ∙ rw (held, le-leb (sizeFor (packOf τ i)) (length room) (k .fits)) refl,
     λ e f.
         read-back (packOf τ i) (filled .reached i (k .pack))
-        (ap (take imageSize) (k .out .written) ∙ rw held (room-written (packOf τ i) (filled .reached i (k .pack)) room (k .fits)))
+        (ap (take (sizeFor (packOf τ i))) (k .out .written) ∙ rw held (room-written (packOf τ i) (filled .reached i (k .pack)) room (k .fits)))
         f slot-powered,
   )
 

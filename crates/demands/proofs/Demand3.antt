@@ -6,6 +6,10 @@ use Prim.Native.Nat.{ℕ, _-_}
 use native.Mathlib.Omega.{arith}
 use lib.Dec.{eqb}
 use lib.ListN.{length}
+use Rattle.profile.specs.declared.Profile.{Profile}
+use Rattle.profile.specs.Profile.{imageSizeOf}
+use Rattle.demands.specs.Images.{imageKind}
+use Rattle.demands.proofs.Images.{session-image}
 use Rattle.numbers.specs.Choice.{pick}
 use Rattle.gauge.specs.declared.Gauge.{Gauge}
 use Rattle.pack.specs.Image.{imageOf}
@@ -14,8 +18,8 @@ use Rattle.events.specs.declared.Taken.{Taken}
 use Rattle.events.specs.declared.Taken.the-variants.{Run, Refused}
 use Rattle.replies.specs.Reply.{selectedOf}
 use Rattle.events.specs.declared.Refusal.the-variants.{Size, Order}
-use Rattle.events.specs.Image.{imageSize, imageAddress}
-use Rattle.events.specs.Record.{kindOf, judgedOf, takenOf}
+use Rattle.events.specs.Image.{imageAddress}
+use Rattle.events.specs.Record.{judgedBy, takenOf}
 use Rattle.runs.specs.Record.{Rec, whole, recsOf}
 use Rattle.runs.specs.Run.{Did, silently, Line, lineOf}
 use Rattle.steps.specs.declared.Session.{Session}
@@ -85,30 +89,30 @@ module _ {S : Type 0} (did : S → ℕ → Rec → Did S) (start : S) (asked : �
 
 -- One session
 
-abbrev imageGot : List ℕ → Rec × Line
-imageGot p = (whole 1 p, lineOf (whole 1 p) (silently (loadedWith (imageOf p)) 0))
+abbrev imageGot : Profile → List ℕ → Rec × Line
+imageGot f p = (whole (imageKind f) p, lineOf (whole (imageKind f) p) (silently (loadedWith (imageOf f p)) 0))
 
-module _ {p : List ℕ} {rs : List Rec} {c : Call Session} (accepted : takenOf 1 false p ≡ Run Image)
-    (s : Starts didOf emptyOf sessionAsked (selectedOf (imageAddress p)) (whole 1 p ∷ []) rs c) where
-  freed : Free (imageOf p) (length (c .room) - 0) rs
-  freed = free (imageOf p) (length (c .room) - 0) rs (omega (arith, s .room))
+module _ {f : Profile} {p : List ℕ} {rs : List Rec} {c : Call Session} (accepted : takenOf (imageKind f) false p ≡ Run (Image f))
+    (s : Starts didOf emptyOf sessionAsked (selectedOf (imageAddress p)) (whole (imageKind f) p ∷ []) rs c) where
+  freed : Free (imageOf f p) (length (c .room) - 0) rs
+  freed = free (imageOf f p) (length (c .room) - 0) rs (omega (arith, s .room))
 
-  first : recsOf (c .bytes) ≡ whole 1 p ∷ rs
+  first : recsOf (c .bytes) ≡ whole (imageKind f) p ∷ rs
   first = s .first
 
-  ends : c .ran .state ≡ loadedWith (endFrom step out (imageOf p) rs)
-  ends = running didOf emptyOf (s .within) .state ∙ rw (first, did-image p (length (c .room)) accepted) (freed .end)
+  ends : c .ran .state ≡ loadedWith (endFrom step out (imageOf f p) rs)
+  ends = running didOf emptyOf (s .within) .state ∙ rw (first, did-image f p (length (c .room)) accepted) (freed .end)
 
-  gets : gotOf didOf emptyOf c ≡ imageGot p ∷ gotFrom step out (imageOf p) rs
+  gets : gotOf didOf emptyOf c ≡ imageGot f p ∷ gotFrom step out (imageOf f p) rs
   unfolding zip zipWith
-  gets = rw (first, did-image p (length (c .room)) accepted) (ap (λ (l : List (Rec × Line)). imageGot p ∷ l) (freed .got))
+  gets = rw (first, did-image f p (length (c .room)) accepted) (ap (λ (l : List (Rec × Line)). imageGot f p ∷ l) (freed .got))
 
 -- the image is a fence, as the class judges it: one that comes after another
-image-class : (address p : List ℕ) → takenOf 1 false p ≡ Run Image → classOf address (whole 1 p) ≡ fence
-unfolding takenOf kindOf
-image-class address p e = go (eqb (length p) imageSize) e
+image-class : (f : Profile) (address p : List ℕ) → takenOf (imageKind f) false p ≡ Run (Image f) → classOf address (whole (imageKind f) p) ≡ fence
+unfolding takenOf
+image-class f address p e = rw (session-image f) (go (eqb (length p) (imageSizeOf f)) (rw (session-image f) at e))
   where
-    go : (t : Bool) → pick t (judgedOf p) (Refused Size) ≡ Run Image → takenClass (selectedOf address) p (pick t (Refused Order) (Refused Size)) ≡ fence
+    go : (t : Bool) → pick t (judgedBy f p) (Refused Size) ≡ Run (Image f) → takenClass (selectedOf address) p (pick t (Refused Order) (Refused Size)) ≡ fence
     go true f = refl
     go false f = contrary cc
 
@@ -116,14 +120,15 @@ image-class address p e = go (eqb (length p) imageSize) e
 
 pub demand-3 : Demand3
 unfolding imageOf
-demand-3 p xs ys a b accepted m =
+demand-3 f p xs ys a b accepted m =
     let k = imageAddress p in
-    let h = apart step out (classOf k) (Owned k) (step-owned k) (swaps k) (m .sections) (imageOf p) refl in
-    kept-apart didOf emptyOf sessionAsked (selectedOf k) (imageGot p ∷ []) (image-class k p accepted, tt) m
+    let h = apart step out (classOf k) (Owned k) (step-owned k) (swaps k) (m .sections) (imageOf f p) refl in
+    kept-apart didOf emptyOf sessionAsked (selectedOf k) (imageGot f p ∷ []) (image-class f k p accepted, tt) m
     (gets accepted (m .one)) (gets accepted (m .other)) (h .sections)
     (ends accepted (m .one) ∙ ap loadedWith (h .end) ∙ sym (ends accepted (m .other)))
 
 -- so of each class the whole session's events, with what they got, are the same list
-pub demand-3-by-class : (p : List ℕ) (xs ys : List Rec) (a b : Call Session) → takenOf 1 false p ≡ Run Image → SessionsMixed p xs ys a b
+pub demand-3-by-class : (f : Profile) (p : List ℕ) (xs ys : List Rec) (a b : Call Session) → takenOf (imageKind f) false p ≡ Run (Image f)
+    → SessionsMixed f p xs ys a b
     → (k : Class) → only (λ e. classOf (imageAddress p) (e .0)) k (gotOf didOf emptyOf a) ≡ only (λ e. classOf (imageAddress p) (e .0)) k (gotOf didOf emptyOf b)
-demand-3-by-class p xs ys a b accepted m k = sections-only _ k (demand-3 p xs ys a b accepted m .events)
+demand-3-by-class f p xs ys a b accepted m k = sections-only _ k (demand-3 f p xs ys a b accepted m .events)

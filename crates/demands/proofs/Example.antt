@@ -5,6 +5,8 @@ use mathlib.Core.List.{List, [], _∷_, _++_}
 use Prim.Native.Nat.{ℕ, _+_, _≤_}
 use native.Mathlib.Omega.{arith}
 use lib.ListN.{length, getD, take, replicate, length-take}
+use Rattle.profile.specs.declared.Profile.the-variants.{Ds2781}
+use Rattle.demands.specs.Images.{imageKind, profileOf}
 use Rattle.crc.specs.Crc as crc
 use Rattle.meter.specs.State.{poweredOf}
 use Rattle.meter.specs.Convert.{flowedOf, convertOf}
@@ -16,13 +18,14 @@ use Rattle.bus.specs.Ask.{romBy, commandOf, askedAt, askedOf}
 use Rattle.gauge.specs.Gauge.{conversionOf, powerOnOf, writtenOf, copiedOf}
 use Rattle.replies.specs.Reply.{readByte, selectedOf, sourceByte}
 use Rattle.gauge.specs.Act.{ranOf, actOf, replyOf}
-use Rattle.pack.specs.Image.{imageOf}
-use Rattle.events.specs.Image.{imageSize, imageAddress}
+use Rattle.pack.specs.Image.{imageOf, sizeFor}
+use Rattle.pack.proofs.Image.{size-few}
+use Rattle.events.specs.Image.{imageAddress}
 use Rattle.events.specs.Record.{kindOf, addressedOf, orderedOf, judgedAmong, takenOf}
 use Rattle.programming.specs.declared.Written.the-variants as Written
 use Rattle.programming.specs.Programming.{programmingOf, answerOf, Granted}
 use Rattle.runs.specs.declared.Outcome.the-variants.{Done}
-use Rattle.runs.specs.Record.{Rec, whole, wholeOf, recOf, sizeOf, recsOf}
+use Rattle.runs.specs.Record.{Rec, whole, wholeOf, recOf, sizeOf, recsOf, recordOf}
 use Rattle.runs.specs.Run.{Line}
 use Rattle.steps.specs.declared.Session.{Session}
 use Rattle.steps.specs.Step.{didOf}
@@ -37,20 +40,24 @@ use Rattle.demands.proofs.Called.{packed, called, called-within}
 use Rattle.demands.proofs.Demand2.{demand-2}
 
 -- An image can be taken out of the state that is left, and given to a fresh gauge
-module _ (d : Call Session) (w : Within didOf emptyOf d) (loaded : d .ran .state .loaded ≡ true) (room : List ℕ) (fits : imageSize ≤ length room) where
+module _ (d : Call Session) (w : Within didOf emptyOf d) (loaded : d .ran .state .loaded ≡ true) (room : List ℕ) (fits : sizeFor (d .ran .state .gauge) ≤ length room) where
+  abbrev bytes : List ℕ
+  bytes = recordOf (imageKind (profileOf (d .ran .state .gauge))) (take (sizeFor (d .ran .state .gauge)) (takeOutRoom (d .ran .state) room))
+
   abbrev after : List ℕ
   after = takeOutRoom (d .ran .state) room
 
   abbrev fresh : Call Session
-  fresh = called didOf emptyOf (imageSize ∷ 0 ∷ 1 ∷ 0 ∷ take imageSize after) [] (replicate 16 0)
+  fresh = called didOf emptyOf bytes [] (replicate 17 0)
 
-  pub called-carried : Carried d room (takeOutNumber (d .ran .state) room) after × Fresh after fresh
+  pub called-carried : Carried d room (takeOutNumber (d .ran .state) room) after × Fresh (profileOf (d .ran .state .gauge)) after fresh
   called-carried = (
     record { run = w; loaded = loaded; fits = fits; out = record { number = refl; written = refl } },
     record {
       run =
-          called-within didOf emptyOf (imageSize ∷ 0 ∷ 1 ∷ 0 ∷ take imageSize after) [] (replicate 16 0)
-          (omega (arith, length-take imageSize after)) (omega (arith, length-take imageSize after));
+          let few = length-take (sizeFor (d .ran .state .gauge)) after in
+          let most = size-few (d .ran .state .gauge) in
+          called-within didOf emptyOf bytes [] (replicate 17 0) (omega (arith, few, most)) (omega (arith, few, most));
       image = refl;
     },
   )
@@ -115,6 +122,7 @@ pub demand-3-met : Demand3Met
 unfolding recOf sizeOf wholeOf takenOf kindOf judgedAmong addressedOf orderedOf crc.bitOf crc.eightOf crc.nextOf
     askedOf askedAt romBy commandOf touchedClass labelsOf touchedOf selectedOf inLabel blockOf
 demand-3-met = record {
+  profile = Ds2781;
   image = image;
   ones = ones;
   others = others;
@@ -171,7 +179,8 @@ unfolding recOf sizeOf wholeOf didOf takenOf kindOf judgedAmong addressedOf orde
     imageOf poweredOf askedOf askedAt romBy commandOf selectedOf actOf ranOf writtenOf meterWrittenOf blockWrittenOf laidOf copiedOf meterCopiedOf blockCopiedOf replyOf inLabel inBlock
 crosses = (refl, refl)
 
-pub image-declined : (room : List ℕ) (answer : ℕ) (after : List ℕ) (e : Call Session) → Carried (call crossing) room answer after → Fresh after e → AnswersImage e 10
+pub image-declined : (room : List ℕ) (answer : ℕ) (after : List ℕ) (e : Call Session) → Carried (call crossing) room answer after → Fresh (profileOf (call crossing .ran .state .gauge)) after e
+    → AnswersImage (profileOf (call crossing .ran .state .gauge)) e 10
 image-declined room answer after e k f = demand-2 .images _ room answer after k .1 e f .declined (crosses .1) .refused
 
 -- A session that is written at the bench

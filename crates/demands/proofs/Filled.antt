@@ -7,6 +7,7 @@ use native.Mathlib.Omega.{arith}
 use borrow.Author.Tests.{eqb-true, eqb-false}
 use lib.Dec.{eqb}
 use lib.ListN.{length}
+use Rattle.profile.specs.declared.Profile.{Profile}
 use Rattle.numbers.specs.Choice.{pick}
 use Rattle.numbers.proofs.Bounds.{picked}
 use Rattle.gauge.specs.declared.Gauge.{Gauge}
@@ -33,19 +34,19 @@ use Rattle.demands.proofs.Asked.{Asks, tray-asks, reach-there}
 -- The pack in a slot after an event
 
 abbrev pub packAfter : Tray → List ℕ → Event → ℕ → Gauge
-packAfter τ p Image j = pick (eqb j (τ .count)) (imageOf p) (packOf τ j)
+packAfter τ p (Image f) j = pick (eqb j (τ .count)) (imageOf f p) (packOf τ j)
 packAfter τ p (Change c) j = pick (eqb j (slotIn p)) (changedOf (packOf τ j) c) (packOf τ j)
 packAfter τ p (Transact t) j = pick (hearsOf (trayReach τ t (masterOf t p)) (τ .count) j) (actOf (packOf τ j) t (masterOf t p)) (packOf τ j)
 
 -- and how many packs there are
 abbrev pub countAfter : Tray → Event → ℕ
-countAfter τ Image = τ .count + 1
+countAfter τ (Image f) = τ .count + 1
 countAfter τ (Change c) = τ .count
 countAfter τ (Transact t) = τ .count
 
 module _ (τ : Tray) (h : Eight τ) (k : Kind) (p : List ℕ) where
   pub event-pack : (e : Event) → Asks τ k p (Run e) → (j : ℕ) → packOf (trayEvent τ p e .state) j ≡ packAfter τ p e j
-  event-pack Image a j = stored-pack τ (τ .count) j (imageOf p) h (a .few)
+  event-pack (Image f) a j = stored-pack τ (τ .count) j (imageOf f p) h (a .few)
   event-pack (Change c) a j =
       stored-pack τ (slotIn p) j (changedOf (packOf τ (slotIn p)) c) h (omega (arith, a .pack, h .few)) ∙ here (eqb j (slotIn p)) refl
     where
@@ -55,13 +56,13 @@ module _ (τ : Tray) (h : Eight τ) (k : Kind) (p : List ℕ) where
   event-pack (Transact t) a j = acted-pack t (masterOf t p) τ h (trayReach τ t (masterOf t p)) (reach-there τ t (masterOf t p)) j
 
   pub event-count : (e : Event) → trayEvent τ p e .state .count ≡ countAfter τ e
-  event-count Image = refl
+  event-count (Image f) = refl
   event-count (Change c) = refl
   event-count (Transact t) = acted-count t (masterOf t p) τ (trayReach τ t (masterOf t p))
 
   pub event-eight : (e : Event) → Asks τ k p (Run e) → Eight (trayEvent τ p e .state)
-  event-eight Image a =
-      let s = stored-eight τ (τ .count) (imageOf p) h in
+  event-eight (Image f) a =
+      let s = stored-eight τ (τ .count) (imageOf f p) h in
       record { few = omega (arith, a .few); commons = s .commons; labels = s .labels; meters = s .meters }
   event-eight (Change c) a =
       let s = stored-eight τ (slotIn p) (changedOf (packOf τ (slotIn p)) c) h in
@@ -71,16 +72,16 @@ module _ (τ : Tray) (h : Eight τ) (k : Kind) (p : List ℕ) where
       record { few = s .few; commons = s .commons; labels = s .labels; meters = s .meters }
 
 -- no event changes the address of a pack that is there
-pub address-after : (τ : Tray) (p : List ℕ) (e : Event) (j : ℕ) → (e ≡ Image → j ≡ τ .count → ⊥) → packAfter τ p e j .common .address ≡ packOf τ j .common .address
-address-after τ p Image j old =
-    picked (λ (g : Gauge). g .common .address ≡ packOf τ j .common .address) (eqb j (τ .count)) _ _ (λ e. absurd (old refl (eqb-true j (τ .count) e))) (λ e. refl)
+pub address-after : (τ : Tray) (p : List ℕ) (e : Event) (j : ℕ) → ((f : Profile) → e ≡ Image f → j ≡ τ .count → ⊥) → packAfter τ p e j .common .address ≡ packOf τ j .common .address
+address-after τ p (Image f) j old =
+    picked (λ (g : Gauge). g .common .address ≡ packOf τ j .common .address) (eqb j (τ .count)) _ _ (λ e. absurd (old f refl (eqb-true j (τ .count) e))) (λ e. refl)
 address-after τ p (Change c) j old =
     picked (λ (g : Gauge). g .common .address ≡ packOf τ j .common .address) (eqb j (slotIn p)) _ _
-    (λ e. address-kept (λ a. a ≡ packOf τ j .common .address) .change (packOf τ j) c refl)
+    (λ e. address-kept (λ f a. a ≡ packOf τ j .common .address) .change (packOf τ j) c refl)
     (λ e. refl)
 address-after τ p (Transact t) j old =
     picked (λ (g : Gauge). g .common .address ≡ packOf τ j .common .address) (hearsOf (trayReach τ t (masterOf t p)) (τ .count) j) _ _
-    (λ e. address-kept (λ a. a ≡ packOf τ j .common .address) .act (packOf τ j) t (masterOf t p) refl)
+    (λ e. address-kept (λ f a. a ≡ packOf τ j .common .address) .act (packOf τ j) t (masterOf t p) refl)
     (λ e. refl)
 
 -- What each event keeps, a run keeps
@@ -113,8 +114,8 @@ pub record Filled (τ : Tray) : Type 0 where
 
 module _ (τ : Tray) (k : Kind) (p : List ℕ) (h : Filled τ) where
   event-reached : (e : Event) → Asks τ k p (Run e) → (i : ℕ) → i < countAfter τ e → Reached (packAfter τ p e i)
-  event-reached Image a i low =
-      picked Reached (eqb i (τ .count)) _ _ (λ e. accepted p (a .judged)) (λ e. h .reached i (omega (arith, eqb-false i (τ .count) e)))
+  event-reached (Image f) a i low =
+      picked Reached (eqb i (τ .count)) _ _ (λ e. accepted f p (a .judged)) (λ e. h .reached i (omega (arith, eqb-false i (τ .count) e)))
   event-reached (Change c) a i low =
       picked Reached (eqb i (slotIn p)) _ _ (λ e. changed (packOf τ i) c (h .reached i low)) (λ e. h .reached i low)
   event-reached (Transact t) a i low =

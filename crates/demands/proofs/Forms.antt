@@ -207,7 +207,7 @@ module _ (c : Common) where
 
   pub label-taken : (l : Label) (p : List ℕ) (t : Taken) → takenClass (selectedOf (c .address)) p t ≡ labelling
       → Form (labelled c) l (timedDid p t)
-  label-taken l p (Run Image) e = contrary cc
+  label-taken l p (Run (Image f)) e = contrary cc
   label-taken l p (Run (Changed x)) e = no-label x e
   label-taken l p (Run (Transact t)) e =
       same-form (λ m. asked-is (labelled c l m) p t)
@@ -234,7 +234,7 @@ module _ (c : Common) where
 
   pub gauge-taken : (m : Meter) (p : List ℕ) (t : Taken) → takenClass (selectedOf (c .address)) p t ≡ gauging
       → Form (metered c) m (timedDid p t)
-  gauge-taken m p (Run Image) e = contrary cc
+  gauge-taken m p (Run (Image f)) e = contrary cc
   gauge-taken m p (Run (Changed x)) e = change-form m p x e
   gauge-taken m p (Run (Transact t)) e =
       same-form (λ l. asked-is (metered c m l) p t)

@@ -2,14 +2,12 @@
 use mathlib.Core.Path.{_≡_, refl, _∙_}
 use mathlib.Core.Bool.{true, false}
 use mathlib.Core.List.{List, [], _∷_}
-use Prim.Native.Nat.{ℕ, zero, suc, _+_, _-_, _*_, _≤_}
+use Prim.Native.Nat.{ℕ, suc, _+_, _-_, _*_}
 use native.Mathlib.Omega.{arith}
 use borrow.Author.Tests.{le-ltb, le-leb, lt-leb, leb-true, leb-false}
 use lib.Dec.{ltb, leb}
 use lib.ListN.{length, drop, drop-of-length-le}
-use lib.Seq.{take-all}
 use Rattle.parts.specs.Parts.{part}
-use Rattle.events.specs.Image.{imageSize}
 use Rattle.runs.specs.Record.{whole, cut, wholeOf, recOf, sizeOf, recsFrom, recsOf}
 use Rattle.runs.proofs.Records.{recs-cons}
 
@@ -39,16 +37,3 @@ module _ (n m i j : ℕ) (s : List ℕ) where
       let r : recOf bytes ≡ cut = rw w refl in
       let rest : drop (sizeOf bytes) bytes ≡ [] = drop-of-length-le bytes {i = sizeOf bytes} (omega arith) in
       recs-cons bytes (omega arith) ∙ rw (r, rest) refl
-
--- nothing is left after a payload of all bytes
-recs-none : (k : ℕ) (s : List ℕ) → length s ≤ k → recsFrom k s ≡ []
-recs-none zero [] h = refl
-recs-none zero (x ∷ s) h = absurd (omega arith)
-recs-none (suc k) [] h = refl
-recs-none (suc k) (x ∷ s) h = recs-none k s (omega arith)
-
--- a session of one pack image
-pub recs-image : (p : List ℕ) → length p ≡ imageSize → recsOf (imageSize ∷ 0 ∷ 1 ∷ 0 ∷ p) ≡ whole 1 p ∷ []
-recs-image p e =
-    recs-kind 60 0 1 0 p (le-leb 60 (length p) (omega arith))
-    ∙ rw (take-all 60 p (omega arith), recs-none 60 p (omega arith)) refl

@@ -25,6 +25,7 @@ use Rattle.demands.specs.Call.{Call, Within, gotOf, Stopped}
 use Rattle.demands.specs.Longer.{formKind}
 use Rattle.demands.specs.Alone.{reachIn}
 use Rattle.demands.proofs.Alone.{transaction-kind, asked-form}
+use Rattle.demands.specs.Images.{imageKind}
 use Rattle.demands.specs.Isolation.{Agree, imagesAfter, Differs, none, held, here, there, images, Places, Twins, Others, Isolation}
 use Rattle.demands.proofs.Moments.{leftOf, left-cons, running, stopped-within}
 use Rattle.demands.proofs.Every.{run-exact}
@@ -95,12 +96,12 @@ isolated {k} (there {e = n} {p = p} slot at rest) τ σ near far c h u v e g f =
     isolated rest τ (trayDid σ far (whole n p) .state) near (far - length (trayDid σ far (whole n p) .reply))
     c
     (others-over h (others-sym (x .others))) u (did-eight σ far (whole n p) v) (omega (arith, e, x .reply)) g (f .1)
-isolated (images {p = p} {q = q} {l = l} {m = m} at address agree rest) τ σ near far c h u v e g f =
-    let x = images-moved h u v p q (c ∙ at) address near far (agreed l m agree (told (g .0)) (told (f .0))) in
-    isolated rest (trayDid τ near (whole 1 p) .state) (trayDid σ far (whole 1 q) .state)
-    (near - length (trayDid τ near (whole 1 p) .reply)) (far - length (trayDid σ far (whole 1 q) .reply))
-    (count-after τ near (whole 1 p) u ∙ counted (whole 1 p) c (g .0))
-    (x .others) (did-eight τ near (whole 1 p) u) (did-eight σ far (whole 1 q) v) (omega (arith, e, x .reply)) (g .1) (f .1)
+isolated (images x {p = p} {q = q} {l = l} {m = m} at address agree rest) τ σ near far c h u v e g f =
+    let y = images-moved h u v p q (c ∙ at) address x near far (agreed l m agree (told (g .0)) (told (f .0))) in
+    isolated rest (trayDid τ near (whole (imageKind x) p) .state) (trayDid σ far (whole (imageKind x) q) .state)
+    (near - length (trayDid τ near (whole (imageKind x) p) .reply)) (far - length (trayDid σ far (whole (imageKind x) q) .reply))
+    (count-after τ near (whole (imageKind x) p) u ∙ counted (whole (imageKind x) p) c (g .0))
+    (y .others) (did-eight τ near (whole (imageKind x) p) u) (did-eight σ far (whole (imageKind x) q) v) (omega (arith, e, y .reply)) (g .1) (f .1)
 
 -- Two calls
 
@@ -141,7 +142,7 @@ module _ {k : ℕ} {τ σ : Tray} (h : Others k τ σ) (j : ℕ) (away : j ≡ k
   replied t e = rw (← (reach-others h t (masterOf t p)), e) (ap (λ (g : Gauge). replyOf g t (masterOf t p)) (h .packs j away))
 
   line-same : (t : Taken) → Asks τ (trayKindOf n) p t → Same t
-  line-same (Run Image) a = refl
+  line-same (Run (Image f)) a = refl
   line-same (Run (Change c)) a = refl
   line-same (Run (Transact t)) a =
       ap (λ (l : List ℕ). record { kind = n; answer = 0; reply = l })
@@ -171,10 +172,10 @@ first-differs (there slot at rest) zero zero h = none
 first-differs (there slot at rest) (suc i) zero h = absurd h
 first-differs (there slot at rest) zero (suc j) h = there slot at (first-differs rest zero j h)
 first-differs (there slot at rest) (suc i) (suc j) h = there slot at (first-differs rest (suc i) j h)
-first-differs (images at address agree rest) zero zero h = none
-first-differs (images at address agree rest) zero (suc j) h = absurd h
-first-differs (images at address agree rest) (suc i) zero h = absurd h
-first-differs (images at address agree rest) (suc i) (suc j) h = images at address agree (first-differs rest i j h)
+first-differs (images f at address agree rest) zero zero h = none
+first-differs (images f at address agree rest) zero (suc j) h = absurd h
+first-differs (images f at address agree rest) (suc i) zero h = absurd h
+first-differs (images f at address agree rest) (suc i) (suc j) h = images f at address agree (first-differs rest i j h)
 
 twins-stopped : {k : ℕ} {c d : Call Tray} (t : Twins k c d) (i j : ℕ) → Places (t .differs) i j
     → {a e : Call Tray} → Stopped trayDid emptyTray i c a → Stopped trayDid emptyTray j d e → Twins k a e

@@ -3,6 +3,7 @@ pub mod Fitted
 pub mod Headers
 pub mod Moments
 pub mod Every
+pub mod Images
 pub mod Reached
 pub mod Packs
 pub mod Asked

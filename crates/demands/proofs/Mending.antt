@@ -4,6 +4,7 @@ use mathlib.Core.List.{List, _∷_}
 use Prim.Native.Nat.{ℕ}
 use native.Mathlib.Nat.{sub-zero}
 use lib.ListN.{length, take}
+use Rattle.profile.specs.declared.Profile.the-variants.{Ds2781}
 use Rattle.pack.specs.Image.{imageOf}
 use Rattle.events.specs.Image.{imageSize}
 use Rattle.mending.specs.Worth.{Accepted}
@@ -26,8 +27,8 @@ module _ {image room after rest : List ℕ} {c : Call Session} (f : MendedFirst 
   taken : Accepted p
   taken = let d = by-call image room after (f .mended) in rw (d .1) (accepted image (d .0) .1)
 
-  does : didOf emptyOf (length (c .room)) (whole 1 p) ≡ silently (loadedWith (imageOf p)) 0
-  does = did-image p (length (c .room)) taken
+  does : didOf emptyOf (length (c .room)) (whole 1 p) ≡ silently (loadedWith (imageOf Ds2781 p)) 0
+  does = did-image Ds2781 p (length (c .room)) taken
 
   records : recsOf (c .bytes) ≡ whole 1 p ∷ recsOf rest
   records = ap recsOf (f .session) ∙ recs-record 1 p rest

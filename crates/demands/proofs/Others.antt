@@ -1,5 +1,5 @@
 -- What is the same in two trays that differ in one slot, and that each record keeps it.
-use mathlib.Core.Path.{_≡_, refl, sym, ap, _∙_}
+use mathlib.Core.Path.{_≡_, refl, sym, ap, subst, _∙_}
 use mathlib.Core.Bool.{Bool, true, false}
 use mathlib.Core.List.{List}
 use Prim.Native.Nat.{ℕ, _+_, _-_, _≤_, _<_}
@@ -7,11 +7,14 @@ use native.Mathlib.Omega.{arith}
 use borrow.Author.Tests.{eqb-true, eqb-false, ne-eqb}
 use lib.Dec.{ltb, eqb}
 use lib.ListN.{length, take, drop}
+use Rattle.numbers.proofs.Bounds.{picked}
+use Rattle.demands.specs.Images.{imageKind, isImage}
+use Rattle.demands.proofs.Images.{tray-image}
+use Rattle.profile.specs.declared.Profile.{Profile}
 use Rattle.numbers.specs.Choice.{pick, both}
 use Rattle.bus.specs.declared.Transaction.{Transaction}
 use Rattle.gauge.specs.declared.Gauge.{Gauge}
 use Rattle.pack.specs.Image.{imageOf}
-use Rattle.events.specs.declared.Form.the-variants.{Short, Long}
 use Rattle.events.specs.declared.Kind.{Kind}
 use Rattle.events.specs.declared.Kind.the-variants as kind
 use Rattle.events.specs.declared.Refusal.the-variants as refusal
@@ -78,18 +81,18 @@ module _ {k : ℕ} where
 module _ {k : ℕ} {τ σ : Tray} (h : Others k τ σ) (p : List ℕ) where
   -- the same event leaves the same pack where there was the same
   pack-after : (e : Event) (j : ℕ) → packOf τ j ≡ packOf σ j → packAfter τ p e j ≡ packAfter σ p e j
-  pack-after Image j e = rw (h .count, e) refl
+  pack-after (Image f) j e = rw (h .count, e) refl
   pack-after (Change c) j e = rw e refl
   pack-after (Transact t) j e = rw (reach-others h t (masterOf t p), h .count, e) refl
 
   address-same : (e : Event) → packAfter τ p e k .common .address ≡ packAfter σ p e k .common .address
-  address-same Image = rw (h .count) (go (eqb k (σ .count)))
+  address-same (Image f) = rw (h .count) (go (eqb k (σ .count)))
     where
-      go : (t : Bool) → pick t (imageOf p) (packOf τ k) .common .address ≡ pick t (imageOf p) (packOf σ k) .common .address
+      go : (t : Bool) → pick t (imageOf f p) (packOf τ k) .common .address ≡ pick t (imageOf f p) (packOf σ k) .common .address
       go true = refl
       go false = h .address
-  address-same (Change c) = address-after τ p (Change c) k (λ z. contrary cc) ∙ h .address ∙ sym (address-after σ p (Change c) k (λ z. contrary cc))
-  address-same (Transact t) = address-after τ p (Transact t) k (λ z. contrary cc) ∙ h .address ∙ sym (address-after σ p (Transact t) k (λ z. contrary cc))
+  address-same (Change c) = address-after τ p (Change c) k (λ f z. contrary cc) ∙ h .address ∙ sym (address-after σ p (Change c) k (λ f z. contrary cc))
+  address-same (Transact t) = address-after τ p (Transact t) k (λ f z. contrary cc) ∙ h .address ∙ sym (address-after σ p (Transact t) k (λ f z. contrary cc))
 
   event-others : Eight τ → Eight σ → (x : Kind) (e : Event) → Asks τ x p (Run e) → Asks σ x p (Run e) → Others k (trayEvent τ p e .state) (trayEvent σ p e .state)
   event-others u v x e a b = record {
@@ -102,7 +105,7 @@ module _ {k : ℕ} {τ σ : Tray} (h : Others k τ σ) (p : List ℕ) where
   }
     where
       counts : (e : Event) → countAfter τ e ≡ countAfter σ e
-      counts Image = ap (λ (n : ℕ). n + 1) (h .count)
+      counts (Image f) = ap (λ (n : ℕ). n + 1) (h .count)
       counts (Change c) = h .count
       counts (Transact t) = h .count
 
@@ -126,45 +129,52 @@ outcome τ room n p = go (trayTold τ n p) refl
 
 -- how many packs there are by what the line tells
 
-image-one : (n : ℕ) → trayKindOf n ≡ kind.Image → eqb n 1 ≡ true
-unfolding trayKindOf
-image-one n = go (eqb n 1) (eqb n 4) (eqb n 7) (eqb n 18) (eqb n 19) (eqb n 21) (eqb n 22)
-  where
-    go : (a b c d e f g : Bool)
-        → pick a kind.Image
-        (pick b (kind.Transaction Short)
-        (pick c (kind.Transaction Long)
-        (pick d kind.Reading (pick e kind.Conversion (pick f kind.PowerOn (pick g kind.Sample kind.Unknown))))))
-        ≡ kind.Image
-        → a ≡ true
-    go true b c d e f g h = refl
-    go false true c d e f g h = contrary cc
-    go false false true d e f g h = contrary cc
-    go false false false true e f g h = contrary cc
-    go false false false false true f g h = contrary cc
-    go false false false false false true g h = contrary cc
-    go false false false false false false true h = contrary cc
-    go false false false false false false false h = contrary cc
+abbrev Imaged : Bool → Kind → Type 0
+Imaged b (kind.Image f) = b ≡ true
+Imaged b kind.Reading = b ≡ false
+Imaged b kind.Conversion = b ≡ false
+Imaged b (kind.Transaction f) = b ≡ false
+Imaged b kind.PowerOn = b ≡ false
+Imaged b kind.Sample = b ≡ false
+Imaged b kind.Unknown = b ≡ false
 
-no-image : (n : ℕ) → (trayKindOf n ≡ kind.Image → ⊥) → eqb n 1 ≡ false
+imaged : (n : ℕ) → Imaged (isImage n) (trayKindOf n)
 unfolding trayKindOf
-no-image n other = ne-eqb n 1 (λ e. other (ap trayKindOf e))
+imaged n =
+    let I : Kind → Type 0 = Imaged (isImage n) in
+    let at : (m : ℕ) → eqb n m ≡ true → isImage n ≡ isImage m = λ m e. ap isImage (eqb-true n m e) in
+    picked I (eqb n 1) _ _ (at 1)
+    (λ one. picked I (eqb n 4) _ _ (at 4)
+    (λ a. picked I (eqb n 7) _ _ (at 7)
+    (λ b. picked I (eqb n 8) _ _ (at 8)
+    (λ eight. picked I (eqb n 18) _ _ (at 18)
+    (λ c. picked I (eqb n 19) _ _ (at 19)
+    (λ d. picked I (eqb n 21) _ _ (at 21) (λ f. picked I (eqb n 22) _ _ (at 22) (λ g. rw (one, eight) refl))))))))
 
-event-images : (τ : Tray) (n : ℕ) (p : List ℕ) (e : Event) → Asks τ (trayKindOf n) p (Run e) → countAfter τ e ≡ pick (both (eqb n 1) true) (τ .count + 1) (τ .count)
-event-images τ n p Image a = rw (image-one n (a .kind)) refl
-event-images τ n p (Change c) a =
-    rw (no-image n (λ z. let y : _≡_ {A = ℕ} 0 1 = sym (ap aheadOf z) ∙ a .ahead in omega arith)) refl
-event-images τ n p (Transact t) a = rw (no-image n (λ z. let y = sym (a .kind) ∙ z in contrary cc)) refl
+-- a kind with a slot byte ahead is no image
+ahead-none : (b : Bool) (k : Kind) → aheadOf k ≡ 1 → Imaged b k → b ≡ false
+ahead-none b (kind.Image f) e h = absurd (omega arith)
+ahead-none b kind.Reading e h = h
+ahead-none b kind.Conversion e h = h
+ahead-none b (kind.Transaction f) e h = h
+ahead-none b kind.PowerOn e h = h
+ahead-none b kind.Sample e h = h
+ahead-none b kind.Unknown e h = h
+
+event-images : (τ : Tray) (n : ℕ) (p : List ℕ) (e : Event) → Asks τ (trayKindOf n) p (Run e) → countAfter τ e ≡ pick (both (isImage n) true) (τ .count + 1) (τ .count)
+event-images τ n p (Image f) a = rw (subst (Imaged (isImage n)) (a .kind) (imaged n)) refl
+event-images τ n p (Change c) a = rw (ahead-none (isImage n) (trayKindOf n) (a .ahead) (imaged n)) refl
+event-images τ n p (Transact t) a = rw (subst (Imaged (isImage n)) (a .kind) (imaged n)) refl
 
 pub count-after : (τ : Tray) (room : ℕ) (r : Rec) → Eight τ → trayDid τ room r .state .count ≡ imagesAfter (τ .count) r (lineOf r (trayDid τ room r))
 unfolding trayDid
 count-after τ room cut h = refl
 count-after τ room (whole n p) h = go (outcome τ room n p)
   where
-    go : Outcome τ room n p → trayDid τ room (whole n p) .state .count ≡ pick (both (eqb n 1) (eqb (trayDid τ room (whole n p) .answer) 0)) (τ .count + 1) (τ .count)
+    go : Outcome τ room n p → trayDid τ room (whole n p) .state .count ≡ pick (both (isImage n) (eqb (trayDid τ room (whole n p) .answer) 0)) (τ .count + 1) (τ .count)
     go (ran e t d) =
         rw (d, tray-replying .answer τ p e) (event-count τ h (trayKindOf n) p e ∙ event-images τ n p e (rw t at (tray-asks τ n p)))
-    go (stayed m low d) = rw (d, ne-eqb m 0 (λ z. omega arith), both-false (eqb n 1)) refl
+    go (stayed m low d) = rw (d, ne-eqb m 0 (λ z. omega arith), both-false (isImage n)) refl
 
 -- what one record in each leaves
 pub record Moved (k : ℕ) (d f : Did Tray) : Type 0 where
@@ -205,44 +215,51 @@ module _ {k : ℕ} {τ σ : Tray} (h : Others k τ σ) (u : Eight τ) (v : Eight
       go (stayed m low d) (stayed i high f) = rw (d, f) (still m i)
 
 -- an image that is taken joins the tray
-joining : (τ : Tray) (p : List ℕ) (e : Event) → trayTold τ 1 p ≡ Run e → (e ≡ Image) × (τ .count < 8)
-unfolding trayKindOf
-joining τ p e t = by e (rw t at (tray-asks τ 1 p))
-  where
-    by : (e : Event) → Asks τ kind.Image p (Run e) → (e ≡ Image) × (τ .count < 8)
-    by Image a = (refl, a .few)
-    by (Change c) a = let z = a .ahead in contrary cc
-    by (Transact t) a = let z = a .kind in contrary cc
+abbrev Joining : Tray → Event → Type 0
+Joining τ (Image f) = τ .count < 8
+Joining τ (Change c) = ⊥
+Joining τ (Transact t) = ⊥
 
-joined-address : (τ : Tray) (p : List ℕ) (k : ℕ) → Eight τ → τ .count < 8 → τ .count ≡ k → packOf (trayEvent τ p Image .state) k .common .address ≡ imageAddress p
+joining : (f : Profile) (τ : Tray) (p : List ℕ) (e : Event) → trayTold τ (imageKind f) p ≡ Run e → Joining τ e
+joining f τ p e t = by (trayKindOf (imageKind f)) (tray-image f) e (rw t at (tray-asks τ (imageKind f) p))
+  where
+    by : (k : Kind) → k ≡ kind.Image f → (e : Event) → Asks τ k p (Run e) → Joining τ e
+    by k is (Image g) a = a .few
+    by k is (Change c) a = let z : _≡_ {A = ℕ} 1 0 = sym (a .ahead) ∙ ap aheadOf is in absurd (omega arith)
+    by k is (Transact t) a = let z = sym (a .kind) ∙ is in contrary cc
+
+joined-address : (f : Profile) (τ : Tray) (p : List ℕ) (k : ℕ) → Eight τ → τ .count < 8 → τ .count ≡ k
+    → packOf (trayEvent τ p (Image f) .state) k .common .address ≡ imageAddress p
 unfolding imageOf
-joined-address τ p k u few at =
-    ap (λ (i : ℕ). packOf (trayEvent τ p Image .state) i .common .address) (sym at) ∙ ap (λ (g : Gauge). g .common .address) (stored-here τ (τ .count) (imageOf p) u few)
+joined-address f τ p k u few at =
+    ap (λ (i : ℕ). packOf (trayEvent τ p (Image f) .state) i .common .address) (sym at)
+    ∙ ap (λ (g : Gauge). g .common .address) (stored-here τ (τ .count) (imageOf f p) u few)
 
 module _ {k : ℕ} {τ σ : Tray} (h : Others k τ σ) (u : Eight τ) (v : Eight σ) (p q : List ℕ) (at : τ .count ≡ k) (address : imageAddress p ≡ imageAddress q) where
-  joined-moved : τ .count < 8 → σ .count < 8 → Moved k (trayEvent τ p Image) (trayEvent σ q Image)
-  joined-moved few low = record {
+  joined-moved : (e x : Event) → Joining τ e → Joining σ x → Moved k (trayEvent τ p e) (trayEvent σ q x)
+  joined-moved (Image f) (Image g) few low = record {
     others = record {
       count = ap (λ (n : ℕ). n + 1) (h .count);
       packs = λ j away.
-          stored-other τ (τ .count) j (imageOf p) (λ e. away (e ∙ at))
+          stored-other τ (τ .count) j (imageOf f p) (λ e. away (e ∙ at))
           ∙ h .packs j away
-          ∙ sym (stored-other σ (σ .count) j (imageOf q) (λ e. away (e ∙ sym (h .count) ∙ at)));
-      address = joined-address τ p k u few at ∙ address ∙ sym (joined-address σ q k v low (sym (h .count) ∙ at));
+          ∙ sym (stored-other σ (σ .count) j (imageOf g q) (λ e. away (e ∙ sym (h .count) ∙ at)));
+      address = joined-address f τ p k u few at ∙ address ∙ sym (joined-address g σ q k v low (sym (h .count) ∙ at));
     };
     reply = refl;
   }
+  joined-moved (Image f) (Change c) few low = absurd low
+  joined-moved (Image f) (Transact t) few low = absurd low
+  joined-moved (Change c) x few low = absurd few
+  joined-moved (Transact t) x few low = absurd few
 
   -- two images with the same address, where the slot k is filled
-  pub images-moved : (near far : ℕ) → eqb (trayDid τ near (whole 1 p) .answer) 0 ≡ eqb (trayDid σ far (whole 1 q) .answer) 0
-      → Moved k (trayDid τ near (whole 1 p)) (trayDid σ far (whole 1 q))
-  images-moved near far agree = go (outcome τ near 1 p) (outcome σ far 1 q)
+  pub images-moved : (f : Profile) (near far : ℕ) → let n = imageKind f in eqb (trayDid τ near (whole n p) .answer) 0 ≡ eqb (trayDid σ far (whole n q) .answer) 0
+      → Moved k (trayDid τ near (whole n p)) (trayDid σ far (whole n q))
+  images-moved y near far agree = go (outcome τ near (imageKind y) p) (outcome σ far (imageKind y) q)
     where
-      go : Outcome τ near 1 p → Outcome σ far 1 q → Moved k (trayDid τ near (whole 1 p)) (trayDid σ far (whole 1 q))
-      go (ran e a d) (ran x b f) =
-          let i = joining τ p e a in
-          let j = joining σ q x b in
-          rw (d, f, i .0, j .0) (joined-moved (i .1) (j .1))
+      go : Outcome τ near (imageKind y) p → Outcome σ far (imageKind y) q → Moved k (trayDid τ near (whole (imageKind y) p)) (trayDid σ far (whole (imageKind y) q))
+      go (ran e a d) (ran x b f) = rw (d, f) (joined-moved e x (joining y τ p e a) (joining y σ q x b))
       go (ran e a d) (stayed m low f) =
           never (ap (λ (x : Did Tray). x .answer) d ∙ tray-replying .answer τ p e) (ap (λ (x : Did Tray). x .answer) f) low agree
       go (stayed m low d) (ran x b f) =
@@ -255,7 +272,7 @@ slot-moved k τ room n p u slot at = go (outcome τ room n p)
   where
     changes : (e : Event) → trayTold τ n p ≡ Run e → Asks τ (trayKindOf n) p (Run e) → trayDid τ room (whole n p) ≡ trayEvent τ p e
         → Moved k (trayDid τ room (whole n p)) (silently τ 0)
-    changes Image t a d = let z : _≡_ {A = ℕ} 1 0 = sym (slot-ahead n slot) ∙ ap aheadOf (a .kind) in absurd (omega arith)
+    changes (Image f) t a d = let z : _≡_ {A = ℕ} 1 0 = sym (slot-ahead n slot) ∙ ap aheadOf (a .kind) in absurd (omega arith)
     changes (Change c) t a d = record {
       others = record {
         count = ap (λ (x : Did Tray). x .state .count) d;
@@ -263,7 +280,7 @@ slot-moved k τ room n p u slot at = go (outcome τ room n p)
         address =
             ap (λ (x : Did Tray). packOf (x .state) k .common .address) d
             ∙ ap (λ (g : Gauge). g .common .address) (event-pack τ u (trayKindOf n) p (Change c) a k)
-            ∙ address-after τ p (Change c) k (λ z. contrary cc);
+            ∙ address-after τ p (Change c) k (λ f z. contrary cc);
       };
       reply = ap (λ (x : Did Tray). length (x .reply)) d;
     }

@@ -9,6 +9,7 @@ use borrow.Author.Tests.{le-leb, le-ltb, lt-ltb, ltb-true, ltb-false}
 use lib.Dec.{ltb}
 use lib.ListN.{length, take, drop}
 use lib.Seq.{take-at, take-all, ext-getD}
+use Rattle.profile.specs.declared.Profile.the-variants.{Ds2781}
 use Rattle.parts.specs.Parts.{laidOf}
 use Rattle.parts.proofs.Laws.{put-whole}
 use Rattle.label.proofs.Kept.{label-written-elsewhere, label-copied-elsewhere}
@@ -147,7 +148,7 @@ module _ {image wanted room : List ℕ} {said : Written} {after : List ℕ} {c :
   writes-all = done image wanted (length room) g
 
   size : length image ≡ imageSize
-  size = accepted-length image (g .accepted)
+  size = accepted-length Ds2781 image (g .accepted)
 
   bytes : c .bytes ≡ programmingOf image wanted
   bytes =
@@ -168,7 +169,7 @@ module _ {image wanted room : List ℕ} {said : Written} {after : List ℕ} {c :
 
   -- the gauge after the image, after the write and after the copy
   abbrev g₁ : Gauge
-  g₁ = imageOf image
+  g₁ = imageOf Ds2781 image
 
   abbrev g₂ : Gauge
   g₂ = reblocked g₁ wanted (g₁ .meter .cells .block .eeprom)
@@ -182,13 +183,13 @@ module _ {image wanted room : List ℕ} {said : Written} {after : List ℕ} {c :
 
   module _ (n : ℕ) where
     images : didOf emptyOf n (whole 1 image) ≡ silently (loadedWith g₁) 0
-    images = did-image image n (taken-image image ∙ g .accepted)
+    images = did-image Ds2781 image n (taken-image Ds2781 image ∙ g .accepted)
 
     writes : didOf (loadedWith g₁) n (whole 4 (writePayload wanted)) ≡ silently (loadedWith g₂) 0
     unfolding commandOf
     writes =
         did g₁ 0 0x6c 0x60 wanted n (omega arith) (omega (arith, g .all)) zero-le
-        ∙ ap (λ (g : Gauge). silently (loadedWith g) 0) (written g₁ writable wanted (g .all) (image-sized image size .block .shadow))
+        ∙ ap (λ (g : Gauge). silently (loadedWith g) 0) (written g₁ writable wanted (g .all) (image-sized Ds2781 image size .block .shadow))
 
     copies : didOf (loadedWith g₂) n (whole 4 copyPayload) ≡ silently (loadedWith g₃) 0
     unfolding commandOf

@@ -21,7 +21,7 @@ Loaded σ = σ .loaded ≡ true → Reached (σ .gauge)
 
 module _ (σ : Session) (room : ℕ) (g : Loaded σ) where
   taken-reached : (p : List ℕ) (t : Taken) → Taking false (σ .loaded) p t → Loaded (takenDid σ p t .state)
-  taken-reached p (Run Image) h = λ e. accepted p (h .1)
+  taken-reached p (Run (Image f)) h = λ e. accepted f p (h .1)
   taken-reached p (Run (Change c)) h = λ e. changed (σ .gauge) c (g h)
   taken-reached p (Run (Transact t)) h = λ e. acted-on (σ .gauge) t (masterOf t p) (g (h .0))
   taken-reached p (Refused r) h = g

@@ -39,7 +39,7 @@ taken-room room (Run e) h = rw (le-ltb room (asksOf e) h) refl
 taken-room room (Refused r) h = refl
 
 pub timed-asks : (last : Tick) (t : Taken) → takenAsks (timedOf last t) ≡ takenAsks t
-timed-asks last (Run Image) = refl
+timed-asks last (Run (Image f)) = refl
 timed-asks last (Run (Change c)) = picked (λ (t : Taken). takenAsks t ≡ 0) (changeTimely last c) _ _ (λ timely. refl) (λ other. refl)
 timed-asks last (Run (Transact t)) = refl
 timed-asks last (Refused r) = refl
@@ -52,7 +52,7 @@ did-room g room (whole kind p) h =
 did-room g room cut h = refl
 
 taken-reply : (g : Gauge) (p : List ℕ) (t : Taken) → length (takenDid (loadedWith g) p t .reply) ≡ takenAsks t
-taken-reply g p (Run Image) = refl
+taken-reply g p (Run (Image f)) = refl
 taken-reply g p (Run (Change c)) = refl
 taken-reply g p (Run (Transact t)) = reply-length g t (masterOf t p)
 taken-reply g p (Refused r) = refl

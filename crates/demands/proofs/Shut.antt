@@ -8,6 +8,8 @@ use native.Mathlib.Omega.{arith}
 use borrow.Author.Tests.{ltb-true, le-leb}
 use lib.Dec.{leb, eqb}
 use lib.ListN.{length, getD, drop}
+use Rattle.profile.specs.declared.Profile.{Profile}
+use Rattle.profile.specs.Profile.{imageSizeOf}
 use Rattle.numbers.specs.Choice.{pick}
 use Rattle.numbers.proofs.Bounds.{picked}
 use Rattle.ticks.specs.declared.Tick.{Tick}
@@ -21,7 +23,6 @@ use Rattle.events.specs.declared.Event.{Event}
 use Rattle.events.specs.declared.Event.the-variants.{Image, Change, Transact}
 use Rattle.events.specs.declared.Taken.{Taken}
 use Rattle.events.specs.declared.Taken.the-variants.{Run, Refused}
-use Rattle.events.specs.Image.{imageSize}
 use Rattle.events.specs.Record.{limitOf, readCount, dueOf, eventOf, takenBy, timedOf}
 use Rattle.runs.specs.Record.{Rec, whole, cut}
 use Rattle.runs.specs.Run.{Did, silently, Line, lineOf, linesAfter, endAfter}
@@ -42,7 +43,7 @@ use Rattle.demands.proofs.Filled.{countAfter, did-eight, event-pack, ev
 -- A tray that no image joins
 
 abbrev pub shutEvent : Tray → List ℕ → Event → Did Tray
-shutEvent τ p Image = silently τ 0
+shutEvent τ p (Image f) = silently τ 0
 shutEvent τ p (Change c) = trayEvent τ p (Change c)
 shutEvent τ p (Transact t) = trayEvent τ p (Transact t)
 
@@ -67,21 +68,21 @@ pub record Owns (addresses : List (List ℕ)) (τ : Tray) : Type 0 where
   pub owned : (j : ℕ) → j < τ .count → packOf τ j .common .address ≡ getD addresses j []
 
 module _ (addresses : List (List ℕ)) (τ : Tray) (h : Owns addresses τ) where
-  event-owns : (k : Kind) (p : List ℕ) (e : Event) → (e ≡ Image → ⊥) → trayEvent τ p e .state .count ≡ τ .count → Asks τ k p (Run e)
+  event-owns : (k : Kind) (p : List ℕ) (e : Event) → ((f : Profile) → e ≡ Image f → ⊥) → trayEvent τ p e .state .count ≡ τ .count → Asks τ k p (Run e)
       → Owns addresses (trayEvent τ p e .state)
   event-owns k p e none same a = record {
     eight = event-eight τ (h .eight) k p e a;
     count = same ∙ h .count;
     owned = λ j low.
         ap (λ (g : Gauge). g .common .address) (event-pack τ (h .eight) k p e a j)
-        ∙ address-after τ p e j (λ i. absurd (none i))
+        ∙ address-after τ p e j (λ f i. absurd (none f i))
         ∙ h .owned j (rw same at low);
   }
 
   taken-owns : (k : Kind) (p : List ℕ) (t : Taken) → Asks τ k p t → Owns addresses (answeredBy ofShut τ p t .state)
-  taken-owns k p (Run Image) a = h
-  taken-owns k p (Run (Change c)) a = event-owns k p (Change c) (λ e. contrary cc) refl a
-  taken-owns k p (Run (Transact t)) a = event-owns k p (Transact t) (λ e. contrary cc) (event-count τ (h .eight) k p (Transact t)) a
+  taken-owns k p (Run (Image f)) a = h
+  taken-owns k p (Run (Change c)) a = event-owns k p (Change c) (λ f e. contrary cc) refl a
+  taken-owns k p (Run (Transact t)) a = event-owns k p (Transact t) (λ f e. contrary cc) (event-count τ (h .eight) k p (Transact t)) a
   taken-owns k p (Refused r) a = h
 
   pub step-owns : (r : Rec) → Owns addresses (trayStep τ r)
@@ -92,7 +93,7 @@ module _ (addresses : List (List ℕ)) (τ : Tray) (h : Owns addresses τ) where
 
 timed-none : (t : Taken) → timedOf noTick t ≡ t
 unfolding timelyOf
-timed-none (Run Image) = refl
+timed-none (Run (Image f)) = refl
 timed-none (Run (Change (change.Reading volt temp))) = refl
 timed-none (Run (Change (change.Conversion raw))) = refl
 timed-none (Run (Change (change.Sample raw tick))) = refl
@@ -101,23 +102,23 @@ timed-none (Run (Transact t)) = refl
 timed-none (Refused r) = refl
 
 -- of images, and of all other kinds
-image-or : (P : Kind → Type 0) → P kind.Image → ((k : Kind) → (k ≡ kind.Image → ⊥) → P k) → (k : Kind) → P k
-image-or P i h kind.Image = i
-image-or P i h kind.Reading = h kind.Reading (λ e. contrary cc)
-image-or P i h kind.Conversion = h kind.Conversion (λ e. contrary cc)
-image-or P i h (kind.Transaction f) = h (kind.Transaction f) (λ e. contrary cc)
-image-or P i h kind.PowerOn = h kind.PowerOn (λ e. contrary cc)
-image-or P i h kind.Sample = h kind.Sample (λ e. contrary cc)
-image-or P i h kind.Unknown = h kind.Unknown (λ e. contrary cc)
+image-or : (P : Kind → Type 0) → ((f : Profile) → P (kind.Image f)) → ((k : Kind) → ((f : Profile) → k ≡ kind.Image f → ⊥) → P k) → (k : Kind) → P k
+image-or P i h (kind.Image f) = i f
+image-or P i h kind.Reading = h kind.Reading (λ f e. contrary cc)
+image-or P i h kind.Conversion = h kind.Conversion (λ f e. contrary cc)
+image-or P i h (kind.Transaction f) = h (kind.Transaction f) (λ f e. contrary cc)
+image-or P i h kind.PowerOn = h kind.PowerOn (λ f e. contrary cc)
+image-or P i h kind.Sample = h kind.Sample (λ f e. contrary cc)
+image-or P i h kind.Unknown = h kind.Unknown (λ f e. contrary cc)
 
 -- an image is refused in a tray that is closed: with 4 by its size, else with 5
-pub image-asked : (count : ℕ) (p : List ℕ)
-    → trayAskedBy count true false noTick kind.Image p ≡ pick (eqb (length p) imageSize) (Refused refusal.Order) (Refused refusal.Size)
-image-asked count p = rw (le-leb 0 (length p) zero-le) (timed-none _)
+pub image-asked : (f : Profile) (count : ℕ) (p : List ℕ)
+    → trayAskedBy count true false noTick (kind.Image f) p ≡ pick (eqb (length p) (imageSizeOf f)) (Refused refusal.Order) (Refused refusal.Size)
+image-asked f count p = rw (le-leb 0 (length p) zero-le) (timed-none _)
 
-pub image-size : (count : ℕ) (closed again : Bool) (last : Tick) (p : List ℕ) → eqb (length p) imageSize ≡ false
-    → trayAskedBy count closed again last kind.Image p ≡ Refused refusal.Size
-image-size count closed again last p e = rw (le-leb 0 (length p) zero-le, e) refl
+pub image-size : (f : Profile) (count : ℕ) (closed again : Bool) (last : Tick) (p : List ℕ) → eqb (length p) (imageSizeOf f) ≡ false
+    → trayAskedBy count closed again last (kind.Image f) p ≡ Refused refusal.Size
+image-size f count closed again last p e = rw (le-leb 0 (length p) zero-le, e) refl
 
 module _ (count : ℕ) (closed again : Bool) (last : Tick) (p : List ℕ) where
   abbrev asks : Kind → Taken
@@ -131,8 +132,8 @@ module _ (count : ℕ) (closed again : Bool) (last : Tick) (p : List ℕ) where
   ahead false e = refl
 
   -- a record that is no image
-  same-taken : (k : Kind) → (k ≡ kind.Image → ⊥) → (q : List ℕ) → takenBy again k (acceptedFor count closed k p) q ≡ takenBy false k (acceptedFor count true k p) q
-  same-taken kind.Image other q = absurd (other refl)
+  same-taken : (k : Kind) → ((f : Profile) → k ≡ kind.Image f → ⊥) → (q : List ℕ) → takenBy again k (acceptedFor count closed k p) q ≡ takenBy false k (acceptedFor count true k p) q
+  same-taken (kind.Image f) other q = absurd (other f refl)
   same-taken kind.Reading other q = refl
   same-taken kind.Conversion other q = refl
   same-taken (kind.Transaction f) other q = refl
@@ -140,18 +141,18 @@ module _ (count : ℕ) (closed again : Bool) (last : Tick) (p : List ℕ) where
   same-taken kind.Sample other q = refl
   same-taken kind.Unknown other q = refl
 
-  asks-timed : (k : Kind) → (k ≡ kind.Image → ⊥) → asks k ≡ timedOf last (judged k)
+  asks-timed : (k : Kind) → ((f : Profile) → k ≡ kind.Image f → ⊥) → asks k ≡ timedOf last (judged k)
   asks-timed k other = ahead (leb (aheadOf k) (length p)) (same-taken k other (drop (aheadOf k) p))
 
   -- and one that is no fence
   module _ (selects : Selects) where
-    image-class : (t : Bool) → eqb (length p) imageSize ≡ t → (takenClass selects p (judged kind.Image) ≡ fence → ⊥)
-        → asks kind.Image ≡ timedOf last (judged kind.Image)
-    image-class true e other = absurd (other (rw (image-asked count p, e) refl))
-    image-class false e other = image-size count closed again last p e ∙ rw (image-asked count p, e) refl
+    image-class : (f : Profile) (t : Bool) → eqb (length p) (imageSizeOf f) ≡ t → (takenClass selects p (judged (kind.Image f)) ≡ fence → ⊥)
+        → asks (kind.Image f) ≡ timedOf last (judged (kind.Image f))
+    image-class f true e other = absurd (other (rw (image-asked f count p, e) refl))
+    image-class f false e other = image-size f count closed again last p e ∙ rw (image-asked f count p, e) refl
 
     class-timed : (k : Kind) → (takenClass selects p (judged k) ≡ fence → ⊥) → asks k ≡ timedOf last (judged k)
-    class-timed = image-or (λ k. (takenClass selects p (judged k) ≡ fence → ⊥) → asks k ≡ timedOf last (judged k)) (image-class (eqb (length p) imageSize) refl) (λ k other h. asks-timed k other)
+    class-timed = image-or (λ k. (takenClass selects p (judged k) ≡ fence → ⊥) → asks k ≡ timedOf last (judged k)) (λ f. image-class f (eqb (length p) (imageSizeOf f)) refl) (λ k other h. asks-timed k other)
 
 pub told-class : (τ : Tray) (n : ℕ) (p : List ℕ) (selects : Selects) → (takenClass selects p (trayAsked (τ .count) n p) ≡ fence → ⊥)
     → trayTold τ n p ≡ timedOf (slotTick τ p) (trayAsked (τ .count) n p)
@@ -159,7 +160,7 @@ told-class τ n p selects other = class-timed (τ .count) (τ .closed) (againOf 
 
 -- what is asked there: a slot that has a pack, or some pack
 abbrev pub Asked : ℕ → List ℕ → Taken → Type 0
-Asked count p (Run Image) = Unit
+Asked count p (Run (Image f)) = Unit
 Asked count p (Run (Change c)) = slotIn p < count
 Asked count p (Run (Transact t)) = 0 < count
 Asked count p (Refused r) = Unit
@@ -168,7 +169,7 @@ pub asked-there : (count n : ℕ) (p : List ℕ) → Asked count p (trayAsked co
 asked-there count n p = asked-has count true false noTick p (Asked count p) (λ r. tt) (trayKindOf n) (λ sized due. rw timed-none (by (trayKindOf n) due))
   where
     by : (k : Kind) → dueOf k (acceptedFor count true k p) ≡ true → Asked count p (eventOf false k (drop (aheadOf k) p))
-    by kind.Image due = contrary cc
+    by (kind.Image f) due = contrary cc
     by kind.Reading due = ltb-true (slotIn p) count due
     by kind.Conversion due = ltb-true (slotIn p) count due
     by (kind.Transaction f) due = picked (Asked count p) (leb (readCount f p) (limitOf f)) _ _ (λ few. ltb-true 0 count due) (λ many. tt)
@@ -179,23 +180,23 @@ asked-there count n p = asked-has count true false noTick p (Asked count p) (λ 
 -- The room that is asked
 
 module _ (τ : Tray) (p : List ℕ) where
-  image-none : (t : Taken) → Asks τ kind.Image p t → takenAsks t ≡ 0
-  image-none (Run Image) a = refl
-  image-none (Run (Change c)) a = refl
-  image-none (Run (Transact t)) a = let z = a .kind in contrary cc
-  image-none (Refused r) a = refl
+  image-none : (f : Profile) (t : Taken) → Asks τ (kind.Image f) p t → takenAsks t ≡ 0
+  image-none f (Run (Image g)) a = refl
+  image-none f (Run (Change c)) a = refl
+  image-none f (Run (Transact t)) a = let z = a .kind in contrary cc
+  image-none f (Refused r) a = refl
 
   abbrev told : Kind → Taken
   told k = trayAskedBy (τ .count) (τ .closed) (againOf τ p) (slotTick τ p) k p
 
-  timed : (k : Kind) → (k ≡ kind.Image → ⊥) → takenAsks (told k) ≡ takenAsks (trayAskedBy (τ .count) true false noTick k p)
+  timed : (k : Kind) → ((f : Profile) → k ≡ kind.Image f → ⊥) → takenAsks (told k) ≡ takenAsks (trayAskedBy (τ .count) true false noTick k p)
   timed k other =
       ap takenAsks (asks-timed (τ .count) (τ .closed) (againOf τ p) (slotTick τ p) p k other) ∙ timed-asks (slotTick τ p) (trayAskedBy (τ .count) true false noTick k p)
 
   asks-same : (k : Kind) → Asks τ k p (told k) → takenAsks (told k) ≡ takenAsks (trayAskedBy (τ .count) true false noTick k p)
   asks-same =
       image-or (λ k. Asks τ k p (told k) → takenAsks (told k) ≡ takenAsks (trayAskedBy (τ .count) true false noTick k p))
-      (λ a. image-none (told kind.Image) a ∙ rw (image-asked (τ .count) p) (sym (picked (λ t. takenAsks t ≡ 0) (eqb (length p) imageSize) _ _ (λ e. refl) (λ e. refl))))
+      (λ f a. image-none f (told (kind.Image f)) a ∙ rw (image-asked f (τ .count) p) (sym (picked (λ t. takenAsks t ≡ 0) (eqb (length p) (imageSizeOf f)) _ _ (λ e. refl) (λ e. refl))))
       (λ k other a. timed k other)
 
 pub told-asks : (τ : Tray) (n : ℕ) (p : List ℕ) → takenAsks (trayTold τ n p) ≡ takenAsks (trayAsked (τ .count) n p)
@@ -210,19 +211,19 @@ grows τ room rs h =
     (λ σ k p e u a. (event-eight σ (u .0) k p e a, rw (event-count σ (u .0) k p e) (more σ e (u .1)))) τ room rs (h, omega arith) .1
   where
     more : (σ : Tray) (e : Event) → τ .count ≤ σ .count → τ .count ≤ countAfter σ e
-    more σ Image low = omega arith
+    more σ (Image f) low = omega arith
     more σ (Change c) low = low
     more σ (Transact t) low = low
 
 module _ (τ : Tray) (p : List ℕ) where
   shut : (t : Taken) → answeredBy ofTray τ p t .state .count ≤ τ .count → answeredBy ofTray τ p t ≡ answeredBy ofShut τ p t
-  shut (Run Image) low = absurd (omega arith)
+  shut (Run (Image f)) low = absurd (omega arith)
   shut (Run (Change c)) low = refl
   shut (Run (Transact t)) low = refl
   shut (Refused r) low = refl
 
   shut-reply : (t : Taken) → length (answeredBy ofShut τ p t .reply) ≡ takenAsks t
-  shut-reply (Run Image) = refl
+  shut-reply (Run (Image f)) = refl
   shut-reply (Run (Change c)) = refl
   shut-reply (Run (Transact t)) = tray-replying .reply τ p (Transact t)
   shut-reply (Refused r) = refl

@@ -262,7 +262,7 @@ module _ {A B : Type 0} (make : Common → A → B → Gauge) (own : Gauge → A
         (λ j touch. moved j) (two .0 ∙ slot .answer ∙ sym (one .0)) (two .1 ∙ sym (one .1))
 
     taken-moves : (t : Taken) → takenClass (someSelected addresses) p t ≡ k → Asked (τ .count) p t → Moves own other τ σ (asked τ t) (asked σ t)
-    taken-moves (Run Image) e a = absurd (no-fence e)
+    taken-moves (Run (Image f)) e a = absurd (no-fence e)
     taken-moves (Run (Change c)) e a = change-moves c e a
     taken-moves (Run (Transact t)) e a = transact-moves t e
     taken-moves (Refused r) e a =

@@ -51,7 +51,7 @@ module _ (τ : Tray) (h : Eight τ) (i : ℕ) (low : i < τ .count) (p : List �
   Same t = AsOld i (answeredBy ofTray τ (i ∷ p) t) (takenDid (loadedWith (packOf τ i)) p t)
 
   taken-old : (k : Kind) → aheadOf k ≡ 1 → (t : Taken) → Asks τ k (i ∷ p) t → Same t
-  taken-old k ahead (Run Image) a = let z : _≡_ {A = ℕ} 1 0 = sym ahead ∙ ap aheadOf (a .kind) in absurd (omega arith)
+  taken-old k ahead (Run (Image f)) a = let z : _≡_ {A = ℕ} 1 0 = sym ahead ∙ ap aheadOf (a .kind) in absurd (omega arith)
   taken-old k ahead (Run (Change c)) a =
       record { answer = refl; reply = refl; pack = stored-here τ i (changedOf (packOf τ i) c) h (omega (arith, h .few)) }
   taken-old k ahead (Run (Transact t)) a = let z : _≡_ {A = ℕ} 1 0 = sym ahead ∙ ap aheadOf (a .kind) in absurd (omega arith)
@@ -93,7 +93,7 @@ module _ (τ : Tray) (h : Eight τ) (i : ℕ) (f : Form) (p : List ℕ) (reach :
   acted-old t r e = rw e (refl, stored-here τ i (actOf (packOf τ i) t (masterOf t p)) h (omega (arith, there, h .few)))
 
   taken-matched : (t : Taken) → Asks τ (kind.Transaction f) p t → Matched t
-  taken-matched (Run Image) a = let z = a .kind in contrary cc
+  taken-matched (Run (Image g)) a = let z = a .kind in contrary cc
   taken-matched (Run (Change c)) a = let z = a .ahead in contrary cc
   taken-matched (Run (Transact t)) a =
       let e = acted-old t (trayReach τ t (masterOf t p)) (ap (λ (x : Transaction). trayReach τ x (masterOf x p)) (asked-form f refl a) ∙ reach) in

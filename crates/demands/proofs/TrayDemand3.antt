@@ -9,12 +9,16 @@ use borrow.Author.Tests.{le-ltb, eqb-true, eqb-false}
 use lib.Dec.{eqb}
 use lib.ListN.{length, getD, length-append, List·getD-append}
 use lib.Seq.{getD-append-seam}
+use Rattle.profile.specs.declared.Profile.{Profile}
+use Rattle.profile.specs.Profile.{imageSizeOf}
+use Rattle.demands.specs.Images.{imageKind}
+use Rattle.demands.proofs.Images.{tray-image}
 use Rattle.numbers.specs.Choice.{pick}
 use Rattle.gauge.specs.declared.Gauge.{Gauge}
 use Rattle.pack.specs.Image.{imageOf}
 use Rattle.events.specs.declared.Event.the-variants.{Image}
 use Rattle.events.specs.declared.Taken.the-variants.{Run}
-use Rattle.events.specs.Image.{imageSize, imageAddress}
+use Rattle.events.specs.Image.{imageAddress}
 use Rattle.runs.specs.Record.{Rec, whole}
 use Rattle.runs.specs.Run.{Did, silently, Line, linesAfter, endAfter}
 use Rattle.slots.specs.declared.Tray.{Tray}
@@ -34,84 +38,88 @@ use Rattle.demands.proofs.Sides.{tray-swaps}
 
 -- The opening
 
-abbrev joinAll : Tray → List (List ℕ) → Tray
+abbrev joinAll : Tray → List (Profile × List ℕ) → Tray
 joinAll τ [] = τ
-joinAll τ (p ∷ ps) = joinAll (packJoined τ (imageOf p)) ps
+joinAll τ (x ∷ ps) = joinAll (packJoined τ (imageOf (x .0) (x .1))) ps
 
-abbrev imageGot : List ℕ → Rec × Line
-imageGot p = (whole 1 p, record { kind = 1; answer = 0; reply = [] })
+abbrev imageGot : Profile × List ℕ → Rec × Line
+imageGot x = (whole (imageKind (x .0)) (x .1), record { kind = imageKind (x .0); answer = 0; reply = [] })
 
-did-join : (τ : Tray) (room : ℕ) (p : List ℕ) → trayTold τ 1 p ≡ Run Image → trayDid τ room (whole 1 p) ≡ silently (packJoined τ (imageOf p)) 0
+did-join : (f : Profile) (τ : Tray) (room : ℕ) (p : List ℕ) → trayTold τ (imageKind f) p ≡ Run (Image f)
+    → trayDid τ room (whole (imageKind f) p) ≡ silently (packJoined τ (imageOf f p)) 0
 unfolding trayDid
-did-join τ room p e = rw (e, le-ltb room 0 zero-le) refl
+did-join f τ room p e = rw (e, le-ltb room 0 zero-le) refl
 
-opening-end : (τ : Tray) (room : ℕ) (ps : List (List ℕ)) (rs : List Rec) → Opens τ ps
+opening-end : (τ : Tray) (room : ℕ) (ps : List (Profile × List ℕ)) (rs : List Rec) → Opens τ ps
     → endAfter trayDid τ room (imageRecords ps ++ rs) ≡ endAfter trayDid (joinAll τ ps) room rs
 opening-end τ room [] rs o = refl
-opening-end τ room (p ∷ ps) rs o =
+opening-end τ room (x ∷ ps) rs o =
     let zero : room - 0 ≡ room = omega arith in
-    ap (λ (d : Did Tray). endAfter trayDid (d .state) (room - length (d .reply)) (imageRecords ps ++ rs)) (did-join τ room p (o .0))
-    ∙ ap (λ (n : ℕ). endAfter trayDid (packJoined τ (imageOf p)) n (imageRecords ps ++ rs)) zero
-    ∙ opening-end (packJoined τ (imageOf p)) room ps rs (o .1)
+    ap (λ (d : Did Tray). endAfter trayDid (d .state) (room - length (d .reply)) (imageRecords ps ++ rs)) (did-join (x .0) τ room (x .1) (o .0))
+    ∙ ap (λ (n : ℕ). endAfter trayDid (packJoined τ (imageOf (x .0) (x .1))) n (imageRecords ps ++ rs)) zero
+    ∙ opening-end (packJoined τ (imageOf (x .0) (x .1))) room ps rs (o .1)
 
-opening-got : (τ : Tray) (room : ℕ) (ps : List (List ℕ)) (rs : List Rec) → Opens τ ps
+opening-got : (τ : Tray) (room : ℕ) (ps : List (Profile × List ℕ)) (rs : List Rec) → Opens τ ps
     → zip (imageRecords ps ++ rs) (linesAfter trayDid τ room (imageRecords ps ++ rs)) ≡ map imageGot ps ++ zip rs (linesAfter trayDid (joinAll τ ps) room rs)
 unfolding zip zipWith
 opening-got τ room [] rs o = refl
-opening-got τ room (p ∷ ps) rs o =
-    rw (did-join τ room p (o .0), sub-zero) (ap (λ (l : List (Rec × Line)). imageGot p ∷ l) (opening-got (packJoined τ (imageOf p)) room ps rs (o .1)))
+opening-got τ room (x ∷ ps) rs o =
+    rw (did-join (x .0) τ room (x .1) (o .0), sub-zero)
+    (ap (λ (l : List (Rec × Line)). imageGot x ∷ l) (opening-got (packJoined τ (imageOf (x .0) (x .1))) room ps rs (o .1)))
 
 -- each image is a fence, as the class judges it: one that comes after the opening
-image-sized : (τ : Tray) (p : List ℕ) → trayTold τ 1 p ≡ Run Image → eqb (length p) imageSize ≡ true
-unfolding trayKindOf
-image-sized τ p e = go (eqb (length p) imageSize) refl
+image-sized : (f : Profile) (τ : Tray) (p : List ℕ) → trayTold τ (imageKind f) p ≡ Run (Image f) → eqb (length p) (imageSizeOf f) ≡ true
+image-sized f τ p e = go (eqb (length p) (imageSizeOf f)) refl
   where
-    go : (t : Bool) → eqb (length p) imageSize ≡ t → eqb (length p) imageSize ≡ true
+    go : (t : Bool) → eqb (length p) (imageSizeOf f) ≡ t → eqb (length p) (imageSizeOf f) ≡ true
     go true s = s
-    go false s = let z = sym e ∙ image-size (τ .count) (τ .closed) (againOf τ p) (slotTick τ p) p s in contrary cc
+    go false s =
+        let z = sym (rw (tray-image f) at e) ∙ image-size f (τ .count) (τ .closed) (againOf τ p) (slotTick τ p) p s in
+        contrary cc
 
-image-fence : (addresses : List (List ℕ)) (τ : Tray) (p : List ℕ) → trayTold τ 1 p ≡ Run Image → trayClass addresses (whole 1 p) ≡ fence
-unfolding trayKindOf
-image-fence addresses τ p e = rw (image-asked (length addresses) p, image-sized τ p e) refl
+image-fence : (f : Profile) (addresses : List (List ℕ)) (τ : Tray) (p : List ℕ) → trayTold τ (imageKind f) p ≡ Run (Image f)
+    → trayClass addresses (whole (imageKind f) p) ≡ fence
+image-fence f addresses τ p e = rw (tray-image f, image-asked f (length addresses) p, image-sized f τ p e) refl
 
-opening-fences : (addresses : List (List ℕ)) (τ : Tray) (ps : List (List ℕ)) → Opens τ ps
+opening-fences : (addresses : List (List ℕ)) (τ : Tray) (ps : List (Profile × List ℕ)) → Opens τ ps
     → Fences trayDid emptyTray (trayAsked (length addresses)) (someSelected addresses) (map imageGot ps)
 opening-fences addresses τ [] o = tt
-opening-fences addresses τ (p ∷ ps) o = (image-fence addresses τ p (o .0), opening-fences addresses (packJoined τ (imageOf p)) ps (o .1))
+opening-fences addresses τ (x ∷ ps) o =
+    (image-fence (x .0) addresses τ (x .1) (o .0), opening-fences addresses (packJoined τ (imageOf (x .0) (x .1))) ps (o .1))
 
 -- the tray after it has the addresses of the images
 
-joined-owns : (addresses : List (List ℕ)) (τ : Tray) (p : List ℕ) → Owns addresses τ → trayTold τ 1 p ≡ Run Image
-    → Owns (addresses ++ (imageAddress p ∷ [])) (packJoined τ (imageOf p))
+joined-owns : (f : Profile) (addresses : List (List ℕ)) (τ : Tray) (p : List ℕ) → Owns addresses τ → trayTold τ (imageKind f) p ≡ Run (Image f)
+    → Owns (addresses ++ (imageAddress p ∷ [])) (packJoined τ (imageOf f p))
 unfolding imageOf
-joined-owns addresses τ p h e =
-    let a = rw e at (tray-asks τ 1 p) in
+joined-owns f addresses τ p h e =
+    let a = rw e at (tray-asks τ (imageKind f) p) in
     record {
-      eight = event-eight τ (h .eight) (trayKindOf 1) p Image a;
+      eight = event-eight τ (h .eight) (trayKindOf (imageKind f)) p (Image f) a;
       count = omega (arith, h .count, length-append addresses (imageAddress p ∷ []));
       owned = λ j low.
-          ap (λ (g : Gauge). g .common .address) (event-pack τ (h .eight) (trayKindOf 1) p Image a j)
+          ap (λ (g : Gauge). g .common .address) (event-pack τ (h .eight) (trayKindOf (imageKind f)) p (Image f) a j)
           ∙ go j (eqb j (τ .count)) refl low;
     }
   where
     go : (j : ℕ) (t : Bool) → eqb j (τ .count) ≡ t → j < τ .count + 1
-        → pick t (imageOf p) (packOf τ j) .common .address ≡ getD (addresses ++ (imageAddress p ∷ [])) j []
-    go j true f low =
-        let at : j ≡ length addresses = eqb-true j (τ .count) f ∙ h .count in
+        → pick t (imageOf f p) (packOf τ j) .common .address ≡ getD (addresses ++ (imageAddress p ∷ [])) j []
+    go j true s low =
+        let at : j ≡ length addresses = eqb-true j (τ .count) s ∙ h .count in
         rw at (sym (getD-append-seam addresses (imageAddress p) [] []))
-    go j false f low =
-        let here : j < τ .count = omega (arith, eqb-false j (τ .count) f) in
+    go j false s low =
+        let here : j < τ .count = omega (arith, eqb-false j (τ .count) s) in
         h .owned j here ∙ sym (List·getD-append addresses (imageAddress p ∷ []) [] j (omega (arith, h .count)))
 
-opened-owns : (addresses : List (List ℕ)) (τ : Tray) (ps : List (List ℕ)) → Owns addresses τ → Opens τ ps → Owns (addresses ++ addressesOf ps) (joinAll τ ps)
+opened-owns : (addresses : List (List ℕ)) (τ : Tray) (ps : List (Profile × List ℕ)) → Owns addresses τ → Opens τ ps → Owns (addresses ++ addressesOf ps) (joinAll τ ps)
 opened-owns addresses τ [] h o = rw (append-nil addresses) h
-opened-owns addresses τ (p ∷ ps) h o =
-    subst (λ (l : List (List ℕ)). Owns l (joinAll τ (p ∷ ps))) (append-assoc addresses (imageAddress p ∷ []) (addressesOf ps))
-    (opened-owns (addresses ++ (imageAddress p ∷ [])) (packJoined τ (imageOf p)) ps (joined-owns addresses τ p h (o .0)) (o .1))
+opened-owns addresses τ (x ∷ ps) h o =
+    subst (λ (l : List (List ℕ)). Owns l (joinAll τ (x ∷ ps))) (append-assoc addresses (imageAddress (x .1) ∷ []) (addressesOf ps))
+    (opened-owns (addresses ++ (imageAddress (x .1) ∷ [])) (packJoined τ (imageOf (x .0) (x .1))) ps (joined-owns (x .0) addresses τ (x .1) h (o .0)) (o .1))
 
 -- One session
 
-module _ (ps : List (List ℕ)) (o : Opens emptyTray ps) where
+module _ (ps : List (Profile × List ℕ)) (o : Opens emptyTray ps) where
   abbrev start : Tray
   start = joinAll emptyTray ps
 

@@ -4,6 +4,8 @@ use mathlib.Core.List.{List, [], _∷_, _++_, zip, zipWith}
 use Prim.Native.Nat.{ℕ, _≤_}
 use native.Mathlib.Omega.{arith}
 use lib.ListN.{length, getD, replicate}
+use Rattle.profile.specs.declared.Profile.{Profile}
+use Rattle.profile.specs.declared.Profile.the-variants.{Ds2781, Ds2775}
 use Rattle.crc.specs.Crc as crc
 use Rattle.parts.specs.Parts.{laidOf}
 use Rattle.ticks.specs.Ticks.{timelyOf}
@@ -17,7 +19,7 @@ use Rattle.gauge.specs.Gauge.{conversionOf, powerOnOf, writtenOf}
 use Rattle.replies.specs.Reply.{readByte, selectedOf, sourceByte}
 use Rattle.gauge.specs.declared.Gauge.{Gauge}
 use Rattle.gauge.specs.Act.{ranOf, actOf, replyOf}
-use Rattle.pack.specs.Image.{imageOf}
+use Rattle.pack.specs.Image.{imageOf, sizeFor}
 use Rattle.events.specs.declared.Form.the-variants.{Short}
 use Rattle.events.specs.Record.{addressedOf, orderedOf, judgedAmong}
 use Rattle.runs.specs.Record.{Rec, whole, wholeOf, recOf, sizeOf}
@@ -33,10 +35,10 @@ use Rattle.demands.specs.Demand3.{imageRecords, TrayDemand3Met}
 use Rattle.demands.specs.Isolation.{none, held, here, images, IsolationMet}
 use Rattle.demands.proofs.Called.{packed, called, called-within}
 
--- Two packs, and the first with another label
+-- Two packs, the second of a DS2775, whose counter was saved at 9; and the first with another label
 
 abbrev address : List ℕ
-address = 0x3d ∷ 1 ∷ 2 ∷ 3 ∷ 4 ∷ 5 ∷ 7 ∷ 0xf2 ∷ []
+address = 0x32 ∷ 1 ∷ 2 ∷ 3 ∷ 4 ∷ 5 ∷ 7 ∷ 0xb0 ∷ []
 
 abbrev cells : List ℕ
 cells = 100 ∷ 0 ∷ 128 ∷ 0 ∷ []
@@ -48,7 +50,7 @@ abbrev relabelled : List ℕ
 relabelled = 0x3d ∷ 1 ∷ 2 ∷ 3 ∷ 4 ∷ 5 ∷ 6 ∷ 0xac ∷ (replicate 16 7 ++ (replicate 32 0 ++ cells))
 
 abbrev first : List ℕ
-first = address ++ (replicate 48 0 ++ cells)
+first = address ++ (replicate 48 0 ++ (cells ++ (9 ∷ [])))
 
 -- to both: two bytes written at 20h and two read; a conversion of -1,000 in a slot; a power-on of slot 0; CURRENT read from the pack in slot 1
 abbrev writing : Rec
@@ -78,8 +80,8 @@ call-within rs short = called-within trayDid emptyTray (packed rs) (replicate 4 
 
 -- Two sessions that are mixed differently
 
-abbrev packs : List (List ℕ)
-packs = zeroth ∷ first ∷ []
+abbrev packs : List (Profile × List ℕ)
+packs = (Ds2781, zeroth) ∷ (Ds2775, first) ∷ []
 
 abbrev ones : List Rec
 ones = writing ∷ converting 1 ∷ power-on ∷ reading ∷ measuring ∷ []
@@ -116,16 +118,16 @@ tray-demand-3-met = record {
     };
   };
   several = omega arith;
-  differ = λ e. let z : _≡_ {A = ℕ} 6 5 = ap (λ (l : List ℕ). getD l 128 0) e in omega arith;
+  differ = λ e. let z : _≡_ {A = ℕ} 6 5 = ap (λ (l : List ℕ). getD l 129 0) e in omega arith;
 }
 
 -- Two sessions that differ in slot 0
 
 abbrev longer : List Rec
-longer = whole 1 zeroth ∷ whole 1 first ∷ converting 0 ∷ converting 1 ∷ []
+longer = whole 1 zeroth ∷ whole 8 first ∷ converting 0 ∷ converting 1 ∷ []
 
 abbrev shorter : List Rec
-shorter = whole 1 relabelled ∷ whole 1 first ∷ converting 1 ∷ []
+shorter = whole 1 relabelled ∷ whole 8 first ∷ converting 1 ∷ []
 
 -- THE HYPOTHESES OF ISOLATION CAN BE MET
 pub isolation-met : IsolationMet
@@ -140,7 +142,7 @@ isolation-met = record {
     one = call-within longer (omega arith);
     other = call-within shorter (omega arith);
     room = refl;
-    differs = images refl refl refl (held refl (here refl refl (held refl none)));
+    differs = images Ds2781 refl refl refl (held refl (here refl refl (held refl none)));
   };
   differ = λ e. let z : _≡_ {A = ℕ} 0 7 = ap (λ (g : Gauge). getD (g .label .shadow) 0 0) e in omega arith;
   form = Short;
@@ -152,13 +154,15 @@ isolation-met = record {
 
 -- and slot 1 has a pack whose image can be taken out, and a power-on of it can follow
 abbrev slotRoom : List ℕ
-slotRoom = replicate 60 0
+slotRoom = replicate 61 0
 
 pub slot-carried : SlotCarried (call longer) 1 slotRoom (slotOutNumber (call longer .ran .state) 1 slotRoom) (slotOutRoom (call longer .ran .state) 1 slotRoom)
-unfolding recOf sizeOf wholeOf trayDid trayKindOf searchOf judgedAmong addressedOf orderedOf crc.bitOf crc.eightOf crc.nextOf imageOf
+unfolding recOf sizeOf wholeOf trayDid trayKindOf searchOf judgedAmong addressedOf orderedOf crc.bitOf crc.eightOf crc.nextOf imageOf poweredOf
+    conversionOf convertOf flowedOf
 slot-carried =
     let two : call longer .ran .state .count ≡ 2 = refl in
-    record { run = call-within longer (omega arith); pack = omega (arith, two); fits = omega arith; out = record { number = refl; written = refl } }
+    let size : sizeFor (packOf (call longer .ran .state) 1) ≡ 61 = refl in
+    record { run = call-within longer (omega arith); pack = omega (arith, two); fits = omega (arith, size); out = record { number = refl; written = refl } }
 
 abbrev slot-on : List Rec
 slot-on = longer ++ (whole 21 (1 ∷ []) ∷ [])
@@ -187,7 +191,7 @@ abbrev line : ℕ → ℕ → List ℕ → Line
 line kind answer reply = record { kind = kind; answer = answer; reply = reply }
 
 pub tray-answers : trayLines (packed (opened ones)) 4
-    ≡ line 1 0 [] ∷ line 1 0 [] ∷ line 4 0 [] ∷ line 19 0 [] ∷ line 21 0 [] ∷ line 4 0 (0x00 ∷ 0x00 ∷ []) ∷ line 4 0 (0xfc ∷ 0x18 ∷ []) ∷ []
+    ≡ line 1 0 [] ∷ line 8 0 [] ∷ line 4 0 [] ∷ line 19 0 [] ∷ line 21 0 [] ∷ line 4 0 (0x00 ∷ 0x00 ∷ []) ∷ line 4 0 (0xfc ∷ 0x18 ∷ []) ∷ []
 unfolding trayLines recOf sizeOf wholeOf trayDid trayKindOf searchOf matchedOf judgedAmong addressedOf orderedOf crc.bitOf crc.eightOf crc.nextOf
     imageOf poweredOf conversionOf convertOf flowedOf powerOnOf
     askedOf askedAt romBy commandOf selectedOf ownOf actOf ranOf writtenOf labelWrittenOf laidOf meterWrittenOf blockWrittenOf

@@ -95,7 +95,7 @@ changeClass (change.Sample raw tick) = gauging
 changeClass change.PowerOn = fence
 
 abbrev pub eventClass : Selects → List ℕ → Event → Class
-eventClass selects p event.Image = fence
+eventClass selects p (event.Image f) = fence
 eventClass selects p (event.Change c) = changeClass c
 eventClass selects p (event.Transact t) = touchedClass (t .command) (touchedOf selects t (masterOf t p))
 

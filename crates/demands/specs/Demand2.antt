@@ -10,14 +10,17 @@ use mathlib.Core.Bool.{true, false}
 use mathlib.Core.List.{List, [], _∷_, _++_}
 use Prim.Native.Nat.{ℕ, _+_, _-_, _≤_, _<_}
 use lib.ListN.{length, take}
+use Rattle.profile.specs.declared.Profile.{Profile}
+use Rattle.profile.specs.Profile.{imageSizeOf}
+use Rattle.pack.specs.Image.{sizeFor}
+use Rattle.demands.specs.Images.{imageKind, profileOf}
 use Rattle.parts.specs.Parts.{put}
 use Rattle.params.specs.declared.Breaks.{Breaks}
 use Rattle.params.specs.Params.{breaksOf}
 use Rattle.gauge.specs.declared.Gauge.{Gauge}
 use Rattle.gauge.specs.Gauge.{powerOnOf}
-use Rattle.events.specs.Image.{imageSize}
 use Rattle.events.specs.Record.{orderedOf}
-use Rattle.runs.specs.Record.{Rec, whole, recsOf}
+use Rattle.runs.specs.Record.{Rec, whole, recsOf, recordOf}
 use Rattle.runs.specs.Run.{Did, Line, lineOf, endAfter, codesOf}
 use Rattle.steps.specs.declared.Session.{Session}
 use Rattle.steps.specs.Step.{didOf, loadedWith}
@@ -56,10 +59,10 @@ module _ {S : Type 0} (did : S → ℕ → Rec → Did S) (start : S) where
 
 -- ---- "the image taken out at any moment, read into a fresh gauge", of any gauge
 
--- a session whose only record is the image that the first 60 bytes of a room hold
-pub record Fresh (after : List ℕ) (e : Call Session) : Type 0 where
+-- a session whose only record is the image of a profile that the first bytes of a room hold
+pub record Fresh (f : Profile) (after : List ℕ) (e : Call Session) : Type 0 where
   pub run : Within didOf emptyOf e
-  pub image : e .bytes ≡ imageSize ∷ 0 ∷ 1 ∷ 0 ∷ take imageSize after
+  pub image : e .bytes ≡ recordOf (imageKind f) (take (imageSizeOf f) after)
 
 -- the breakpoints in the EEPROM are not "TBP12 ≤ TBP23 ≤ TBP34 ≤ 40 as signed bytes"
 abbrev pub eepromBreaks : Gauge → Breaks
@@ -69,12 +72,12 @@ abbrev pub Crossed : Gauge → Type 0
 Crossed g = orderedOf (eepromBreaks g) ≡ false
 
 -- what the fresh gauge answers to the image
-abbrev pub AnswersImage : Call Session → ℕ → Type 0
-AnswersImage e answer = linesIn didOf emptyOf e ≡ record { kind = 1; answer = answer; reply = [] } ∷ []
+abbrev pub AnswersImage : Profile → Call Session → ℕ → Type 0
+AnswersImage f e answer = linesIn didOf emptyOf e ≡ record { kind = imageKind f; answer = answer; reply = [] } ∷ []
 
 -- it is refused, and the fresh gauge is as it was
-pub record Declined (e : Call Session) : Type 0 where
-  pub refused : AnswersImage e 10
+pub record Declined (f : Profile) (e : Call Session) : Type 0 where
+  pub refused : AnswersImage f e 10
   pub state : e .ran .state ≡ emptyOf
 
 -- "a power-on .. there": the same records with a power-on at their end, which leaves the gauge h
@@ -87,24 +90,24 @@ pub record PoweredOn {S : Type 0} (did : S → ℕ → Rec → Did S) (start : S
 
 -- it is accepted, and "gives the state that a power-on would have given there"
 pub record Restored (g : Gauge) (There : Gauge → Type 0) (e : Call Session) : Type 0 where
-  pub accepted : AnswersImage e 0
+  pub accepted : AnswersImage (profileOf g) e 0
   pub state : e .ran .state ≡ loadedWith (powerOnOf g)
   pub there : (h : Gauge) → There h → e .ran .state ≡ loadedWith h
 
 -- the answer is 10 exactly where the breakpoints are crossed, and it is what the fresh gauge tells
 pub record ReadBack (g : Gauge) (There : Gauge → Type 0) (e : Call Session) : Type 0 where
   pub told : Told didOf emptyOf e
-  pub declined : Crossed g → Declined e
-  pub crossed : AnswersImage e 10 → Crossed g
+  pub declined : Crossed g → Declined (profileOf g) e
+  pub crossed : AnswersImage (profileOf g) e 10 → Crossed g
   pub restored : (Crossed g → ⊥) → Restored g There e
 
 -- ---- of a session
 
--- `take_out` of the state that a run left, stopped anywhere after an image was accepted, into a room of 60 bytes or more
+-- `take_out` of the state that a run left, stopped anywhere after an image was accepted, into a room of 60 bytes or more, of kind 8 of 61
 pub record Carried (d : Call Session) (room : List ℕ) (answer : ℕ) (after : List ℕ) : Type 0 where
   pub run : Within didOf emptyOf d
   pub loaded : d .ran .state .loaded ≡ true
-  pub fits : imageSize ≤ length room
+  pub fits : sizeFor (d .ran .state .gauge) ≤ length room
   pub out : TakenOut (d .ran .state) room answer after
 
 abbrev pub PowersOn : Call Session → Gauge → Type 0
@@ -116,7 +119,7 @@ PowersOn = PoweredOn didOf emptyOf (whole 5 []) (λ σ h. σ ≡ loadedWith h)
 pub record SlotCarried (d : Call Tray) (i : ℕ) (room : List ℕ) (answer : ℕ) (after : List ℕ) : Type 0 where
   pub run : Within trayDid emptyTray d
   pub pack : i < d .ran .state .count
-  pub fits : imageSize ≤ length room
+  pub fits : sizeFor (packOf (d .ran .state) i) ≤ length room
   pub out : SlotOut (d .ran .state) i room answer after
 
 abbrev pub SlotPowersOn : ℕ → Call Tray → Gauge → Type 0
@@ -127,9 +130,9 @@ SlotPowersOn i = PoweredOn trayDid emptyTray (whole 21 (i ∷ [])) (λ τ h. pac
 pub record Demand2 : Type 0 where
   pub events : AfterEach didOf emptyOf
   pub images : (d : Call Session) (room : List ℕ) (answer : ℕ) (after : List ℕ) → Carried d room answer after
-      → (answer ≡ 0) × ((e : Call Session) → Fresh after e → ReadBack (d .ran .state .gauge) (PowersOn d) e)
+      → (answer ≡ 0) × ((e : Call Session) → Fresh (profileOf (d .ran .state .gauge)) after e → ReadBack (d .ran .state .gauge) (PowersOn d) e)
 
 pub record TrayDemand2 : Type 0 where
   pub events : AfterEach trayDid emptyTray
   pub images : (d : Call Tray) (i : ℕ) (room : List ℕ) (answer : ℕ) (after : List ℕ) → SlotCarried d i room answer after
-      → (answer ≡ 0) × ((e : Call Session) → Fresh after e → ReadBack (packOf (d .ran .state) i) (SlotPowersOn i d) e)
+      → (answer ≡ 0) × ((e : Call Session) → Fresh (profileOf (packOf (d .ran .state) i)) after e → ReadBack (packOf (d .ran .state) i) (SlotPowersOn i d) e)

@@ -9,6 +9,8 @@ use mathlib.Core.Bool.{false}
 use mathlib.Core.List.{List, [], _∷_, _++_, map}
 use Prim.Native.Nat.{ℕ, _+_, _≤_}
 use lib.ListN.{length}
+use Rattle.profile.specs.declared.Profile.{Profile}
+use Rattle.demands.specs.Images.{imageKind}
 use Rattle.events.specs.declared.Event.the-variants.{Image}
 use Rattle.events.specs.declared.Taken.{Taken}
 use Rattle.events.specs.declared.Taken.the-variants.{Run, Refused}
@@ -66,43 +68,45 @@ module _ {S : Type 0} (did : S → ℕ → Rec → Did S) (start : S) (asked : �
 
 -- ---- of sessions: "the same accepted image first"
 
-abbrev pub SessionsMixed : List ℕ → List Rec → List Rec → Call Session → Call Session → Type 0
-SessionsMixed p = Mixed didOf emptyOf sessionAsked (selectedOf (imageAddress p)) (whole 1 p ∷ [])
+abbrev pub SessionsMixed : Profile → List ℕ → List Rec → List Rec → Call Session → Call Session → Type 0
+SessionsMixed f p = Mixed didOf emptyOf sessionAsked (selectedOf (imageAddress p)) (whole (imageKind f) p ∷ [])
 
 abbrev pub Demand3 : Type 0
-Demand3 = (p : List ℕ) (xs ys : List Rec) (a b : Call Session) → takenOf 1 false p ≡ Run Image → SessionsMixed p xs ys a b
+Demand3 = (f : Profile) (p : List ℕ) (xs ys : List Rec) (a b : Call Session) → takenOf (imageKind f) false p ≡ Run (Image f)
+    → SessionsMixed f p xs ys a b
     → KeptApart didOf emptyOf sessionAsked (selectedOf (imageAddress p)) a b
 
 -- and it speaks of something: there are such sessions that differ
 pub record Demand3Met : Type 0 where
+  pub profile : Profile
   pub image : List ℕ
   pub ones : List Rec
   pub others : List Rec
   pub one : Call Session
   pub other : Call Session
-  pub accepted : takenOf 1 false image ≡ Run Image
-  pub mixed : SessionsMixed image ones others one other
+  pub accepted : takenOf (imageKind profile) false image ≡ Run (Image profile)
+  pub mixed : SessionsMixed profile image ones others one other
   pub differ : one .bytes ≡ other .bytes → ⊥
 
 -- ---- of trays: the same images accepted first, one to eight, and no other
 
--- each image is accepted in its turn
-abbrev pub Opens : Tray → List (List ℕ) → Type 0
+-- each image is accepted in its turn; profiles may be mixed
+abbrev pub Opens : Tray → List (Profile × List ℕ) → Type 0
 Opens τ [] = Unit
-Opens τ (p ∷ ps) = (trayTold τ 1 p ≡ Run Image) × Opens (packJoined τ (imageOf p)) ps
+Opens τ (x ∷ xs) = (trayTold τ (imageKind (x .0)) (x .1) ≡ Run (Image (x .0))) × Opens (packJoined τ (imageOf (x .0) (x .1))) xs
 
-abbrev pub imageRecords : List (List ℕ) → List Rec
-imageRecords ps = map (λ p. whole 1 p) ps
+abbrev pub imageRecords : List (Profile × List ℕ) → List Rec
+imageRecords ps = map (λ x. whole (imageKind (x .0)) (x .1)) ps
 
-abbrev pub addressesOf : List (List ℕ) → List (List ℕ)
-addressesOf ps = map (λ p. imageAddress p) ps
+abbrev pub addressesOf : List (Profile × List ℕ) → List (List ℕ)
+addressesOf ps = map (λ x. imageAddress (x .1)) ps
 
 -- the packs of the opening are those that a class is judged by
-abbrev pub openedAsked : List (List ℕ) → ℕ → List ℕ → Taken
+abbrev pub openedAsked : List (Profile × List ℕ) → ℕ → List ℕ → Taken
 openedAsked ps = trayAsked (length (addressesOf ps))
 
 -- two tray sessions that end with as many packs as they opened with
-pub record TraysMixed (ps : List (List ℕ)) (xs ys : List Rec) (a b : Call Tray) : Type 0 where
+pub record TraysMixed (ps : List (Profile × List ℕ)) (xs ys : List Rec) (a b : Call Tray) : Type 0 where
   pub opens : Opens emptyTray ps
   pub one : a .ran .state .count ≡ length (addressesOf ps)
   pub other : b .ran .state .count ≡ length (addressesOf ps)
@@ -110,12 +114,12 @@ pub record TraysMixed (ps : List (List ℕ)) (xs ys : List Rec) (a b : Call Tray
 
 -- "Demand 3 holds for the tray's whole state": all packs, their number, and whether the opening is closed
 abbrev pub TrayDemand3 : Type 0
-TrayDemand3 = (ps : List (List ℕ)) (xs ys : List Rec) (a b : Call Tray) → TraysMixed ps xs ys a b
+TrayDemand3 = (ps : List (Profile × List ℕ)) (xs ys : List Rec) (a b : Call Tray) → TraysMixed ps xs ys a b
     → KeptApart trayDid emptyTray (openedAsked ps) (someSelected (addressesOf ps)) a b
 
 -- and it speaks of something
 pub record TrayDemand3Met : Type 0 where
-  pub images : List (List ℕ)
+  pub images : List (Profile × List ℕ)
   pub ones : List Rec
   pub others : List Rec
   pub one : Call Tray

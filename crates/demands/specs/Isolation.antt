@@ -6,6 +6,8 @@ use mathlib.Core.List.{List, [], _∷_}
 use Prim.Native.Nat.{ℕ, zero, suc, _+_}
 use lib.Dec.{eqb}
 use lib.ListN.{length}
+use Rattle.profile.specs.declared.Profile.{Profile}
+use Rattle.demands.specs.Images.{imageKind, isImage}
 use Rattle.numbers.specs.Choice.{pick, both}
 use Rattle.events.specs.declared.Form.{Form}
 use Rattle.events.specs.Image.{imageAddress}
@@ -26,7 +28,7 @@ Agree l m = eqb (l .answer) 0 ≡ eqb (m .answer) 0
 
 -- how many images are accepted with a record, where n were before it
 abbrev pub imagesAfter : ℕ → Rec → Line → ℕ
-imagesAfter n r l = pick (both (eqb (kindIn r) 1) (eqb (l .answer) 0)) (n + 1) n
+imagesAfter n r l = pick (both (isImage (kindIn r)) (eqb (l .answer) 0)) (n + 1) n
 
 -- the records of both, each with its line, where n images were accepted before them
 pub data Differs (k : ℕ) : ℕ → List (Rec × Line) → List (Rec × Line) → Type 0 where
@@ -40,8 +42,8 @@ pub data Differs (k : ℕ) : ℕ → List (Rec × Line) → List (Rec × Line) �
   there : {n e : ℕ} {p : List ℕ} {l : Line} {xs ys : List (Rec × Line)} → slotEvent e ≡ true → slotIn p ≡ k → Differs k n xs ys
       → Differs k n xs ((whole e p, l) ∷ ys)
   -- two images with the same address, where the slot k is filled
-  images : {n : ℕ} {p q : List ℕ} {l m : Line} {xs ys : List (Rec × Line)} → n ≡ k → imageAddress p ≡ imageAddress q → Agree l m
-      → Differs k (imagesAfter n (whole 1 p) l) xs ys → Differs k n ((whole 1 p, l) ∷ xs) ((whole 1 q, m) ∷ ys)
+  images : (f : Profile) {n : ℕ} {p q : List ℕ} {l m : Line} {xs ys : List (Rec × Line)} → n ≡ k → imageAddress p ≡ imageAddress q → Agree l m
+      → Differs k (imagesAfter n (whole (imageKind f) p) l) xs ys → Differs k n ((whole (imageKind f) p, l) ∷ xs) ((whole (imageKind f) q, m) ∷ ys)
 
 -- a place in both: i records of the one are before it and j of the other
 abbrev pub Places : {k n : ℕ} {xs ys : List (Rec × Line)} → Differs k n xs ys → ℕ → ℕ → Type 0
@@ -59,10 +61,10 @@ Places (there slot at rest) zero zero = Unit
 Places (there slot at rest) (suc i) zero = ⊥
 Places (there slot at rest) zero (suc j) = Places rest zero j
 Places (there slot at rest) (suc i) (suc j) = Places rest (suc i) j
-Places (images at address agree rest) zero zero = Unit
-Places (images at address agree rest) zero (suc j) = ⊥
-Places (images at address agree rest) (suc i) zero = ⊥
-Places (images at address agree rest) (suc i) (suc j) = Places rest i j
+Places (images f at address agree rest) zero zero = Unit
+Places (images f at address agree rest) zero (suc j) = ⊥
+Places (images f at address agree rest) (suc i) zero = ⊥
+Places (images f at address agree rest) (suc i) (suc j) = Places rest i j
 
 -- two calls with reply rooms of one size
 pub record Twins (k : ℕ) (c d : Call Tray) : Type 0 where

@@ -1,5 +1,6 @@
 pub mod Call
 pub mod Sections
+pub mod Images
 pub mod Class
 pub mod Demand1
 pub mod Demand2

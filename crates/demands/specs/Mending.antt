@@ -8,6 +8,7 @@ use mathlib.Core.Path.{_≡_}
 use mathlib.Core.List.{List, [], _∷_, _++_}
 use Prim.Native.Nat.{ℕ}
 use lib.ListN.{length, take}
+use Rattle.profile.specs.declared.Profile.the-variants.{Ds2781}
 use Rattle.events.specs.Image.{imageSize}
 use Rattle.pack.specs.Image.{imageOf}
 use Rattle.mending.specs.declared.Mended.the-variants.{Done}
@@ -29,7 +30,7 @@ pub record MendedFirst (image room after rest : List ℕ) (c : Call Session) : T
 pub record AcceptedFirst (mended rest : List ℕ) (c : Call Session) : Type 0 where
   pub told : Told didOf emptyOf c
   pub lines : linesIn didOf emptyOf c
-      ≡ record { kind = 1; answer = 0; reply = [] } ∷ linesAfter didOf (loadedWith (imageOf mended)) (length (c .room)) (recsOf rest)
+      ≡ record { kind = 1; answer = 0; reply = [] } ∷ linesAfter didOf (loadedWith (imageOf Ds2781 mended)) (length (c .room)) (recsOf rest)
 
 abbrev pub MendedTheorem : Type 0
 MendedTheorem =

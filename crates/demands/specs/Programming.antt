@@ -9,6 +9,7 @@ use mathlib.Core.Bool.{false}
 use mathlib.Core.List.{List, [], _∷_}
 use Prim.Native.Nat.{ℕ, _≤_, _<_}
 use lib.ListN.{length, take}
+use Rattle.profile.specs.declared.Profile.the-variants.{Ds2781}
 use Rattle.gauge.specs.declared.Gauge.{Gauge}
 use Rattle.gauge.specs.Gauge.{withMeter}
 use Rattle.stores.specs.Stores.{reblockedOf}
@@ -37,11 +38,11 @@ pub record Set (image wanted : List ℕ) (g : Gauge) : Type 0 where
   pub eeprom : g .meter .cells .block .eeprom ≡ wanted
   pub shadow : g .meter .cells .block .shadow ≡ wanted
   pub label : g .label ≡ record { shadow = imageLabel image; eeprom = imageLabel image }
-  pub saved : g .meter .cells .saved ≡ record { acr = imageAcr image; aging = imageAging image }
+  pub saved : g .meter .cells .saved ≡ record { acr = imageAcr image; aging = imageAging image; cycles = 0 }
   pub locks : g .meter .cells .locks ≡ record { lock = false; bl1 = imageBl1 image }
   pub common : g .common ≡ record { address = imageAddress image; bl0 = imageBl0 image }
   -- and all else is as the image left it
-  pub rest : g ≡ withMeter (imageOf image) (reblockedOf (imageOf image .meter) (g .meter .cells .block))
+  pub rest : g ≡ withMeter (imageOf Ds2781 image) (reblockedOf (imageOf Ds2781 image .meter) (g .meter .cells .block))
 
 -- ---- the answers: the image, the write and the copy are done and reply nothing, and so is the read-back, which replies the wanted bytes. With
 -- less reply room than these it is refused with 9

@@ -1,5 +1,5 @@
 -- What a record that is taken has: its time and a payload of its kind's size; and what the state decides of which kind.
-use mathlib.Core.Path.{_≡_, refl, _∙_}
+use mathlib.Core.Path.{_≡_, refl, sym, ap, subst, _∙_}
 use mathlib.Core.Bool.{Bool, true, false, not}
 use mathlib.Core.List.{List}
 use Prim.Native.Nat.{ℕ, _+_, _-_, _≤_, zero-le}
@@ -11,6 +11,8 @@ use Rattle.numbers.proofs.Bounds.{picked, both-true}
 use Rattle.parts.specs.Parts.{pairAt}
 use Rattle.ticks.specs.declared.Tick.{Tick}
 use Rattle.ticks.specs.Ticks.{timelyOf}
+use Rattle.profile.specs.declared.Profile.{Profile}
+use Rattle.profile.specs.Profile.{imageSizeOf}
 use Rattle.bus.specs.declared.Transaction.{Transaction}
 use Rattle.bus.proofs.Laws.{asked-placed}
 use Rattle.events.specs.declared.Form.{Form}
@@ -23,8 +25,8 @@ use Rattle.events.specs.declared.Event.{Event}
 use Rattle.events.specs.declared.Event.the-variants.{Image, Change, Transact}
 use Rattle.events.specs.declared.Taken.{Taken}
 use Rattle.events.specs.declared.Taken.the-variants.{Run, Refused}
-use Rattle.events.specs.Image.{imageSize, imageAddress, imageBreaks}
-use Rattle.events.specs.Record.{refusalNumber, kindOf, knownOf, headOf, limitOf, readCount, sizedOf, dueOf, addressedOf, lockableOf, orderedOf, judgedAmong, judgedOf, transactionIn, transactionOf, eventOf, takenBy, takenOf, eventTimely, timedOf, fittedOf, Mastered}
+use Rattle.events.specs.Image.{imageAddress, imageBreaks}
+use Rattle.events.specs.Record.{refusalNumber, kindOf, knownOf, headOf, limitOf, readCount, sizedOf, dueOf, addressedOf, lockableOf, orderedOf, judgedAmong, judgedBy, transactionIn, transactionOf, eventOf, takenBy, takenOf, eventTimely, timedOf, fittedOf, Mastered}
 
 -- ---- the forms
 
@@ -52,35 +54,37 @@ module _ (again loaded : Bool) (p : List ℕ) (P : Taken → Type 0) where
 -- after one was
 
 abbrev pub Taking : Bool → Bool → List ℕ → Taken → Type 0
-Taking again loaded p (Run Image) = (loaded ≡ false) × (judgedAmong again p ≡ Run Image) × (length p ≡ imageSize)
+Taking again loaded p (Run (Image f)) = (loaded ≡ false) × (judgedAmong f again p ≡ Run (Image f)) × (length p ≡ imageSizeOf f)
 Taking again loaded p (Run (Change c)) = loaded ≡ true
 Taking again loaded p (Run (Transact t)) = (loaded ≡ true) × Mastered t p
 Taking again loaded p (Refused r) = Unit
 
--- the judge accepts an image, or refuses
-abbrev Verdict : Taken → Type 0
-Verdict (Run Image) = Unit
-Verdict (Run (Change c)) = ⊥
-Verdict (Run (Transact t)) = ⊥
-Verdict (Refused r) = Unit
+-- the judge accepts an image of its profile, or refuses
+abbrev Verdict : Profile → Taken → Type 0
+Verdict f (Run (Image g)) = f ≡ g
+Verdict f (Run (Change c)) = ⊥
+Verdict f (Run (Transact t)) = ⊥
+Verdict f (Refused r) = Unit
 
-verdict : (again : Bool) (p : List ℕ) → Verdict (judgedAmong again p)
+verdict : (f : Profile) (again : Bool) (p : List ℕ) → Verdict f (judgedAmong f again p)
 unfolding judgedAmong
-verdict again p =
-    picked Verdict (eqb (length p) imageSize) _ _
-    (λ a. picked Verdict (addressedOf (imageAddress p)) _ _
-    (λ b. picked Verdict (lockableOf p) _ _
-    (λ c. picked Verdict (not again) _ _ (λ d. picked Verdict (orderedOf (imageBreaks p)) _ _ (λ f. tt) (λ f. tt)) (λ d. tt))
+verdict f again p =
+    let By : Taken → Type 0 = Verdict f in
+    picked By (eqb (length p) (imageSizeOf f)) _ _
+    (λ a. picked By (addressedOf f (imageAddress p)) _ _
+    (λ b. picked By (lockableOf p) _ _
+    (λ c. picked By (not again) _ _ (λ d. picked By (orderedOf (imageBreaks p)) _ _ (λ o. refl) (λ o. tt)) (λ d. tt))
     (λ c. tt))
     (λ b. tt))
     (λ a. tt)
 
 module _ (again loaded : Bool) (p : List ℕ) where
-  image-taking : (t : Taken) → Verdict t → judgedAmong again p ≡ t → loaded ≡ false → length p ≡ imageSize → Taking again loaded p t
-  image-taking (Run Image) v e l s = (l, e, s)
-  image-taking (Run (Change c)) v e l s = absurd v
-  image-taking (Run (Transact t)) v e l s = absurd v
-  image-taking (Refused r) v e l s = tt
+  image-taking : (f : Profile) (t : Taken) → Verdict f t → judgedAmong f again p ≡ t → loaded ≡ false → length p ≡ imageSizeOf f → Taking again loaded p t
+  image-taking f (Run (Image g)) v e l s =
+      (l, subst (λ (x : Profile). judgedAmong x again p ≡ Run (Image g)) v e, subst (λ (x : Profile). length p ≡ imageSizeOf x) v s)
+  image-taking f (Run (Change c)) v e l s = absurd v
+  image-taking f (Run (Transact t)) v e l s = absurd v
+  image-taking f (Refused r) v e l s = tt
 
   mastered : (f : Form) → headOf f ≤ length p → readCount f p ≤ limitOf f → Mastered (transactionIn f p) p
   mastered f h few =
@@ -97,8 +101,8 @@ module _ (again loaded : Bool) (p : List ℕ) where
       picked (Taking again loaded p) (leb (readCount f p) (limitOf f)) _ _ (λ few. (l, mastered f h (leb-true (readCount f p) (limitOf f) few))) (λ many. tt)
 
   event-taking : (k : Kind) → sizedOf k (length p) ≡ true → dueOf k loaded ≡ true → Taking again loaded p (eventOf again k p)
-  event-taking kind.Image sized due =
-      image-taking (judgedAmong again p) (verdict again p) refl (not-true loaded due) (eqb-true (length p) imageSize sized)
+  event-taking (kind.Image f) sized due =
+      image-taking f (judgedAmong f again p) (verdict f again p) refl (not-true loaded due) (eqb-true (length p) (imageSizeOf f) sized)
   event-taking kind.Reading sized due = due
   event-taking kind.Conversion sized due = due
   event-taking (kind.Transaction f) sized due =
@@ -121,7 +125,7 @@ module _ (again loaded : Bool) (p : List ℕ) where
 -- which event a kind asks, if it is not refused: an image, a change or a transaction
 
 abbrev pub kindSort : Kind → ℕ
-kindSort kind.Image = 0
+kindSort (kind.Image f) = 0
 kindSort kind.Reading = 1
 kindSort kind.Conversion = 1
 kindSort (kind.Transaction f) = 2
@@ -130,7 +134,7 @@ kindSort kind.Sample = 1
 kindSort kind.Unknown = 3
 
 abbrev pub eventSort : Event → ℕ
-eventSort Image = 0
+eventSort (Image f) = 0
 eventSort (Change c) = 1
 eventSort (Transact t) = 2
 
@@ -139,14 +143,14 @@ Sorted k (Run e) = eventSort e ≡ kindSort k
 Sorted k (Refused r) = Unit
 
 module _ (again loaded : Bool) (p : List ℕ) (last : Tick) where
-  judged-sorted : (t : Taken) → Verdict t → Sorted kind.Image t
-  judged-sorted (Run Image) v = refl
-  judged-sorted (Run (Change c)) v = absurd v
-  judged-sorted (Run (Transact t)) v = absurd v
-  judged-sorted (Refused r) v = tt
+  judged-sorted : (f : Profile) (t : Taken) → Verdict f t → Sorted (kind.Image f) t
+  judged-sorted f (Run (Image g)) v = refl
+  judged-sorted f (Run (Change c)) v = absurd v
+  judged-sorted f (Run (Transact t)) v = absurd v
+  judged-sorted f (Refused r) v = tt
 
   event-sorted : (k : Kind) → Sorted k (eventOf again k p)
-  event-sorted kind.Image = judged-sorted (judgedAmong again p) (verdict again p)
+  event-sorted (kind.Image f) = judged-sorted f (judgedAmong f again p) (verdict f again p)
   event-sorted kind.Reading = refl
   event-sorted kind.Conversion = refl
   event-sorted (kind.Transaction f) = picked (Sorted (kind.Transaction f)) (leb (readCount f p) (limitOf f)) _ _ (λ few. refl) (λ many. tt)
@@ -170,28 +174,28 @@ pub timed-taking : (loaded : Bool) (p : List ℕ) (last : Tick) (n : ℕ) → Ta
 unfolding takenOf
 timed-taking loaded p last n = timed-by false loaded p last (kindOf n)
 
--- what the judge accepts is an image
-pub judged-image : (p : List ℕ) {e : Event} → judgedOf p ≡ Run e → judgedOf p ≡ Run Image
-judged-image p {e} h = h ∙ by e (rw h at (verdict false p))
+-- what the judge accepts is an image of that profile
+pub judged-image : (f : Profile) (p : List ℕ) {e : Event} → judgedBy f p ≡ Run e → judgedBy f p ≡ Run (Image f)
+judged-image f p {e} h = h ∙ by e (rw h at (verdict f false p))
   where
-    by : (e : Event) → Verdict (Run e) → Run e ≡ Run Image
-    by Image v = refl
+    by : (e : Event) → Verdict f (Run e) → Run e ≡ Run (Image f)
+    by (Image g) v = ap (λ (x : Profile). Run (Image x)) (sym v)
     by (Change c) v = absurd v
     by (Transact t) v = absurd v
 
--- and it has an image's size
-pub judged-sized : (p : List ℕ) {e : Event} → judgedOf p ≡ Run e → length p ≡ imageSize
+-- and it has the size of its profile
+pub judged-sized : (f : Profile) (p : List ℕ) {e : Event} → judgedBy f p ≡ Run e → length p ≡ imageSizeOf f
 unfolding judgedAmong
-judged-sized p {e} h = by (eqb (length p) imageSize) refl
+judged-sized f p {e} h = by (eqb (length p) (imageSizeOf f)) refl
   where
-    by : (b : Bool) → eqb (length p) imageSize ≡ b → length p ≡ imageSize
-    by true s = eqb-true (length p) imageSize s
+    by : (b : Bool) → eqb (length p) (imageSizeOf f) ≡ b → length p ≡ imageSizeOf f
+    by true s = eqb-true (length p) (imageSizeOf f) s
     by false s = let z : _≡_ {A = ℕ} 0 1 = cc (rw s at h) in absurd (omega arith)
 
 -- ---- the state decides of a transaction by the room, of a sample by the tick, and of nothing else
 
 abbrev pub Stateless : Kind → Type 0
-Stateless kind.Image = Unit
+Stateless (kind.Image f) = Unit
 Stateless kind.Reading = Unit
 Stateless kind.Conversion = Unit
 Stateless (kind.Transaction f) = ⊥
@@ -213,14 +217,14 @@ module _ (last : Tick) (again loaded : Bool) (p : List ℕ) where
     no-room : ltb room 0 ≡ false
     no-room = le-ltb room 0 zero-le
 
-    verdict-passes : (t : Taken) → Verdict t → Passes t
-    verdict-passes (Run Image) v = rw no-room refl
-    verdict-passes (Run (Change c)) v = absurd v
-    verdict-passes (Run (Transact t)) v = absurd v
-    verdict-passes (Refused r) v = refl
+    verdict-passes : (f : Profile) (t : Taken) → Verdict f t → Passes t
+    verdict-passes f (Run (Image g)) v = rw no-room refl
+    verdict-passes f (Run (Change c)) v = absurd v
+    verdict-passes f (Run (Transact t)) v = absurd v
+    verdict-passes f (Refused r) v = refl
 
     event-passes : (k : Kind) → Stateless k → Passes (eventOf again k p)
-    event-passes kind.Image h = verdict-passes (judgedAmong again p) (verdict again p)
+    event-passes (kind.Image f) h = verdict-passes f (judgedAmong f again p) (verdict f again p)
     event-passes kind.Reading h = rw no-room refl
     event-passes kind.Conversion h = rw no-room refl
     event-passes (kind.Transaction f) h = absurd h
@@ -258,10 +262,10 @@ NumberedTo most (Refused r) = refusalNumber r ≤ most
 -- 12 is answered in no plain session
 plain-event : (k : Kind) (p : List ℕ) → NumberedTo 11 (eventOf false k p)
 unfolding judgedAmong
-plain-event kind.Image p =
+plain-event (kind.Image f) p =
     let To : Taken → Type 0 = NumberedTo 11 in
-    picked To (eqb (length p) imageSize) _ _
-    (λ a. picked To (addressedOf (imageAddress p)) _ _
+    picked To (eqb (length p) (imageSizeOf f)) _ _
+    (λ a. picked To (addressedOf f (imageAddress p)) _ _
     (λ b. picked To (lockableOf p) _ _ (λ c. picked To (orderedOf (imageBreaks p)) _ _ (λ d. tt) (λ d. omega arith)) (λ c. omega arith))
     (λ b. omega arith))
     (λ a. omega arith)
@@ -283,17 +287,17 @@ plain-numbered last n loaded p =
     timed (Refused r) h = h
 
 -- an image that is accepted beside others is one that is accepted by itself
-pub judged-alone : (again : Bool) (p : List ℕ) → judgedAmong again p ≡ Run Image → (again ≡ false) × (judgedOf p ≡ Run Image)
+pub judged-alone : (f : Profile) (again : Bool) (p : List ℕ) → judgedAmong f again p ≡ Run (Image f) → (again ≡ false) × (judgedBy f p ≡ Run (Image f))
 unfolding judgedAmong
-judged-alone false p e = (refl, e)
-judged-alone true p e = absurd (rw e at (never p))
+judged-alone f false p e = (refl, e)
+judged-alone f true p e = absurd (rw e at (never p))
   where
     Never : Taken → Type 0
     Never (Run e) = ⊥
     Never (Refused r) = Unit
 
-    never : (p : List ℕ) → Never (judgedAmong true p)
+    never : (p : List ℕ) → Never (judgedAmong f true p)
     never p =
-        picked Never (eqb (length p) imageSize) _ _
-        (λ a. picked Never (addressedOf (imageAddress p)) _ _ (λ b. picked Never (lockableOf p) _ _ (λ c. tt) (λ c. tt)) (λ b. tt))
+        picked Never (eqb (length p) (imageSizeOf f)) _ _
+        (λ a. picked Never (addressedOf f (imageAddress p)) _ _ (λ b. picked Never (lockableOf p) _ _ (λ c. tt) (λ c. tt)) (λ b. tt))
         (λ a. tt)

@@ -1,11 +1,15 @@
--- The pack image of document 01: net address 8, block 0 EEPROM 16, block 1 EEPROM 32, saved ACR 2, saved AS 1, lock byte 1. Its size, where
--- its parts stand and what they are; all else speaks of an image by these names.
+-- The pack image of document 01: net address 8, block 0 EEPROM 16, block 1 EEPROM 32, saved ACR 2, saved AS 1, lock byte 1; and of the DS2775
+-- profile the saved cycle counter after them. Its size in kind 1, where its parts stand and what they are; all else speaks of an image by
+-- these names.
 use mathlib.Core.Bool.{Bool}
 use mathlib.Core.List.{List}
 use Prim.Native.Nat.{ℕ, _/_, _%_}
 use lib.Dec.{eqb}
 use lib.ListN.{getD}
 use Rattle.parts.specs.Parts.{part, pairAt}
+use Rattle.numbers.specs.Choice.{pick}
+use Rattle.profile.specs.declared.Profile.{Profile}
+use Rattle.profile.specs.Profile.{countsCycles}
 use Rattle.params.specs.declared.Breaks.{Breaks}
 use Rattle.params.specs.Params.{breaksOf}
 
@@ -30,6 +34,9 @@ agingAt = 58
 abbrev pub locksAt : ℕ
 locksAt = 59
 
+abbrev pub cyclesAt : ℕ
+cyclesAt = 60
+
 abbrev pub imageAddress : List ℕ → List ℕ
 imageAddress p = part 8 p addressAt
 
@@ -49,6 +56,10 @@ imageAcr p = pairAt p acrAt
 
 abbrev pub imageAging : List ℕ → ℕ
 imageAging p = getD p agingAt 0
+
+-- 0 where the profile saves none
+abbrev pub imageCycles : Profile → List ℕ → ℕ
+imageCycles f p = pick (countsCycles f) (getD p cyclesAt 0) 0
 
 -- the lock byte: bit 0 is BL0, bit 1 BL1
 abbrev pub imageLocks : List ℕ → ℕ

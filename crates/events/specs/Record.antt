@@ -11,6 +11,9 @@ use Rattle.parts.specs.Parts.{part, pairAt, quadAt}
 use Rattle.ticks.specs.declared.Tick.{Tick}
 use Rattle.ticks.specs.Ticks.{timelyOf}
 use Rattle.crc.specs.Crc.{crcOf}
+use Rattle.profile.specs.declared.Profile.{Profile}
+use Rattle.profile.specs.declared.Profile.the-variants.{Ds2781, Ds2775}
+use Rattle.profile.specs.Profile.{familyOf, imageSizeOf}
 use Rattle.params.specs.declared.Breaks.{Breaks}
 use Rattle.bus.specs.declared.Transaction.{Transaction}
 use Rattle.bus.specs.Ask.{askedOf}
@@ -26,7 +29,7 @@ use Rattle.events.specs.declared.Event.{Event}
 use Rattle.events.specs.declared.Event.the-variants.{Image, Change, Transact}
 use Rattle.events.specs.declared.Taken.{Taken}
 use Rattle.events.specs.declared.Taken.the-variants.{Run, Refused}
-use Rattle.events.specs.Image.{imageSize, imageAddress, imageBreaks, imageLocks}
+use Rattle.events.specs.Image.{imageAddress, imageBreaks, imageLocks}
 
 -- ---- the answer numbers
 
@@ -50,17 +53,18 @@ numberOf (Refused r) = refusalNumber r
 
 unfoldable pub kindOf : ℕ → Kind
 kindOf n =
-    pick (eqb n 1) kind.Image
+    pick (eqb n 1) (kind.Image Ds2781)
     (pick (eqb n 2) kind.Reading
     (pick (eqb n 3) kind.Conversion
     (pick (eqb n 4) (kind.Transaction Short)
     (pick (eqb n 5) kind.PowerOn
     (pick (eqb n 6) kind.Sample
-    (pick (eqb n 7) (kind.Transaction Long) kind.Unknown))))))
+    (pick (eqb n 7) (kind.Transaction Long)
+    (pick (eqb n 8) (kind.Image Ds2775) kind.Unknown)))))))
 
--- 3: kind not 1 to 7
+-- 3: kind not 1 to 8
 abbrev pub knownOf : Kind → Bool
-knownOf kind.Image = true
+knownOf (kind.Image f) = true
 knownOf kind.Reading = true
 knownOf kind.Conversion = true
 knownOf (kind.Transaction f) = true
@@ -86,9 +90,9 @@ readCount Long p = pairAt p 0
 
 -- ---- size and order
 
--- 4: payload not 60, 8, 4, 1 to 65, 0, 6, 2 to 258 bytes for kinds 1 to 7
+-- 4: payload not 60, 8, 4, 1 to 65, 0, 6, 2 to 258, 61 bytes for kinds 1 to 8
 abbrev pub sizedOf : Kind → ℕ → Bool
-sizedOf kind.Image n = eqb n imageSize
+sizedOf (kind.Image f) n = eqb n (imageSizeOf f)
 sizedOf kind.Reading n = eqb n 8
 sizedOf kind.Conversion n = eqb n 4
 sizedOf (kind.Transaction f) n = both (leb (headOf f) n) (leb n (headOf f + limitOf f))
@@ -98,7 +102,7 @@ sizedOf kind.Unknown n = false
 
 -- 5: an event before an image was accepted, or an image after one was
 abbrev pub dueOf : Kind → Bool → Bool
-dueOf kind.Image loaded = not loaded
+dueOf (kind.Image f) loaded = not loaded
 dueOf kind.Reading loaded = loaded
 dueOf kind.Conversion loaded = loaded
 dueOf (kind.Transaction f) loaded = loaded
@@ -108,9 +112,9 @@ dueOf kind.Unknown loaded = false
 
 -- ---- an image, judged by itself
 
--- first address byte 3Dh, and the eighth the CRC of the first seven
-unfoldable pub addressedOf : List ℕ → Bool
-addressedOf address = both (eqb (getD address 0 0) 0x3d) (eqb (getD address 7 0) (crcOf (part 7 address 0)))
+-- first address byte 3Dh, of kind 8 32h ("6 asks the profile's family"), and the eighth the CRC of the first seven
+unfoldable pub addressedOf : Profile → List ℕ → Bool
+addressedOf f address = both (eqb (getD address 0 0) (familyOf f)) (eqb (getD address 7 0) (crcOf (part 7 address 0)))
 
 -- lock byte not above 3
 abbrev pub lockableOf : List ℕ → Bool
@@ -122,21 +126,25 @@ orderedOf b = both (leb (b .b12) (b .b23)) (both (leb (b .b23) (b .b34)) (leb (b
 
 -- 4, 6, 7, 12, 10: the first refusal that applies, in the order of checking. 12, "after 7 and before 10, for a repeated address": where another
 -- pack of the tray has the image's address
-unfoldable pub judgedAmong : Bool → List ℕ → Taken
-judgedAmong again p =
-    pick (eqb (length p) imageSize)
-    (pick (addressedOf (imageAddress p))
+unfoldable pub judgedAmong : Profile → Bool → List ℕ → Taken
+judgedAmong f again p =
+    pick (eqb (length p) (imageSizeOf f))
+    (pick (addressedOf f (imageAddress p))
     (pick (lockableOf p)
     (pick (not again)
-    (pick (orderedOf (imageBreaks p)) (Run Image) (Refused refusal.Breaks))
+    (pick (orderedOf (imageBreaks p)) (Run (Image f)) (Refused refusal.Breaks))
     (Refused refusal.Repeated))
     (Refused refusal.Locks))
     (Refused refusal.Address))
     (Refused refusal.Size)
 
 -- by itself
+abbrev pub judgedBy : Profile → List ℕ → Taken
+judgedBy f p = judgedAmong f false p
+
+-- an image of kind 1
 abbrev pub judgedOf : List ℕ → Taken
-judgedOf p = judgedAmong false p
+judgedOf p = judgedBy Ds2781 p
 
 -- ---- what a payload says
 
@@ -158,7 +166,7 @@ transactionOf f p = pick (leb (readCount f p) (limitOf f)) (Run (Transact (trans
 
 -- the event of a record of its kind's size, at its time; of an image by whether another pack has its address
 abbrev pub eventOf : Bool → Kind → List ℕ → Taken
-eventOf again kind.Image p = judgedAmong again p
+eventOf again (kind.Image f) p = judgedAmong f again p
 eventOf again kind.Reading p = Run (Change (change.Reading (countAt p 0) (countAt p 4)))
 eventOf again kind.Conversion p = Run (Change (change.Conversion (countAt p 0)))
 eventOf again (kind.Transaction f) p = transactionOf f p
@@ -190,7 +198,7 @@ changeTimely last (change.Sample raw tick) = timelyOf last tick
 changeTimely last change.PowerOn = true
 
 abbrev pub eventTimely : Tick → Event → Bool
-eventTimely last Image = true
+eventTimely last (Image f) = true
 eventTimely last (Change c) = changeTimely last c
 eventTimely last (Transact t) = true
 
@@ -201,7 +209,7 @@ timedOf last (Refused r) = Refused r
 
 -- how many bytes of the reply room an event asks
 abbrev pub asksOf : Event → ℕ
-asksOf Image = 0
+asksOf (Image f) = 0
 asksOf (Change c) = 0
 asksOf (Transact t) = t .count
 
@@ -210,7 +218,7 @@ abbrev pub fittedOf : ℕ → Taken → Taken
 fittedOf room (Run e) = pick (ltb room (asksOf e)) (Refused refusal.Room) (Run e)
 fittedOf room (Refused r) = Refused r
 
--- ---- what the payload of an event has: an image its 60 bytes; a transaction its master bytes, and in them those to be written
+-- ---- what the payload of an event has: an image the bytes of its profile; a transaction its master bytes, and in them those to be written
 
 pub record Mastered (t : Transaction) (p : List ℕ) : Type 0 where
   pub starts : t .start ≤ length p
@@ -219,6 +227,6 @@ pub record Mastered (t : Transaction) (p : List ℕ) : Type 0 where
   pub few : t .count ≤ 256
 
 abbrev pub Fitting : Event → List ℕ → Type 0
-Fitting Image p = length p ≡ imageSize
+Fitting (Image f) p = length p ≡ imageSizeOf f
 Fitting (Change c) p = Unit
 Fitting (Transact t) p = Mastered t p

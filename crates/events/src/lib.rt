@@ -1,6 +1,7 @@
 // What a record asks: the event of a kind and a payload, or the first refusal that applies, and its number.
 use bus::Transaction;
 use params::Breaks;
+use profile::Profile;
 use ticks::Tick;
 ghost use mathlib.Core.Bool.{false};
 ghost use mathlib.Core.Path.{_≡_};
@@ -8,7 +9,7 @@ ghost use Prim.Native.Nat.{_≤_};
 ghost use lib.ListN.{length};
 ghost use Rattle.events.specs.Record.{numberOf, kindOf, headOf, limitOf, readCount, addressedOf, orderedOf, judgedAmong, judgedOf, takenBy, takenOf, timedOf, fittedOf};
 
-// The pack image: its size, and where its parts stand.
+// The pack image: its size, of kind 1, and where its parts stand.
 pub const IMAGE_SIZE: usize = 60;
 
 pub const ADDRESS_AT: usize = 0;
@@ -23,6 +24,8 @@ pub const AGING_AT: usize = 58;
 
 pub const LOCKS_AT: usize = 59;
 
+pub const CYCLES_AT: usize = 60;
+
 // The two forms of a transaction: a read count of one byte, or of two bytes and with longer limits.
 pub enum Form {
     Short,
@@ -31,7 +34,7 @@ pub enum Form {
 
 // The kinds of a record.
 pub enum Kind {
-    Image,
+    Image(Profile),
     Reading,
     Conversion,
     Transaction(Form),
@@ -64,7 +67,7 @@ pub enum Change {
 
 // What a record asks of the gauge.
 pub enum Event {
-    Image,
+    Image(Profile),
     Change(Change),
     Transact(Transaction),
 }
@@ -100,24 +103,25 @@ fn kind_of(n: u16) -> Kind
     ensures { λ r. ⌜ r ≡ kindOf n ⌝ }
 {
     match n {
-        1 => Kind::Image,
+        1 => Kind::Image(Profile::Ds2781),
         2 => Kind::Reading,
         3 => Kind::Conversion,
         4 => Kind::Transaction(Form::Short),
         5 => Kind::PowerOn,
         6 => Kind::Sample,
         7 => Kind::Transaction(Form::Long),
+        8 => Kind::Image(Profile::Ds2775),
         _ => Kind::Unknown,
     }
 }
 
-// The address of eight bytes has the family code 3Dh and its own CRC.
-fn addressed(address: &[u8]) -> bool
+// The address of eight bytes has the profile's family code and its own CRC.
+fn addressed(f: Profile, address: &[u8]) -> bool
     requires { ⌜ length (now address) ≡ 8 ⌝ }
-    ensures { λ r. ⌜ r ≡ addressedOf (now (address .entry)) ⌝ }
+    ensures { λ r. ⌜ r ≡ addressedOf f (now (address .entry)) ⌝ }
 {
     let c = crc::crc(&address[0..7]);
-    numbers::and(address[0] == 0x3d, address[7] == c)
+    numbers::and(address[0] == profile::family(f), address[7] == c)
 }
 
 // The breakpoints follow one another, and none is above 40 °C.
@@ -129,13 +133,13 @@ fn ordered(b: Breaks) -> bool
 }
 
 // An image, judged by itself and by whether another pack has its address: whether it comes in its time is not asked here.
-fn judged_among(again: bool, p: &[u8]) -> Taken
-    ensures { λ r. ⌜ r ≡ judgedAmong again (now (p .entry)) ⌝ }
+fn judged_among(f: Profile, again: bool, p: &[u8]) -> Taken
+    ensures { λ r. ⌜ r ≡ judgedAmong f again (now (p .entry)) ⌝ }
 {
     let mut taken = Taken::Refused(Refusal::Size);
-    if p.len() == IMAGE_SIZE {
+    if p.len() == profile::size(f) {
         taken = Taken::Refused(Refusal::Address);
-        if addressed(&p[ADDRESS_AT..LABEL_AT]) {
+        if addressed(f, &p[ADDRESS_AT..LABEL_AT]) {
             taken = Taken::Refused(Refusal::Locks);
             if p[LOCKS_AT] <= 3 {
                 taken = Taken::Refused(Refusal::Repeated);
@@ -143,7 +147,7 @@ fn judged_among(again: bool, p: &[u8]) -> Taken
                     taken = Taken::Refused(Refusal::Breaks);
                     let block = parts::thirty_two(p, BLOCK_AT);
                     if ordered(Breaks::of(&block)) {
-                        taken = Taken::Run(Event::Image);
+                        taken = Taken::Run(Event::Image(f));
                     }
                 }
             }
@@ -152,23 +156,23 @@ fn judged_among(again: bool, p: &[u8]) -> Taken
     taken
 }
 
-// An image, judged by itself.
+// An image of kind 1, judged by itself.
 pub fn judged(p: &[u8]) -> Taken
     ensures { λ r. ⌜ r ≡ judgedOf (now (p .entry)) ⌝ }
 {
-    judged_among(false, p)
+    judged_among(Profile::Ds2781, false, p)
 }
 
 // ---- a reader for each kind
 
-fn image_taken(again: bool, loaded: bool, p: &[u8]) -> Taken
-    ensures { λ r. ⌜ r ≡ takenBy again Kind.Image loaded (now (p .entry)) ⌝ }
+fn image_taken(f: Profile, again: bool, loaded: bool, p: &[u8]) -> Taken
+    ensures { λ r. ⌜ r ≡ takenBy again (Kind.Image f) loaded (now (p .entry)) ⌝ }
 {
-    if p.len() != IMAGE_SIZE {
+    if p.len() != profile::size(f) {
         return Taken::Refused(Refusal::Size);
     }
     if !loaded {
-        return judged_among(again, p);
+        return judged_among(f, again, p);
     }
     Taken::Refused(Refusal::Order)
 }
@@ -296,7 +300,7 @@ pub fn fitted_by(k: Kind, again: bool, loaded: bool, last: Tick, room: usize, p:
     ensures { λ r. ⌜ r ≡ fittedOf room (timedOf last (takenBy again k loaded (now (p .entry)))) ⌝ }
 {
     match k {
-        Kind::Image => image_taken(again, loaded, p),
+        Kind::Image(f) => image_taken(f, again, loaded, p),
         Kind::Reading => reading_taken(loaded, p),
         Kind::Conversion => conversion_taken(loaded, p),
         Kind::Transaction(f) => transaction_taken(f, loaded, room, p),

@@ -1,10 +1,15 @@
 -- What no event undoes, and what a transaction cannot reach.
 use mathlib.Core.Path.{_≡_, refl, ap, _∙_}
-use mathlib.Core.Bool.{true, false}
+use mathlib.Core.Bool.{Bool, true, false}
 use mathlib.Core.List.{List}
 use Prim.Native.Nat.{ℕ, zero, suc}
 use lib.ListN.{drop}
 use Rattle.numbers.proofs.Bounds.{picked}
+use Rattle.profile.specs.declared.Profile.{Profile}
+use Rattle.cycles.specs.Cycles.{cycledOf}
+use Rattle.charge.specs.declared.Charge.{Charge}
+use Rattle.reading.specs.declared.Saved.{Saved}
+use Rattle.reading.specs.Reading.{keptOf}
 use Rattle.meter.specs.declared.Locks.{Locks}
 use Rattle.meter.specs.declared.Block.{Block}
 use Rattle.meter.specs.State.{withCells, withLocks, poweredOf}
@@ -17,13 +22,13 @@ use Rattle.label.specs.declared.Label.{Label}
 use Rattle.label.specs.Label.{inLabel, inBlock, commonLockedOf}
 use Rattle.label.proofs.Kept.{label-written-sized, label-written-eeprom, label-copied-sized, label-copied-locked, label-copied-elsewhere, label-recalled-sized, label-recalled-eeprom, label-recalled-elsewhere, common-locked-elsewhere}
 use Rattle.stores.specs.Stores.{meterWrittenOf, meterCopiedOf, meterRecalledOf, meterLockedOf}
-use Rattle.stores.proofs.Kept.{written-sized, written-eeprom, copied-sized, copied-locked, copied-elsewhere, recalled-sized, recalled-eeprom, recalled-elsewhere, locked-elsewhere}
+use Rattle.stores.proofs.Kept.{written-sized, written-eeprom, copied-sized, copied-locked, copied-elsewhere, recalled-sized, recalled-eeprom, recalled-elsewhere, locked-elsewhere, cycles-uncounted}
 use Rattle.bus.specs.declared.Command.{Command}
 use Rattle.bus.specs.declared.Command.the-variants.{Read, Write, Copy, Recall, Lock, Nothing}
 use Rattle.bus.specs.declared.Transaction.{Transaction}
 use Rattle.replies.specs.Reply.{selectedOf}
 use Rattle.gauge.specs.declared.Gauge.{Gauge}
-use Rattle.gauge.specs.Gauge.{Sized, withMeter, conversionOf, samplingOf, readingOf, powerOnOf, writtenOf, copiedOf, recalledOf, lockedOf}
+use Rattle.gauge.specs.Gauge.{Sized, Uncounted, withMeter, conversionOf, samplingOf, readingOf, powerOnOf, writtenOf, copiedOf, recalledOf, lockedOf}
 use Rattle.events.specs.declared.Change.{Change}
 use Rattle.events.specs.declared.Change.the-variants.{Reading, Conversion, Sample, PowerOn}
 use Rattle.gauge.specs.Change.{changedOf}
@@ -90,12 +95,35 @@ saved-untouched g t master =
 
 -- ---- what every event keeps
 
--- the address never changes: what holds of it is kept
-pub address-kept : (P : List ℕ → Type 0) → Kept (λ g. P (g .common .address))
-unfolding conversionOf readingOf powerOnOf writtenOf copiedOf recalledOf lockedOf commonLockedOf
+-- profile and address never change: what holds of them is kept
+pub address-kept : (P : Profile → List ℕ → Type 0) → Kept (λ g. P (g .meter .cells .profile) (g .common .address))
+unfolding conversionOf readingOf powerOnOf convertOf flowedOf readOf shownOf poweredOf writtenOf copiedOf recalledOf lockedOf commonLockedOf meterWrittenOf meterCopiedOf meterRecalledOf meterLockedOf
 address-kept P = record {
   change = changed _ (record { conversion = λ g raw p. p; tick = λ g tick p. p; reading = λ g volt temp p. p; power-on = λ g p. p });
   act = acted _ (record { written = λ g a bytes p. p; copied = λ g a p. p; recalled = λ g a p. p; locked = λ g a p. p });
+}
+
+none-saved : (s : Saved) (save : Bool) (g : Charge) (cycles : ℕ) → cycles ≡ 0 → s .cycles ≡ 0 → keptOf s save g cycles .cycles ≡ 0
+unfolding keptOf
+none-saved s true g cycles now then = now
+none-saved s false g cycles now then = then
+
+-- without a cycle counter none is counted, and so none is saved
+pub uncounted-kept : Kept Uncounted
+unfolding conversionOf readingOf powerOnOf convertOf flowedOf cycledOf readOf shownOf poweredOf writtenOf copiedOf recalledOf lockedOf meterWrittenOf meterCopiedOf meterRecalledOf meterLockedOf
+uncounted-kept = record {
+  change = changed Uncounted (record {
+    conversion = λ g raw h e. (rw e (h e .0), h e .1);
+    tick = λ g tick h. h;
+    reading = λ g volt temp h e. (h e .0, none-saved _ _ _ _ (h e .0) (h e .1));
+    power-on = λ g h e. (h e .1, h e .1);
+  });
+  act = acted Uncounted (record {
+    written = λ g a bytes h e. (rw (cycles-uncounted (g .meter .cycles) (g .meter .cells) a bytes e) (h e .0), h e .1);
+    copied = λ g a h. h;
+    recalled = λ g a h. h;
+    locked = λ g a h. h;
+  });
 }
 
 -- a locked block 0 stays locked, and its EEPROM never changes

@@ -1,8 +1,10 @@
 -- The gauge: common part, label and meter, and what each event makes of them. Label events see no meter, and gauge events no label.
 use Prim.Native.Nat.{ℕ}
 use mathlib.Core.Path.{_≡_}
+use mathlib.Core.Bool.{false}
 use mathlib.Core.List.{List}
 use lib.ListN.{length}
+use Rattle.profile.specs.Profile.{countsCycles}
 use Rattle.meter.specs.declared.Meter.{Meter}
 use Rattle.meter.specs.State.{MeterWF, restartedOf}
 use Rattle.meter.specs.Convert.{convertOf}
@@ -22,6 +24,10 @@ pub record Sized (g : Gauge) : Type 0 where
   pub address : length (g .common .address) ≡ 8
   pub label : LabelSized (g .label)
   pub block : BlockSized (g .meter .cells .block)
+
+-- and where its profile has no cycle counter, none is counted and none is saved
+abbrev pub Uncounted : Gauge → Type 0
+Uncounted g = countsCycles (g .meter .cells .profile) ≡ false → (g .meter .cycles .count ≡ 0) × (g .meter .cells .saved .cycles ≡ 0)
 
 -- a gauge with other parts
 abbrev pub withParts : Gauge → Label → Meter → Gauge

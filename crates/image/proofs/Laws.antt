@@ -1,17 +1,18 @@
 -- What follows of what `run` and `take_out` told.
 use mathlib.Core.Path.{_≡_, refl, sym, ap, _∙_}
 use mathlib.Core.Bool.{Bool, true, false}
-use mathlib.Core.List.{List, _++_, append-nil}
+use mathlib.Core.List.{List, _++_}
 use Prim.Native.Nat.{ℕ, _+_, _<_}
 use native.Mathlib.Omega.{arith}
 use borrow.Author.Tests.{le-leb, lt-ltb}
 use lib.Dec.{leb}
-use lib.ListN.{length, drop-of-length-le}
-use Rattle.parts.proofs.Laws.{put-whole}
+use lib.ListN.{length, drop, length-append, length-drop}
+use Rattle.parts.proofs.Laws.{put-front}
 use Rattle.streams.specs.declared.Said.{Said}
 use Rattle.streams.specs.declared.Stream.the-variants.{Output}
 use Rattle.streams.specs.Streams.{Saying, error, refusedText}
-use Rattle.pack.specs.Image.{bytesOf}
+use Rattle.pack.specs.Image.{bytesOf, sizeFor}
+use Rattle.pack.proofs.Image.{size-few}
 use Rattle.steps.specs.declared.Session.{Session}
 use Rattle.runs.specs.declared.Outcome.{Outcome}
 use Rattle.runs.specs.declared.Outcome.the-variants.{Done, Over}
@@ -41,20 +42,26 @@ pub alike : (s : List ℕ) → 32768 < length s → takenSpeech s ≡ error (ref
 unfolding takenSpeech
 alike s h = rw (outcome-told s, lt-ltb 32768 (length s) h)
 
--- ---- the image taken out into a room of 60 bytes
+-- ---- the image taken out into a room of 61 bytes
 
-module _ {σ : Session} {room after : List ℕ} {answer : ℕ} (t : TakenOut σ room answer after) (size : length room ≡ 60) where
-  long : leb 60 (length room) ≡ true
-  long = le-leb 60 (length room) (omega arith)
+module _ {σ : Session} {room after : List ℕ} {answer : ℕ} (t : TakenOut σ room answer after) (size : length room ≡ 61) where
+  long : leb (sizeFor (σ .gauge)) (length room) ≡ true
+  long = le-leb (sizeFor (σ .gauge)) (length room) (omega (arith, size-few (σ .gauge)))
 
-  pub handed : answer ≡ 0 → length after ≡ length room → Saying (imageSpeech Done σ) room (record { stream = Output; count = length after }) after
-  handed zero kept = by (σ .loaded) refl
+  pub handed : {count : ℕ} → answer ≡ 0 → length after ≡ length room → count ≡ sizeFor (σ .gauge) → Saying (imageSpeech Done σ) room (record { stream = Output; count = count }) after
+  handed {count} zero kept size-told = by (σ .loaded) refl
     where
-      by : (b : Bool) → σ .loaded ≡ b → Saying (imageSpeech Done σ) room (record { stream = Output; count = length after }) after
+      by : (b : Bool) → σ .loaded ≡ b → Saying (imageSpeech Done σ) room (record { stream = Output; count = count }) after
       by true e =
-          let whole : after ≡ bytesOf (σ .gauge) =
-          rw (e, long) at (t .written) ∙ ap (λ (rest : List ℕ). bytesOf (σ .gauge) ++ rest) (drop-of-length-le room {i = 60} (omega arith)) ∙ append-nil (bytesOf (σ .gauge)) in
-          rw e (record { stream = refl; counted = ap length whole; written = whole ∙ sym (put-whole room (bytesOf (σ .gauge)) (sym (ap length whole) ∙ kept)) })
+          let all = rw (e, long) at (t .written) in
+          let length-is : length (bytesOf (σ .gauge)) ≡ sizeFor (σ .gauge) =
+          omega (arith, sym (ap length all) ∙ kept, length-append (bytesOf (σ .gauge)) (drop (sizeFor (σ .gauge)) room), length-drop (sizeFor (σ .gauge)) room, size-few (σ .gauge)) in
+          rw e
+          (record {
+            stream = refl;
+            counted = size-told ∙ sym length-is;
+            written = all ∙ ap (λ (n : ℕ). bytesOf (σ .gauge) ++ drop n room) (sym length-is) ∙ sym (put-front room (bytesOf (σ .gauge)) (omega (arith, length-is, size-few (σ .gauge))));
+          })
       by false e = let five : answer ≡ 5 = rw e at (t .number) in absurd (omega arith)
 
   -- an answer that is not 0 is 5, and nothing was written

@@ -14,12 +14,12 @@ ghost use Rattle.image.specs.Image.{imageSpeech, takenSpeech, extractedO
 
 // The image of a session that was run to its end.
 fn put_image(session: Session, room: &mut [u8]) -> Said
-    requires { ⌜ length (now room) ≡ 60 ⌝ }
+    requires { ⌜ length (now room) ≡ 61 ⌝ }
     ensures { λ r. ⌜ Saying (imageSpeech Done session) (now (room .entry)) r (now (room .exit)) ⌝ }
 {
     let answer = records::take_out(session, room);
     if answer == 0 {
-        let count = room.len();
+        let count = records::image_size(session);
         let stream = Stream::Output;
         return Said {
             stream: stream,
@@ -30,7 +30,7 @@ fn put_image(session: Session, room: &mut [u8]) -> Said
 }
 
 fn put_taken(s: &[u8], room: &mut [u8]) -> Said
-    requires { ⌜ length (now room) ≡ 60 ⌝ }
+    requires { ⌜ length (now room) ≡ 61 ⌝ }
     ensures { λ r. ⌜ Saying (takenSpeech (now (s .entry))) (now (room .entry)) r (now (room .exit)) ⌝ }
 {
     let mut replies = [0u8; 65536];
@@ -54,9 +54,9 @@ fn put_taken(s: &[u8], room: &mut [u8]) -> Said
 }
 
 // What the program says. A byte more than a session may have is enough to know of any input. (That the room keeps its length is said for `main`.)
-fn extracted(input: &[u8; 32769], got: Input, room: &mut [u8; 60]) -> Said
+fn extracted(input: &[u8; 32769], got: Input, room: &mut [u8; 61]) -> Said
     ensures { λ r. ⌜ ((s : List ℕ) → Front s (now (input .entry)) (got .count) → Saying (extractedOf (got .failed) s) (now (room .entry)) r (now (room .exit))) ⌝ }
-    ensures { λ _. ⌜ 60 ≡ length (now (room .exit)) ⌝ }
+    ensures { λ _. ⌜ 61 ≡ length (now (room .exit)) ⌝ }
 {
     if got.failed {
         return streams::put_unread(b"image", room);
@@ -69,7 +69,7 @@ fn extracted(input: &[u8; 32769], got: Input, room: &mut [u8; 60]) -> Said
 fn main() {
     let mut input = [0u8; 32769];
     let got = streams::read_input(&mut input);
-    let mut room = [0u8; 60];
+    let mut room = [0u8; 61];
     let said = extracted(&input, got, &mut room);
     streams::say(b"image", said, &room);
 }

@@ -7,6 +7,9 @@ use lib.ListN.{getD, set}
 use Rattle.numbers.specs.Choice.{pick}
 use Rattle.numbers.specs.Offset.{zeroAt}
 use Rattle.reading.specs.declared.Flags.{Flags}
+use Rattle.profile.specs.Profile.{countsCycles}
+use Rattle.cycles.specs.declared.Cycles.{Cycles}
+use Rattle.meter.specs.declared.Cells.{Cells}
 use Rattle.meter.specs.declared.Locks.{Locks}
 use Rattle.meter.specs.declared.Meter.{Meter}
 use Rattle.charge.specs.Charge.{acrOf, fractionOf}
@@ -33,6 +36,10 @@ flagOf on weight = pick on weight 0
 unfoldable pub statusOf : Flags → Bool → ℕ
 statusOf f learnf =
     flagOf (f .chgtf) 128 + flagOf (f .aef) 64 + flagOf (f .sef) 32 + flagOf learnf 16 + flagOf (f .porf) 2
+
+-- 1Eh: the cycle counter; FFh where the profile has none
+abbrev pub cycleByte : Cells → Cycles → ℕ
+cycleByte c y = pick (countsCycles (c .profile)) (y .count) 0xff
 
 -- 1Fh: LOCK in bit 6, BL1 and BL0 in bits 1 and 0; EEC and the reserved bits read 0
 unfoldable pub eepromOf : Common → Locks → ℕ
@@ -72,7 +79,8 @@ registersOf k m =
     ∷ upperOf (m .shown .model .full) ∷ lowerOf (m .shown .model .full)
     ∷ upperOf (m .shown .model .ae) ∷ lowerOf (m .shown .model .ae)
     ∷ upperOf (m .shown .model .se) ∷ lowerOf (m .shown .model .se)
-    ∷ 0xff ∷ 0xff ∷ 0xff
+    ∷ 0xff ∷ 0xff
+    ∷ cycleByte (m .cells) (m .cycles)
     ∷ eepromOf k (m .cells .locks)
     ∷ []
 

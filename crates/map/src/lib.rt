@@ -1,12 +1,14 @@
 // The memory map: what a read of the registers finds.
+use cycles::Cycles;
 use label::Common;
+use meter::Cells;
 use meter::Locks;
 use meter::Meter;
 use reading::Flags;
 ghost use mathlib.Core.Path.{_≡_};
 ghost use Prim.Native.Nat.{_*_, _%_, _≤_, _<_};
 ghost use Rattle.meter.specs.State.{MeterWF};
-ghost use Rattle.map.specs.Registers.{wordOf, tempWordOf, flagOf, statusOf, eepromOf, pairOf, twoOf, putOf, registersOf, registerOf};
+ghost use Rattle.map.specs.Registers.{wordOf, tempWordOf, flagOf, statusOf, cycleByte, eepromOf, pairOf, twoOf, putOf, registersOf, registerOf};
 
 // A signed number kept as z + 2^15, in two's complement.
 fn word(x: u16) -> u16
@@ -33,6 +35,13 @@ fn status(f: Flags, learnf: bool) -> u8
     ensures { λ r. ⌜ r ≡ statusOf f learnf ⌝ }
 {
     flag(f.chgtf, 128) + flag(f.aef, 64) + flag(f.sef, 32) + flag(learnf, 16) + flag(f.porf, 2)
+}
+
+fn cycle_byte(c: Cells, y: Cycles) -> u8
+    ensures { λ r. ⌜ r ≡ cycleByte c y ⌝ }
+{
+    let f = c.profile;
+    numbers::choose8(profile::counts(f), y.count, 0xff)
 }
 
 fn eeprom(k: Common, l: Locks) -> u8
@@ -91,7 +100,7 @@ pub fn register(k: Common, m: Meter, at: usize) -> Pair
         0x18 => Pair::of(m.shown.model.ae),
         0x1a => Pair::of(m.shown.model.se),
         0x1c => two(0xff, 0xff),
-        _ => two(0xff, eeprom(k, m.cells.locks)),
+        _ => two(cycle_byte(m.cells, m.cycles), eeprom(k, m.cells.locks)),
     }
 }
 

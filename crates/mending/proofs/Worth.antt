@@ -18,6 +18,7 @@ use Rattle.numbers.proofs.Bounds.{both-true}
 use Rattle.parts.specs.Parts.{part}
 use Rattle.crc.specs.Crc.{crcOf}
 use Rattle.params.specs.declared.Breaks.{Breaks}
+use Rattle.profile.specs.declared.Profile.the-variants.{Ds2781}
 use Rattle.events.specs.declared.Event.the-variants.{Image}
 use Rattle.events.specs.declared.Taken.the-variants.{Run, Refused}
 use Rattle.events.specs.declared.Refusal.the-variants as refusal
@@ -292,7 +293,7 @@ module _ (image : List ℕ) (size : length image ≡ imageSize) where
 
   -- ---- it is accepted
 
-  addressed : getD image 0 0 ≡ 0x3d → addressedOf (imageAddress m) ≡ true
+  addressed : getD image 0 0 ≡ 0x3d → addressedOf Ds2781 (imageAddress m) ≡ true
   unfolding addressedOf
   addressed family =
       let first : getD (take 8 m) 0 0 ≡ 0x3d = getD-take 8 m 0 0 (omega arith) ∙ there .others 0 (λ e. omega arith) (λ e. omega arith) (λ e. omega arith) (λ e. omega arith) (λ e. omega arith) (λ e. omega arith) ∙ family in
@@ -305,11 +306,11 @@ module _ (image : List ℕ) (size : length image ≡ imageSize) where
   ordered : orderedOf (imageBreaks m) ≡ true
   ordered = ap orderedOf breaks-there ∙ ascending-ordered b (ascends (imageBreaks image))
 
-  judged : getD image 0 0 ≡ 0x3d → judgedOf m ≡ Run Image
+  judged : getD image 0 0 ≡ 0x3d → judgedOf m ≡ Run (Image Ds2781)
   unfolding judgedAmong
   judged family = rw (eq-eqb (length m) imageSize long, addressed family, lockable, ordered) refl
 
-  taken : getD image 0 0 ≡ 0x3d → takenOf 1 false m ≡ Run Image
+  taken : getD image 0 0 ≡ 0x3d → takenOf 1 false m ≡ Run (Image Ds2781)
   unfolding takenOf kindOf
   taken family = rw (eq-eqb (length m) imageSize long) (judged family)
 
@@ -352,10 +353,10 @@ module _ (image : List ℕ) (size : length image ≡ imageSize) where
 -- ---- an image that is sound already
 
 module _ (image : List ℕ) (s : SoundImage image) where
-  judge : (false ≡ false) × (judgedOf image ≡ Run Image) × (length image ≡ imageSize)
+  judge : (false ≡ false) × (judgedOf image ≡ Run (Image Ds2781)) × (length image ≡ imageSize)
   judge = rw (s .accepted) at (plain-taking false image 1)
 
-  tests : (t u v w : Bool) → pick t (pick u (pick v (pick w (Run Image) (Refused refusal.Breaks)) (Refused refusal.Locks)) (Refused refusal.Address)) (Refused refusal.Size) ≡ Run Image
+  tests : (t u v w : Bool) → pick t (pick u (pick v (pick w (Run (Image Ds2781)) (Refused refusal.Breaks)) (Refused refusal.Locks)) (Refused refusal.Address)) (Refused refusal.Size) ≡ Run (Image Ds2781)
       → (u ≡ true) × (v ≡ true) × (w ≡ true)
   tests true true true true e = (refl, refl, refl)
   tests true true true false e = let z : _≡_ {A = ℕ} 0 1 = cc in absurd (omega arith)
@@ -363,9 +364,9 @@ module _ (image : List ℕ) (s : SoundImage image) where
   tests true false v w e = let z : _≡_ {A = ℕ} 0 1 = cc in absurd (omega arith)
   tests false u v w e = let z : _≡_ {A = ℕ} 0 1 = cc in absurd (omega arith)
 
-  passed : (addressedOf (imageAddress image) ≡ true) × (lockableOf image ≡ true) × (orderedOf (imageBreaks image) ≡ true)
+  passed : (addressedOf Ds2781 (imageAddress image) ≡ true) × (lockableOf image ≡ true) × (orderedOf (imageBreaks image) ≡ true)
   unfolding judgedAmong
-  passed = tests (eqb (length image) imageSize) (addressedOf (imageAddress image)) (lockableOf image) (orderedOf (imageBreaks image)) (judge .1)
+  passed = tests (eqb (length image) imageSize) (addressedOf Ds2781 (imageAddress image)) (lockableOf image) (orderedOf (imageBreaks image)) (judge .1)
 
   own-crc : mendedCrc image ≡ getD image 7 0
   unfolding addressedOf

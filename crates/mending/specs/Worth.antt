@@ -16,6 +16,7 @@ use Rattle.numbers.specs.Choice.{pick}
 use Rattle.numbers.specs.Offset.{value}
 use Rattle.params.specs.declared.Breaks.{Breaks}
 use Rattle.params.specs.Params.{byteAt}
+use Rattle.profile.specs.declared.Profile.the-variants.{Ds2781}
 use Rattle.events.specs.declared.Event.the-variants.{Image}
 use Rattle.events.specs.declared.Taken.the-variants.{Run}
 use Rattle.events.specs.Image.{imageSize, addressAt, imageAddress, imageLabel, imageBlock, imageAcr, imageAging, imageBl0, imageBl1}
@@ -30,7 +31,7 @@ pub record Mendable (image : List ℕ) : Type 0 where
 
 -- an image that is accepted as the first record of a session
 abbrev pub Accepted : List ℕ → Type 0
-Accepted image = takenOf 1 false image ≡ Run Image
+Accepted image = takenOf 1 false image ≡ Run (Image Ds2781)
 
 -- ---- "a 60-byte image that is accepted"
 

@@ -6,12 +6,16 @@ use mathlib.Core.List.{List, [], _∷_, map}
 use Prim.Native.Nat.{ℕ, _+_, _-_, _*_}
 use lib.ListN.{set}
 use Rattle.numbers.specs.Offset.{zeroAt}
+use Rattle.profile.specs.declared.Profile.{Profile}
+use Rattle.profile.specs.declared.Profile.the-variants.{Ds2781, Ds2775}
+use Rattle.cycles.specs.declared.Cycles.{Cycles}
+use Rattle.cycles.specs.Cycles.{cycledOf}
 use Rattle.charge.specs.Charge.{acrOf, fractionOf, countedOf, agedFullOf, shareOf, shareUpOf}
 use Rattle.full.specs.Full.{averagedOf, renewedOf, foundOf, learntOf, filledOf, settledOf, loweredOf}
 use Rattle.model.specs.Model.{slopesOver, linesOf}
 use Rattle.reading.specs.Reading.{degreesOf, drainingOf, pointOf, emptiedOf, leftOf, usableOf, percentOf, amountOf, resultsOf, ratedOf, flaggedOf, keptOf, seenOf}
 use Rattle.meter.specs.declared.Meter.{Meter}
-use Rattle.meter.specs.State.{withCharge, poweredOf}
+use Rattle.meter.specs.State.{withCharge, withCycles, poweredOf}
 use Rattle.meter.specs.Convert.{flowedOf, convertOf}
 use Rattle.meter.specs.Read.{drainedOf, shownOf, readOf}
 
@@ -53,14 +57,18 @@ plus n = zeroAt 31 + n
 abbrev pub minus : ℕ → ℕ
 minus n = zeroAt 31 - n
 
--- after a power-on with this block, ACR and AS
-abbrev pub powered : List ℕ → ℕ → ℕ → Meter
-powered block acr aging =
+-- after a power-on of a profile with this block, ACR and AS
+abbrev pub poweredBy : Profile → List ℕ → ℕ → ℕ → Meter
+poweredBy f block acr aging =
     poweredOf (record {
+      profile = f;
       block = record { shadow = block; eeprom = block };
       locks = record { lock = false; bl1 = false };
-      saved = record { acr = acr; aging = aging };
+      saved = record { acr = acr; aging = aging; cycles = 0 };
     })
+
+abbrev pub powered : List ℕ → ℕ → ℕ → Meter
+powered = poweredBy Ds2781
 
 -- a reading at a temperature, with a voltage of 4 × VCHG + 1
 abbrev pub readAt : ℕ → Meter → Meter
@@ -131,8 +139,11 @@ abbrev taught : Meter
 taught = filled (plus (8 * 40)) (withCharge (powered M 9000 128) (record { count = 9000 * 4096; age = 0; aging = 128; learnf = true; mark = false }))
 
 -- ACR 100, fraction 0: the count after a conversion
+abbrev countedBy : Profile → List ℕ → ℕ → ℕ
+countedBy f block raw = convertOf (poweredBy f block 100 128) raw .charge .count
+
 abbrev counted : List ℕ → ℕ → ℕ
-counted block raw = convertOf (powered block 100 128) raw .charge .count
+counted = countedBy Ds2781
 
 abbrev fallen : Meter
 fallen = convertOf (powered M 100 128) (minus 1)
@@ -140,6 +151,15 @@ fallen = convertOf (powered M 100 128) (minus 1)
 -- with AC 1 and counter 31
 abbrev aged : Meter
 aged = convertOf (withCharge (powered aging 100 128) (record { count = 100 * 4096; age = 31; aging = 128; learnf = false; mark = false })) (minus 1)
+
+-- a profile with this Full40 and cycle counter, ACR 100: the counter and its rest after a conversion in which ACR falls by 8
+abbrev cycled : Profile → ℕ → Cycles → List ℕ
+cycled f full40 y =
+    let m = convertOf (withCycles (poweredBy f (withByte (withByte M 0x6a 0) 0x6b full40) 100 128) y) (minus (8 * 4096)) in
+    m .cycles .count ∷ m .cycles .rest ∷ []
+
+abbrev at : ℕ → ℕ → Cycles
+at count rest = record { count = count; rest = rest }
 
 -- AS 63, N > 0
 abbrev worn : Meter
@@ -166,6 +186,8 @@ figures =
     -- F14 to F17. Blanking: 63 to 0, 64 to 64; with NBEN -15 to 0, -16 to -16
     (counted M (plus 63) ∷ counted M (plus 64) ∷ [] is (100 * 4096 + 0) ∷ (100 * 4096 + 64) ∷ []) ∷
     (counted noiseless (minus 15) ∷ counted noiseless (minus 16) ∷ [] is (100 * 4096 - 0) ∷ (100 * 4096 - 16) ∷ []) ∷
+    -- W12.5. In the DS2775 profile with NBEN -16 to 0, -17 to -17; without NBEN -16 stays
+    (countedBy Ds2775 noiseless (minus 16) ∷ countedBy Ds2775 noiseless (minus 17) ∷ countedBy Ds2775 M (minus 16) ∷ [] is (100 * 4096 - 0) ∷ (100 * 4096 - 17) ∷ (100 * 4096 - 16) ∷ []) ∷
     -- F18. ACR 100, fraction 0, c -1, AB 0, NBEN 0: ACR 99, fraction 4095
     (acr fallen ∷ fraction fallen ∷ [] is 99 ∷ 4095 ∷ []) ∷
     -- F19. With AC 1 and counter 31, AS 128 becomes 127
@@ -174,8 +196,18 @@ figures =
     (converted (minus 1 ∷ seven (plus 0)) (powered M 100 128) .flow .average .iavg ∷ [] is (zeroAt 15 - 1) ∷ []) ∷
     -- F21. AF 4032, AE 5000: RARC 0
     (agedFull worn ∷ worn .shown .model .ae ∷ worn .shown .results .rarc ∷ [] is 4032 ∷ 5000 ∷ 0 ∷ []) ∷
+    -- W12.8, W12.9. As many steps of twice Full40 as fit, the rest carried
+    (cycled Ds2775 3 (at 0 0) is 1 ∷ 2 ∷ []) ∷
+    (cycled Ds2775 3 (at 1 5) is 3 ∷ 1 ∷ []) ∷
+    (cycled Ds2775 10 (at 7 11) is 7 ∷ 19 ∷ []) ∷
+    -- W12.10. The counter stops at 255, and the steps are taken off
+    (cycled Ds2775 3 (at 254 4) is 255 ∷ 0 ∷ []) ∷
+    -- W12.11. With Full40 = 0 the rest is zeroed
+    (cycled Ds2775 0 (at 7 11) is 7 ∷ 0 ∷ []) ∷
+    -- W12.6. There is none in the DS2781
+    (cycled Ds2781 3 (at 0 0) is 0 ∷ 0 ∷ []) ∷
     []
 
 pub figures-hold : Hold figures
-unfolding poweredOf countedOf averagedOf renewedOf foundOf learntOf agedFullOf shareOf shareUpOf filledOf settledOf flowedOf convertOf slopesOver linesOf drainingOf pointOf emptiedOf leftOf usableOf percentOf amountOf resultsOf ratedOf flaggedOf keptOf loweredOf seenOf drainedOf shownOf readOf
-figures-hold = (refl, (refl, (refl, (refl, (refl, (refl, (refl, (refl, (refl, (refl, (refl, (refl, (refl, (refl, (refl, (refl, tt))))))))))))))))
+unfolding poweredOf countedOf cycledOf averagedOf renewedOf foundOf learntOf agedFullOf shareOf shareUpOf filledOf settledOf flowedOf convertOf slopesOver linesOf drainingOf pointOf emptiedOf leftOf usableOf percentOf amountOf resultsOf ratedOf flaggedOf keptOf loweredOf seenOf drainedOf shownOf readOf
+figures-hold = (refl, (refl, (refl, (refl, (refl, (refl, (refl, (refl, (refl, (refl, (refl, (refl, (refl, (refl, (refl, (refl, (refl, (refl, (refl, (refl, (refl, (refl, (refl, tt)))))))))))))))))))))))

@@ -76,7 +76,7 @@ module _ (m : Meter) (raw : ℕ) where
   abbrev pub before : Charge
   before =
       let p = countingOf (m .cells .block .shadow) in
-      countedOf p (m .charge) (m .flow .trace .last) (convertedOf (m .flow) raw (p .cob))
+      countedOf (m .cells .profile) p (m .charge) (m .flow .trace .last) (convertedOf (m .flow) raw (p .cob))
 
   pub fills : found ≡ true
       → convertOf m raw .charge ≡ filledOf before (m .shown .model .full) (capacityOf (m .cells .block .shadow) .full40)

@@ -12,12 +12,12 @@ use Rattle.reading.specs.Reading.{SeenWF, pointOf}
 use Rattle.reading.proofs.Laws.{emptied-wf}
 use Rattle.meter.specs.declared.Cells.{Cells}
 use Rattle.meter.specs.declared.Meter.{Meter}
-use Rattle.meter.specs.State.{MeterWF, withCharge, poweredOf}
-use Rattle.meter.specs.Convert.{flowedOf}
+use Rattle.meter.specs.State.{MeterWF, poweredOf}
+use Rattle.meter.specs.Convert.{chargedOf, flowedOf}
 use Rattle.meter.specs.Read.{drainedOf, shownOf}
 
-pub with-charge-wf : (m : Meter) (g : Charge) → ChargeWF g → MeterWF m → MeterWF (withCharge m g)
-with-charge-wf m g h w = record { charge = h; average = w .average; full = w .full; volt = w .volt; temp = w .temp }
+pub charged-wf : (m : Meter) (full40 : ℕ) (g : Charge) → ChargeWF g → MeterWF m → MeterWF (chargedOf m full40 g)
+charged-wf m full40 g h w = record { charge = h; average = w .average; full = w .full; volt = w .volt; temp = w .temp }
 
 -- ---- conversion
 

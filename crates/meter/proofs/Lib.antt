@@ -4,3 +4,4 @@ pub mod Figures
 pub mod Unique
 pub mod Hundred
 pub mod OffsetConversion
+pub mod CycleCounter

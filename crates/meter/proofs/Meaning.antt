@@ -20,6 +20,9 @@ use Rattle.params.specs.declared.Breaks.{Breaks}
 use Rattle.params.specs.declared.Slopes.{Slopes}
 use Rattle.params.specs.Params.{byteAt, signedAt}
 use Rattle.charge.specs.declared.Charge.{Charge}
+use Rattle.profile.specs.declared.Profile.{Profile}
+use Rattle.profile.specs.declared.Profile.the-variants.{Ds2781, Ds2775}
+use Rattle.profile.specs.Profile.{edgeOf}
 use Rattle.charge.specs.Charge.{acrOf, currentOf, negative, turnedOf, blankedOf, grownOf, newCount, fallOf}
 use Rattle.full.specs.declared.Average.{Average}
 use Rattle.full.specs.Full.{nextOf, runOf, averagedOf, tapersOf}
@@ -69,24 +72,28 @@ negative-means c = offset.below-zero 15 c
 pub turned-means : (last c : ℕ) → turnedOf last c ≡ turnedZ (value 15 last) (value 15 c)
 turned-means last c = λ i. both (negative-means c i) (not (negative-means last i))
 
-pub blanked-means : (nben : Bool) (c : ℕ) → value 15 (blankedOf nben c) ≡ blankedZ nben (value 15 c)
-blanked-means nben c =
+pub blanked-means : (f : Profile) (nben : Bool) (c : ℕ) → value 15 (blankedOf f nben c) ≡ blankedZ f nben (value 15 c)
+blanked-means f nben c =
     let small = both (ltb (zeroAt 15) c) (ltb c (zeroAt 15 + 64)) in
-    let slight = both nben (both (ltb (zeroAt 15 - 16) c) (ltb c (zeroAt 15))) in
+    let slight = both nben (both (ltb (zeroAt 15 - edgeOf f) c) (ltb c (zeroAt 15))) in
     through (value 15) (either small slight) (zeroAt 15) c ∙
     (λ i. pick
     (either (both (compared 15 (zeroAt 15) c i) (compared 15 c (zeroAt 15 + 64) i))
-    (both nben (both (compared 15 (zeroAt 15 - 16) c i) (compared 15 c (zeroAt 15) i)))) (pos 0) (value 15 c))
+    (both nben (both (below-edge f c i) (compared 15 c (zeroAt 15) i)))) (pos 0) (value 15 c))
+  where
+    below-edge : (f : Profile) (c : ℕ) → ltb (zeroAt 15 - edgeOf f) c ≡ ltZ (minus (edgeOf f)) (value 15 c)
+    below-edge Ds2781 c = compared 15 (zeroAt 15 - 16) c
+    below-edge Ds2775 c = compared 15 (zeroAt 15 - 17) c
 
 pub grown-means : (count counted ab : ℕ) → pos (grownOf count counted ab) ≡ grownZ (pos count) (value 15 counted) (value 7 ab)
 grown-means count counted ab = offset.grown 15 7 count counted ab (2 ^ 28 - 1)
 
 -- steps 2 and 3 together
-pub count-means : (p : Counting) (g : Charge) (c : ℕ)
-    → pos (newCount p g c) ≡ addedZ (g .mark) (pos (g .count)) (blankedZ (p .nben) (value 15 c)) (value 7 (p .ab))
-count-means p g c =
-    let grown = grown-means (g .count) (blankedOf (p .nben) c) (p .ab) ∙
-    ap (λ (z : ℤ). grownZ (pos (g .count)) z (value 7 (p .ab))) (blanked-means (p .nben) c) in
+pub count-means : (f : Profile) (p : Counting) (g : Charge) (c : ℕ)
+    → pos (newCount f p g c) ≡ addedZ (g .mark) (pos (g .count)) (blankedZ f (p .nben) (value 15 c)) (value 7 (p .ab))
+count-means f p g c =
+    let grown = grown-means (g .count) (blankedOf f (p .nben) c) (p .ab) ∙
+    ap (λ (z : ℤ). grownZ (pos (g .count)) z (value 7 (p .ab))) (blanked-means f (p .nben) c) in
     through pos (g .mark) (g .count) _ ∙ ap (pick (g .mark) (pos (g .count))) grown
 
 pub fall-means : (old new : ℕ) → fallOf old new ≡ fallZ (acrOf old) (acrOf new)

@@ -4,12 +4,14 @@ use mathlib.Core.Bool.{Bool}
 use Rattle.numbers.specs.Choice.{pick, both, either}
 use Rattle.params.specs.declared.Limits.{Limits}
 use Rattle.params.specs.Params.{countingOf, limitsOf, capacityOf}
-use Rattle.charge.specs.Charge.{currentOf, tracedOf, countedOf}
+use Rattle.charge.specs.declared.Charge.{Charge}
+use Rattle.charge.specs.Charge.{currentOf, tracedOf, fallOf, countedOf}
+use Rattle.cycles.specs.Cycles.{cycledOf}
 use Rattle.full.specs.Full.{offsetTurn, eighth, averagedOf, renewedOf, foundOf, settledOf}
 use Rattle.reading.specs.declared.Flags.{Flags}
 use Rattle.meter.specs.declared.Flow.{Flow}
 use Rattle.meter.specs.declared.Meter.{Meter}
-use Rattle.meter.specs.State.{withCharge, withFlags}
+use Rattle.meter.specs.State.{withFlags}
 
 -- step 1: c. "On the 1024th, the previous c is shown, averaged and counted; the raw value is ignored."
 abbrev pub convertedOf : Flow → ℕ → ℕ → ℕ
@@ -27,6 +29,7 @@ flowedOf m p full40 c =
     record {
       cells = m .cells;
       charge = settledOf (m .charge) found (m .shown .model .full) full40;
+      cycles = m .cycles;
       flow = record {
         trace = tracedOf (f .trace) c;
         average = averagedOf (f .average) c;
@@ -36,11 +39,22 @@ flowedOf m p full40 c =
       shown = withFlags (m .shown) (filledFlags (m .shown .flags) found);
     }
 
--- steps 1 to 5 of the charge, then step 6
+-- the charge that steps 1 to 5 leave; and the fall of ACR that ageing counts, which the cycle counter counts too
+abbrev pub chargedOf : Meter → ℕ → Charge → Meter
+chargedOf m full40 g = record {
+  cells = m .cells;
+  charge = g;
+  cycles = cycledOf (m .cells .profile) full40 (m .cycles) (fallOf (m .charge .count) (g .count));
+  flow = m .flow;
+  shown = m .shown;
+}
+
+-- steps 1 to 5, then step 6
 unfoldable pub convertOf : Meter → ℕ → Meter
 convertOf m raw =
     let block = m .cells .block .shadow in
     let p = countingOf block in
+    let full40 = capacityOf block .full40 in
     let c = convertedOf (m .flow) raw (p .cob) in
-    let counted = withCharge m (countedOf p (m .charge) (m .flow .trace .last) c) in
-    flowedOf counted (limitsOf block) (capacityOf block .full40) c
+    let counted = countedOf (m .cells .profile) p (m .charge) (m .flow .trace .last) c in
+    flowedOf (chargedOf m full40 counted) (limitsOf block) full40 c

@@ -20,8 +20,9 @@ drainedOf m p full40 s =
 -- steps 5 and 6
 unfoldable pub shownOf : Meter → Seen → Charge → Results → Meter
 shownOf m s g r = record {
-  cells = withSaved (m .cells) (keptOf (m .cells .saved) (savesOf (m .shown .reading .known) (m .shown .results .rarc) (r .rarc)) g);
+  cells = withSaved (m .cells) (keptOf (m .cells .saved) (savesOf (m .shown .reading .known) (m .shown .results .rarc) (r .rarc)) g (m .cycles .count));
   charge = g;
+  cycles = m .cycles;
   flow = withSince (m .flow) (loweredOf (m .flow .since) (s .volt));
   shown = record {
     model = s .lines;

@@ -9,6 +9,8 @@ use Rattle.numbers.specs.Choice.{pick, both, either}
 use Rattle.numbers.specs.Offset.{value, clampZ, divZ}
 use Rattle.params.specs.declared.Breaks.{Breaks}
 use Rattle.params.specs.declared.Slopes.{Slopes}
+use Rattle.profile.specs.declared.Profile.{Profile}
+use Rattle.profile.specs.Profile.{edgeOf}
 use Rattle.full.specs.declared.Average.{Average}
 use Rattle.full.specs.Full.{averagedOf}
 
@@ -42,10 +44,10 @@ negativeZ c = ltZ c (pos 0)
 abbrev pub turnedZ : ℤ → ℤ → Bool
 turnedZ last c = both (negativeZ c) (not (negativeZ last))
 
--- 0 < c < 64 counts as 0; with NBEN, -16 < c < 0 counts as 0
-abbrev pub blankedZ : Bool → ℤ → ℤ
-blankedZ nben c =
-    pick (either (both (ltZ (pos 0) c) (ltZ c (pos 64))) (both nben (both (ltZ (minus 16) c) (ltZ c (pos 0))))) (pos 0) c
+-- 0 < c < 64 counts as 0; with NBEN, -16 < c < 0 counts as 0, in the DS2775 profile -17 < c < 0
+abbrev pub blankedZ : Profile → Bool → ℤ → ℤ
+blankedZ f nben c =
+    pick (either (both (ltZ (pos 0) c) (ltZ c (pos 64))) (both nben (both (ltZ (minus (edgeOf f)) c) (ltZ c (pos 0))))) (pos 0) c
 
 -- the count grows by that plus AB, clamped to 0..2^28 - 1
 abbrev pub grownZ : ℤ → ℤ → ℤ → ℤ

@@ -6,6 +6,8 @@ use Rattle.ticks.specs.declared.Tick.{Tick}
 use Rattle.ticks.specs.Ticks.{noTick}
 use Rattle.charge.specs.declared.Charge.{Charge}
 use Rattle.charge.specs.Charge.{ChargeWF}
+use Rattle.cycles.specs.declared.Cycles.{Cycles}
+use Rattle.cycles.specs.Cycles.{poweredCycles}
 use Rattle.full.specs.declared.Since.{Since}
 use Rattle.full.specs.Full.{AverageWF}
 use Rattle.reading.specs.declared.Flags.{Flags}
@@ -28,27 +30,30 @@ pub record MeterWF (m : Meter) : Type 0 where
 -- ---- a meter with one of its groups replaced
 
 abbrev pub withCells : Meter → Cells → Meter
-withCells m cells = record { cells = cells; charge = m .charge; flow = m .flow; shown = m .shown }
+withCells m cells = record { cells = cells; charge = m .charge; cycles = m .cycles; flow = m .flow; shown = m .shown }
 
 abbrev pub withCharge : Meter → Charge → Meter
-withCharge m charge = record { cells = m .cells; charge = charge; flow = m .flow; shown = m .shown }
+withCharge m charge = record { cells = m .cells; charge = charge; cycles = m .cycles; flow = m .flow; shown = m .shown }
+
+abbrev pub withCycles : Meter → Cycles → Meter
+withCycles m cycles = record { cells = m .cells; charge = m .charge; cycles = cycles; flow = m .flow; shown = m .shown }
 
 abbrev pub withFlow : Meter → Flow → Meter
-withFlow m flow = record { cells = m .cells; charge = m .charge; flow = flow; shown = m .shown }
+withFlow m flow = record { cells = m .cells; charge = m .charge; cycles = m .cycles; flow = flow; shown = m .shown }
 
 abbrev pub withShown : Meter → Shown → Meter
-withShown m shown = record { cells = m .cells; charge = m .charge; flow = m .flow; shown = shown }
+withShown m shown = record { cells = m .cells; charge = m .charge; cycles = m .cycles; flow = m .flow; shown = shown }
 
 -- ---- a group with one of its parts replaced
 
 abbrev pub withBlock : Cells → Block → Cells
-withBlock c block = record { block = block; locks = c .locks; saved = c .saved }
+withBlock c block = record { profile = c .profile; block = block; locks = c .locks; saved = c .saved }
 
 abbrev pub withLocks : Cells → Locks → Cells
-withLocks c locks = record { block = c .block; locks = locks; saved = c .saved }
+withLocks c locks = record { profile = c .profile; block = c .block; locks = locks; saved = c .saved }
 
 abbrev pub withSaved : Cells → Saved → Cells
-withSaved c saved = record { block = c .block; locks = c .locks; saved = saved }
+withSaved c saved = record { profile = c .profile; block = c .block; locks = c .locks; saved = saved }
 
 abbrev pub withSince : Flow → Since → Flow
 withSince f since = record { trace = f .trace; average = f .average; since = since; tick = f .tick }
@@ -61,9 +66,10 @@ withFlags s flags = record { model = s .model; results = s .results; reading = s
 
 -- ---- power-on
 
--- EEPROM bytes to the shadow; LOCK 0, BL1 stays; the saved cells themselves are untouched
+-- EEPROM bytes to the shadow; LOCK 0, BL1 stays; the profile and the saved cells themselves are untouched
 abbrev pub poweredCells : Cells → Cells
 poweredCells c = record {
+  profile = c .profile;
   block = record { shadow = c .block .eeprom; eeprom = c .block .eeprom };
   locks = record { lock = false; bl1 = c .locks .bl1 };
   saved = c .saved;
@@ -95,7 +101,13 @@ noneShown = record {
 }
 
 unfoldable pub poweredOf : Cells → Meter
-poweredOf c = record { cells = poweredCells c; charge = poweredCharge (c .saved); flow = noFlow; shown = noneShown }
+poweredOf c = record {
+  cells = poweredCells c;
+  charge = poweredCharge (c .saved);
+  cycles = poweredCycles (c .saved .cycles);
+  flow = noFlow;
+  shown = noneShown;
+}
 
 -- a power-on of the meter as it stands
 abbrev pub restartedOf : Meter → Meter

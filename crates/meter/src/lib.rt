@@ -1,6 +1,7 @@
 // The meter: conversion, reading and power-on of all that gauging keeps.
 use charge::Charge;
 use charge::Trace;
+use cycles::Cycles;
 use full::Average;
 use full::Since;
 use model::Model;
@@ -8,6 +9,7 @@ use params::Capacity;
 use params::Counting;
 use params::Curves;
 use params::Limits;
+use profile::Profile;
 use reading::Flags;
 use reading::Reading;
 use reading::Results;
@@ -33,8 +35,9 @@ pub struct Locks {
     pub bl1: bool,
 }
 
-// What writes, copy, recall, lock and the save change.
+// What writes, copy, recall, lock and the save change, and the profile, which nothing changes.
 pub struct Cells {
+    pub profile: Profile,
     pub saved: Saved,
     pub locks: Locks,
     pub block: Block,
@@ -59,6 +62,7 @@ pub struct Shown {
 pub struct Meter {
     pub cells: Cells,
     pub charge: Charge,
+    pub cycles: Cycles,
     pub flow: Flow,
     pub shown: Shown,
 }
@@ -108,7 +112,12 @@ impl Meter {
         let limits = Limits::of(&self.cells.block.shadow);
         let full = Capacity::of(&self.cells.block.shadow);
         let c = self.flow.converted(raw, p.cob);
-        self.charge = self.charge.counted(p, self.flow.trace.last, c);
+        let cells = self.cells;
+        let f = cells.profile;
+        let charge = self.charge.counted(f, p, self.flow.trace.last, c);
+        let fall = charge::fall(self.charge.count, charge.count);
+        self.charge = charge;
+        self.cycles = self.cycles.cycled(f, full.full40, fall);
         self.flowed(limits, full.full40, c)
     }
 
@@ -134,9 +143,10 @@ impl Meter {
     {
         let same = self.shown.results.rarc / 4 == r.rarc / 4;
         let save = numbers::and_not(self.shown.reading.known, same);
-        let saved = self.cells.saved.kept(save, g);
+        let saved = self.cells.saved.kept(save, g, self.cycles.count);
         self.cells.saved.acr = saved.acr;
         self.cells.saved.aging = saved.aging;
+        self.cells.saved.cycles = saved.cycles;
         self.charge = g;
         let since = self.flow.since.lowered(s.volt);
         self.flow.since.any = since.any;
@@ -171,15 +181,17 @@ impl Meter {
         self.shown(s, g, r)
     }
 
-    // The meter that cells power on to: of them it takes the EEPROM, BL1 and what is saved.
+    // The meter that cells power on to: of them it takes the profile, the EEPROM, BL1 and what is saved.
     pub fn powered(cells: Cells) -> Meter
         ensures { λ r. ⌜ r ≡ poweredOf cells ⌝ }
         ensures kept { λ r. ⌜ MeterWF r ⌝ }
     {
         let eeprom = cells.block.eeprom;
         let saved = cells.saved;
+        let f = cells.profile;
         Meter {
             cells: Cells {
+                profile: f,
                 block: Block {
                     shadow: eeprom,
                     eeprom: eeprom,
@@ -196,6 +208,10 @@ impl Meter {
                 aging: numbers::moved_into(63, 128, saved.aging as u64),
                 learnf: false,
                 mark: false,
+            },
+            cycles: Cycles {
+                count: saved.cycles,
+                rest: 0,
             },
             flow: Flow {
                 trace: Trace {

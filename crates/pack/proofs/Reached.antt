@@ -12,18 +12,22 @@ use Rattle.numbers.specs.Choice.{pick}
 use Rattle.parts.specs.Parts.{part}
 use Rattle.parts.proofs.Laws.{part-length}
 use Rattle.params.specs.Params.{breaksOf}
+use Rattle.profile.specs.declared.Profile.{Profile}
+use Rattle.profile.specs.Profile.{imageSizeOf}
+use Rattle.profile.proofs.Laws.{sixty}
 use Rattle.meter.specs.State.{poweredOf}
 use Rattle.gauge.specs.declared.Gauge.{Gauge}
-use Rattle.gauge.specs.Gauge.{Sized, powerOnOf}
+use Rattle.gauge.specs.Gauge.{Sized, Uncounted, powerOnOf}
 use Rattle.gauge.specs.Kept.{Kept}
-use Rattle.gauge.proofs.Kept.{address-kept, sized-kept}
+use Rattle.gauge.proofs.Kept.{address-kept, sized-kept, uncounted-kept}
 use Rattle.events.specs.declared.Refusal.{Refusal}
 use Rattle.events.specs.declared.Refusal.the-variants.{Breaks}
+use Rattle.events.specs.declared.Event.{Event}
 use Rattle.events.specs.declared.Event.the-variants.{Image}
 use Rattle.events.specs.declared.Taken.{Taken}
 use Rattle.events.specs.declared.Taken.the-variants.{Run, Refused}
-use Rattle.events.specs.Image.{imageSize, imageAddress}
-use Rattle.events.specs.Record.{addressedOf, orderedOf, judgedAmong, judgedOf}
+use Rattle.events.specs.Image.{imageAddress}
+use Rattle.events.specs.Record.{addressedOf, orderedOf, judgedAmong, judgedBy}
 use Rattle.pack.specs.Image.{imageOf, bytesOf}
 use Rattle.pack.specs.Reach.{Reached}
 use Rattle.pack.specs.Reach.Reached.{accepted, changed, acted-on}
@@ -32,25 +36,28 @@ use Rattle.pack.proofs.Image.{round-trip, image-judged}
 -- ---- an image that is accepted
 
 -- it has passed each test
-pass : (x : Bool) (t : Taken) (r : Refusal) → pick x t (Refused r) ≡ Run Image → (x ≡ true) × (t ≡ Run Image)
-pass true t r e = (refl, e)
-pass false t r e = (cc, cc)
+pass : (e : Event) (x : Bool) (t : Taken) (r : Refusal) → pick x t (Refused r) ≡ Run e → (x ≡ true) × (t ≡ Run e)
+pass e true t r h = (refl, h)
+pass e false t r h = (cc, cc)
 
-module _ (p : List ℕ) (e : judgedOf p ≡ Run Image) where
-  passed : (eqb (length p) imageSize ≡ true) × (addressedOf (imageAddress p) ≡ true)
+module _ (f : Profile) (p : List ℕ) (e : judgedBy f p ≡ Run (Image f)) where
+  passed : (eqb (length p) (imageSizeOf f) ≡ true) × (addressedOf f (imageAddress p) ≡ true)
   unfolding judgedAmong
-  passed = let size = pass (eqb (length p) imageSize) _ _ e in (size .0, pass (addressedOf (imageAddress p)) _ _ (size .1) .0)
+  passed =
+      let size = pass (Image f) (eqb (length p) (imageSizeOf f)) _ _ e in
+      (size .0, pass (Image f) (addressedOf f (imageAddress p)) _ _ (size .1) .0)
 
-  pub accepted-length : length p ≡ imageSize
-  accepted-length = eqb-true (length p) imageSize (passed .0)
+  pub accepted-length : length p ≡ imageSizeOf f
+  accepted-length = eqb-true (length p) (imageSizeOf f) (passed .0)
 
-  pub accepted-address : addressedOf (imageOf p .common .address) ≡ true
-  unfolding imageOf
+  pub accepted-address : addressedOf (imageOf f p .meter .cells .profile) (imageOf f p .common .address) ≡ true
+  unfolding imageOf poweredOf
   accepted-address = passed .1
 
-pub image-sized : (p : List ℕ) → length p ≡ 60 → Sized (imageOf p)
+pub image-sized : (f : Profile) (p : List ℕ) → length p ≡ imageSizeOf f → Sized (imageOf f p)
 unfolding imageOf poweredOf
-image-sized p e =
+image-sized f p e =
+    let long : 60 ≤ length p = omega (arith, sixty f) in
     let size : (n at : ℕ) → at + n ≤ 60 → length (part n p at) ≡ n = λ n at h. part-length n p at (omega arith) in
     record {
       address = size 8 0 (omega arith);
@@ -58,25 +65,35 @@ image-sized p e =
       block = record { shadow = size 32 24 (omega arith); eeprom = size 32 24 (omega arith) };
     }
 
+-- an image of kind 1 has no saved cycle counter
+pub image-uncounted : (f : Profile) (p : List ℕ) → Uncounted (imageOf f p)
+unfolding imageOf poweredOf
+image-uncounted f p e = (rw e refl, rw e refl)
+
 -- ---- every gauge that is reached
 
 -- what holds of every image accepted, and is kept, holds of them all
-pub reached-keeps : (P : Gauge → Type 0) → Kept P → ((p : List ℕ) → judgedOf p ≡ Run Image → P (imageOf p))
+pub reached-keeps : (P : Gauge → Type 0) → Kept P → ((f : Profile) (p : List ℕ) → judgedBy f p ≡ Run (Image f) → P (imageOf f p))
     → (g : Gauge) → Reached g → P g
-reached-keeps P k start g (accepted p e) = start p e
-reached-keeps P k start g (changed f c r) = k .change f c (reached-keeps P k start f r)
-reached-keeps P k start g (acted-on f t master r) = k .act f t master (reached-keeps P k start f r)
+reached-keeps P k start g (accepted f p e) = start f p e
+reached-keeps P k start g (changed h c r) = k .change h c (reached-keeps P k start h r)
+reached-keeps P k start g (acted-on h t master r) = k .act h t master (reached-keeps P k start h r)
 
 module _ (g : Gauge) (r : Reached g) where
   pub reached-sized : Sized g
-  reached-sized = reached-keeps Sized sized-kept (λ p e. image-sized p (accepted-length p e)) g r
+  reached-sized = reached-keeps Sized sized-kept (λ f p e. image-sized f p (accepted-length f p e)) g r
 
-  pub reached-address : addressedOf (g .common .address) ≡ true
-  reached-address = reached-keeps _ (address-kept (λ a. addressedOf a ≡ true)) accepted-address g r
+  pub reached-address : addressedOf (g .meter .cells .profile) (g .common .address) ≡ true
+  reached-address = reached-keeps _ (address-kept (λ f a. addressedOf f a ≡ true)) accepted-address g r
+
+  pub reached-uncounted : Uncounted g
+  reached-uncounted = reached-keeps Uncounted uncounted-kept (λ f p e. image-uncounted f p) g r
 
   -- the image that is taken out is refused with 10 or accepted, by the breakpoints in the EEPROM, and is a power-on
-  pub out-judged : judgedOf (bytesOf g) ≡ pick (orderedOf (breaksOf (g .meter .cells .block .eeprom))) (Run Image) (Refused Breaks)
+  pub out-judged :
+      let f = g .meter .cells .profile in
+      judgedBy f (bytesOf g) ≡ pick (orderedOf (breaksOf (g .meter .cells .block .eeprom))) (Run (Image f)) (Refused Breaks)
   out-judged = image-judged g reached-sized reached-address
 
-  pub out-in : imageOf (bytesOf g) ≡ powerOnOf g
-  out-in = round-trip g reached-sized
+  pub out-in : imageOf (g .meter .cells .profile) (bytesOf g) ≡ powerOnOf g
+  out-in = round-trip g reached-sized reached-uncounted

@@ -5,7 +5,10 @@ use mathlib.Core.List.{List, [], _∷_, _++_}
 use Prim.Native.Nat.{ℕ, _+_, _/_, _%_}
 use lib.Dec.{leb}
 use lib.ListN.{length, drop}
-use Rattle.events.specs.Image.{imageSize, imageAddress, imageLabel, imageBlock, imageAcr, imageAging, imageBl0, imageBl1}
+use Rattle.numbers.specs.Choice.{pick}
+use Rattle.profile.specs.declared.Profile.{Profile}
+use Rattle.profile.specs.Profile.{imageSizeOf, countsCycles}
+use Rattle.events.specs.Image.{imageAddress, imageLabel, imageBlock, imageAcr, imageAging, imageCycles, imageBl0, imageBl1}
 use Rattle.reading.specs.declared.Saved.{Saved}
 use Rattle.meter.specs.State.{poweredOf}
 use Rattle.map.specs.Registers.{flagOf}
@@ -13,15 +16,16 @@ use Rattle.gauge.specs.declared.Gauge.{Gauge}
 
 -- ---- in
 
--- accepting an image is a power-on
-unfoldable pub imageOf : List ℕ → Gauge
-imageOf p = record {
+-- accepting an image is a power-on, and the image "picks the profile for that pack"
+unfoldable pub imageOf : Profile → List ℕ → Gauge
+imageOf f p = record {
   common = record { address = imageAddress p; bl0 = imageBl0 p };
   label = record { shadow = imageLabel p; eeprom = imageLabel p };
   meter = poweredOf (record {
+    profile = f;
     block = record { shadow = imageBlock p; eeprom = imageBlock p };
     locks = record { lock = false; bl1 = imageBl1 p };
-    saved = record { acr = imageAcr p; aging = imageAging p };
+    saved = record { acr = imageAcr p; aging = imageAging p; cycles = imageCycles f p };
   });
 }
 
@@ -37,15 +41,27 @@ cellsOf saved lock = (saved .acr % 256) ∷ (saved .acr / 256) ∷ saved .aging 
 abbrev pub tailOf : Gauge → List ℕ
 tailOf g = cellsOf (g .meter .cells .saved) (lockByte (g .meter .cells .locks .bl1) (g .common .bl0))
 
--- address, both EEPROM blocks, saved cells, lock byte
-unfoldable pub bytesOf : Gauge → List ℕ
-bytesOf g = g .common .address ++ (g .label .eeprom ++ (g .meter .cells .block .eeprom ++ tailOf g))
+-- "The counter is an EEPROM-saved cell, one byte at the end": none where the profile has no counter
+abbrev pub cycleCell : Profile → ℕ → List ℕ
+cycleCell f count = pick (countsCycles f) (count ∷ []) []
 
--- the first bytes of the lent room, as many as an image has, the rest untouched; nothing is written in a room under 60 bytes
+-- what stands after the blocks
+abbrev pub endOf : Gauge → List ℕ
+endOf g = tailOf g ++ cycleCell (g .meter .cells .profile) (g .meter .cells .saved .cycles)
+
+-- address, both EEPROM blocks, saved cells, lock byte; and the saved cycle counter
+unfoldable pub bytesOf : Gauge → List ℕ
+bytesOf g = g .common .address ++ (g .label .eeprom ++ (g .meter .cells .block .eeprom ++ endOf g))
+
+-- how many they are
+abbrev pub sizeFor : Gauge → ℕ
+sizeFor g = imageSizeOf (g .meter .cells .profile)
+
+-- the first bytes of the lent room, as many as an image has, the rest untouched; nothing is written in a room under 60 bytes, or under 61
 abbrev pub roomAfter : Bool → Gauge → List ℕ → List ℕ
-roomAfter true g room = bytesOf g ++ drop imageSize room
+roomAfter true g room = bytesOf g ++ drop (sizeFor g) room
 roomAfter false g room = room
 
 pub record ImageOut (g : Gauge) (room : List ℕ) (done : Bool) (after : List ℕ) : Type 0 where
-  pub fits : done ≡ leb imageSize (length room)
-  pub written : after ≡ roomAfter (leb imageSize (length room)) g room
+  pub fits : done ≡ leb (sizeFor g) (length room)
+  pub written : after ≡ roomAfter (leb (sizeFor g) (length room)) g room

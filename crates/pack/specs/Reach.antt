@@ -2,6 +2,7 @@
 use mathlib.Core.Path.{_≡_}
 use mathlib.Core.List.{List}
 use Prim.Native.Nat.{ℕ}
+use Rattle.profile.specs.declared.Profile.{Profile}
 use Rattle.bus.specs.declared.Transaction.{Transaction}
 use Rattle.gauge.specs.declared.Gauge.{Gauge}
 use Rattle.gauge.specs.Change.{changedOf}
@@ -9,10 +10,10 @@ use Rattle.gauge.specs.Act.{actOf}
 use Rattle.events.specs.declared.Change.{Change}
 use Rattle.events.specs.declared.Event.the-variants.{Image}
 use Rattle.events.specs.declared.Taken.the-variants.{Run}
-use Rattle.events.specs.Record.{judgedOf}
+use Rattle.events.specs.Record.{judgedBy}
 use Rattle.pack.specs.Image.{imageOf}
 
 pub data Reached : Gauge → Type 0 where
-  accepted : (p : List ℕ) → judgedOf p ≡ Run Image → Reached (imageOf p)
+  accepted : (f : Profile) (p : List ℕ) → judgedBy f p ≡ Run (Image f) → Reached (imageOf f p)
   changed : (g : Gauge) (c : Change) → Reached g → Reached (changedOf g c)
   acted-on : (g : Gauge) (t : Transaction) (master : List ℕ) → Reached g → Reached (actOf g t master)

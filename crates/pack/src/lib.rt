@@ -3,7 +3,7 @@ use events::ACR_AT;
 use events::ADDRESS_AT;
 use events::AGING_AT;
 use events::BLOCK_AT;
-use events::IMAGE_SIZE;
+use events::CYCLES_AT;
 use events::LABEL_AT;
 use events::LOCKS_AT;
 use gauge::Gauge;
@@ -13,27 +13,50 @@ use meter::Block;
 use meter::Cells;
 use meter::Locks;
 use meter::Meter;
+use profile::Profile;
 use reading::Saved;
 ghost use mathlib.Core.Path.{_≡_};
 ghost use lib.ListN.{length};
-ghost use Rattle.events.specs.Image.{imageSize};
+ghost use Prim.Native.Nat.{_≤_};
+ghost use Rattle.parts.specs.Parts.{put};
+ghost use Rattle.profile.specs.Profile.{imageSizeOf};
+ghost use Rattle.events.specs.Image.{cyclesAt, imageCycles};
 ghost use Rattle.gauge.specs.Gauge.{GaugeWF};
-ghost use Rattle.pack.specs.Image.{imageOf, lockByte, cellsOf, tailOf, ImageOut};
+ghost use Rattle.pack.specs.Image.{imageOf, lockByte, cellsOf, tailOf, cycleCell, ImageOut};
 
 // ---- in
 
-// The gauge that the bytes of an image power on to.
-pub fn image_in(p: &[u8]) -> Gauge
-    requires { ⌜ length (now p) ≡ imageSize ⌝ }
-    ensures { λ r. ⌜ r ≡ imageOf (now (p .entry)) ⌝ }
+// The saved cycle counter, 0 where the profile has none.
+fn cycles_in(f: Profile, p: &[u8]) -> u8
+    requires { ⌜ length (now p) ≡ imageSizeOf f ⌝ }
+    ensures { λ r. ⌜ r ≡ imageCycles f (now (p .entry)) ⌝ }
+{
+    match f {
+        Profile::Ds2781 => 0,
+        Profile::Ds2775 => p[CYCLES_AT],
+    }
+}
+
+// An image of either profile has the bytes that both have.
+fn whole(f: Profile, p: &[u8])
+    requires { ⌜ length (now p) ≡ imageSizeOf f ⌝ }
+    ensures { λ _. ⌜ 60 ≤ length (now (p .entry)) ⌝ }
+{}
+
+// The gauge that the bytes of an image of a profile power on to.
+pub fn image_in(f: Profile, p: &[u8]) -> Gauge
+    requires { ⌜ length (now p) ≡ imageSizeOf f ⌝ }
+    ensures { λ r. ⌜ r ≡ imageOf f (now (p .entry)) ⌝ }
     ensures kept { λ r. ⌜ GaugeWF r ⌝ }
 {
+    whole(f, p);
     let address = parts::eight(p, ADDRESS_AT);
     let label = parts::sixteen(p, LABEL_AT);
     let eeprom = parts::thirty_two(p, BLOCK_AT);
     let saved = Saved {
         acr: parts::pair(p, ACR_AT),
         aging: p[AGING_AT],
+        cycles: cycles_in(f, p),
     };
     let locks = Locks {
         lock: false,
@@ -44,6 +67,7 @@ pub fn image_in(p: &[u8]) -> Gauge
         eeprom: eeprom,
     };
     let cells = Cells {
+        profile: f,
         block: block,
         locks: locks,
         saved: saved,
@@ -96,19 +120,36 @@ fn tail(g: Gauge) -> [u8; 4]
     )
 }
 
+// The saved cycle counter, where the profile has one.
+fn cycles_out(f: Profile, count: u8, room: &mut [u8])
+    requires { ⌜ imageSizeOf f ≤ length (now room) ⌝ }
+    ensures { λ _. ⌜ now (room .exit) ≡ put (now (room .entry)) cyclesAt (cycleCell f count) ⌝ }
+{
+    match f {
+        Profile::Ds2781 => {}
+        Profile::Ds2775 => {
+            room[CYCLES_AT] = count;
+        }
+    }
+}
+
 // The image goes to the first bytes of the room; false, and nothing is written, where they do not fit.
 pub fn image_out(g: Gauge, room: &mut [u8]) -> bool
     ensures { λ r. ⌜ ImageOut g (now (room .entry)) r (now (room .exit)) ⌝ }
 {
-    if room.len() < IMAGE_SIZE {
+    let meter = g.meter;
+    let kept = meter.cells;
+    let f = kept.profile;
+    if room.len() < profile::size(f) {
         return false;
     }
     let address = g.common.address;
     let label = g.label.eeprom;
-    let block = g.meter.cells.block.eeprom;
+    let block = kept.block.eeprom;
     parts::store8(address, room, ADDRESS_AT);
     parts::store16(label, room, LABEL_AT);
     parts::store32(block, room, BLOCK_AT);
     parts::store4(tail(g), room, ACR_AT);
+    cycles_out(f, kept.saved.cycles, room);
     true
 }

@@ -10,6 +10,7 @@ use Rattle.streams.specs.declared.Said.{Said}
 use Rattle.streams.specs.declared.Stream.the-variants.{Output}
 use Rattle.streams.specs.Streams.{Front, Within, Saying, error, refusedText}
 use Rattle.streams.proofs.Laws.{cut, seen}
+use Rattle.profile.specs.declared.Profile.the-variants.{Ds2781}
 use Rattle.events.specs.declared.Refusal.the-variants.{Size}
 use Rattle.events.specs.declared.Taken.{Taken}
 use Rattle.events.specs.declared.Taken.the-variants as taken
@@ -39,7 +40,7 @@ module _ {image wanted room after : List ℕ} {answer : Written} (w : Programmin
   unfolding presetSpeech
   session-said is kept =
       let g = granted image wanted programmingSize (answered ∙ is) in
-      let long : length (programmingOf image wanted) ≡ programmingSize = programming-length image wanted (judged-sized image (g .accepted)) (g .all) in
+      let long : length (programmingOf image wanted) ≡ programmingSize = programming-length image wanted (judged-sized Ds2781 image (g .accepted)) (g .all) in
       let front = put-front room (programmingOf image wanted) (omega arith) ∙ ap (λ (n : ℕ). programmingOf image wanted ++ drop n room) long in
       rw (answered ∙ is)
       (record {

@@ -10,6 +10,7 @@ use lib.ListN.{length, take, drop, length-append}
 use Rattle.numbers.specs.Choice.{pick}
 use Rattle.parts.specs.Parts.{put}
 use Rattle.parts.proofs.Laws.{put-next, put-front, put-whole}
+use Rattle.profile.specs.declared.Profile.the-variants.{Ds2781}
 use Rattle.events.specs.declared.Taken.{Taken}
 use Rattle.events.specs.declared.Taken.the-variants as taken
 use Rattle.events.specs.Image.{imageSize, imageBl1}
@@ -34,7 +35,7 @@ module _ (image wanted : List ℕ) (room : ℕ) where
   granted-by (taken.Run e) judged done =
       let held = tests (eqb (length wanted) 32) (imageBl1 image) (ltb room programmingSize) done in
       record {
-        accepted = judged-image image judged;
+        accepted = judged-image Ds2781 image judged;
         all = eqb-true (length wanted) 32 (held .0);
         unlocked = held .1;
         fits = ltb-false room programmingSize (held .2);

@@ -6,6 +6,7 @@ use Prim.Native.Nat.{ℕ, _≤_}
 use lib.Dec.{eqb, ltb}
 use lib.ListN.{length, drop}
 use Rattle.numbers.specs.Choice.{pick}
+use Rattle.profile.specs.declared.Profile.the-variants.{Ds2781}
 use Rattle.events.specs.declared.Event.the-variants as event
 use Rattle.events.specs.declared.Taken.{Taken}
 use Rattle.events.specs.declared.Taken.the-variants as taken
@@ -67,7 +68,7 @@ answerOf image wanted room = answerBy (judgedOf image) image wanted room
 
 -- a session is written where none of these applies
 pub record Granted (image wanted : List ℕ) (room : ℕ) : Type 0 where
-  pub accepted : judgedOf image ≡ taken.Run event.Image
+  pub accepted : judgedOf image ≡ taken.Run (event.Image Ds2781)
   pub all : length wanted ≡ 32
   pub unlocked : imageBl1 image ≡ false
   pub fits : programmingSize ≤ room

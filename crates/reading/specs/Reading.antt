@@ -102,11 +102,12 @@ flaggedOf f holds r = record {
 abbrev pub savesOf : Bool → ℕ → ℕ → Bool
 savesOf known before rarc = butNot known (eqb (before / 4) (rarc / 4))
 
--- ACR and AS go to the saved cells
-unfoldable pub keptOf : Saved → Bool → Charge → Saved
-keptOf s save g = record {
+-- ACR and AS go to the saved cells, and the cycle counter "together with ACR and AS"
+unfoldable pub keptOf : Saved → Bool → Charge → ℕ → Saved
+keptOf s save g cycles = record {
   acr = pick save (acrOf (g .count)) (s .acr);
   aging = pick save (g .aging) (s .aging);
+  cycles = pick save cycles (s .cycles);
 }
 
 -- ---- what a reading sees

@@ -31,10 +31,11 @@ pub struct Flags {
     pub sef: bool,
 }
 
-// The saved cells: ACR and AS.
+// The saved cells: ACR, AS and the cycle counter.
 pub struct Saved {
     pub acr: u16,
     pub aging: u8,
+    pub cycles: u8,
 }
 
 // What a reading sees: steps 1 and 2, and whether VOLT ≥ 4 × VAE.
@@ -186,14 +187,15 @@ impl Flags {
 
 impl Saved {
     // Step 6.
-    pub fn kept(self, save: bool, g: Charge) -> Saved
+    pub fn kept(self, save: bool, g: Charge, cycles: u8) -> Saved
         requires { ⌜ ChargeWF g ⌝ }
-        ensures { λ r. ⌜ r ≡ keptOf self save g ⌝ }
+        ensures { λ r. ⌜ r ≡ keptOf self save g cycles ⌝ }
     {
         let acr = (g.count / 4096) as u16;
         Saved {
             acr: numbers::choose16(save, acr, self.acr),
             aging: numbers::choose8(save, g.aging, self.aging),
+            cycles: numbers::choose8(save, cycles, self.cycles),
         }
     }
 }

@@ -12,6 +12,7 @@ use Rattle.records.specs.Run.{emptyOf, resultOf}
 use Rattle.records.proofs.empty
 use Rattle.records.proofs.run
 use Rattle.records.proofs.take_out
+use Rattle.records.proofs.image_size
 
 pub empty-once : Once empty.ended empty.Reads.Pre empty.Reads.Learnt
 empty-once κs a r r′ w w′ p h h′ = (h .0 ∙ sym (h′ .0), refl)
@@ -29,3 +30,6 @@ run-once κs a r r′ w w′ p h h′ =
 
 pub take-out-once : Once «take_out».ended «take_out».Reads.Pre «take_out».Reads.Learnt
 take-out-once κs a r r′ w w′ p h h′ = (h .number ∙ sym (h′ .number), λ i. (tt, ((h .written ∙ sym (h′ .written)) i, tt)))
+
+pub image-size-once : Once «image_size».ended «image_size».Reads.Pre «image_size».Reads.Learnt
+image-size-once κs a r r′ w w′ p h h′ = (h ∙ sym h′, refl)

@@ -6,7 +6,8 @@ use Prim.Native.Nat.{ℕ}
 use lib.Dec.{leb}
 use lib.ListN.{length, replicate}
 use Rattle.numbers.specs.Choice.{pick}
-use Rattle.pack.specs.Image.{imageOf, roomAfter}
+use Rattle.profile.specs.declared.Profile.the-variants.{Ds2781}
+use Rattle.pack.specs.Image.{imageOf, sizeFor, roomAfter}
 use Rattle.events.specs.declared.Refusal.the-variants.{Order, Room}
 use Rattle.events.specs.Image.{imageSize}
 use Rattle.events.specs.Record.{refusalNumber}
@@ -19,7 +20,7 @@ use Rattle.records.specs.declared.Ran.{Ran}
 
 -- before the first record: no image was accepted, and the gauge is what all-zero cells power on to
 abbrev pub emptyOf : Session
-emptyOf = record { loaded = false; gauge = imageOf (replicate imageSize 0) }
+emptyOf = record { loaded = false; gauge = imageOf Ds2781 (replicate imageSize 0) }
 
 -- the lines of a whole session, with so much reply room
 unfoldable pub sessionOf : List ℕ → ℕ → List Line
@@ -33,15 +34,15 @@ resultOf r = record { outcome = r .outcome; state = r .session; lines = r .lines
 abbrev pub idleOf : Outcome → Ran
 idleOf o = record { outcome = o; session = emptyOf; lines = 0; replied = 0 }
 
--- ---- the image taken out: 5 before an image was accepted, then 9 for a room under 60
+-- ---- the image taken out: 5 before an image was accepted, then 9 for a room under 60, or under 61
 
 abbrev pub takeOutNumber : Session → List ℕ → ℕ
 takeOutNumber σ room =
-    pick (σ .loaded) (pick (leb imageSize (length room)) 0 (refusalNumber Room)) (refusalNumber Order)
+    pick (σ .loaded) (pick (leb (sizeFor (σ .gauge)) (length room)) 0 (refusalNumber Room)) (refusalNumber Order)
 
 -- nothing is written on a refusal
 abbrev pub takeOutRoom : Session → List ℕ → List ℕ
-takeOutRoom σ room = pick (σ .loaded) (roomAfter (leb imageSize (length room)) (σ .gauge) room) room
+takeOutRoom σ room = pick (σ .loaded) (roomAfter (leb (sizeFor (σ .gauge)) (length room)) (σ .gauge) room) room
 
 pub record TakenOut (σ : Session) (room : List ℕ) (answer : ℕ) (after : List ℕ) : Type 0 where
   pub number : answer ≡ takeOutNumber σ room

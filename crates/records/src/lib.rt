@@ -4,6 +4,7 @@ use events::Event;
 use events::IMAGE_SIZE;
 use events::Refusal;
 use events::Taken;
+use profile::Profile;
 use runs::Outcome;
 use steps::Asked;
 use steps::Session;
@@ -11,6 +12,7 @@ ghost use mathlib.Core.Path.{_≡_};
 ghost use Prim.Native.Nat.{_+_, _/_, _≤_};
 ghost use lib.ListN.{length};
 ghost use Rattle.runs.specs.Run.{Running, Runs};
+ghost use Rattle.pack.specs.Image.{sizeFor};
 ghost use Rattle.steps.specs.Step.{SessionWF, didOf};
 ghost use Rattle.records.specs.Run.{emptyOf, resultOf, idleOf, TakenOut};
 
@@ -28,7 +30,7 @@ pub fn empty() -> Session
     ensures kept { λ r. ⌜ SessionWF r ⌝ }
 {
     let zeros = [0u8; IMAGE_SIZE];
-    let g = pack::image_in(&zeros);
+    let g = pack::image_in(Profile::Ds2781, &zeros);
     Session {
         loaded: false,
         gauge: g,
@@ -58,8 +60,8 @@ fn run_all(s: &[u8], room: &mut [u8], answers: &mut [u64]) -> Ran
             Asked::Run(e) => {
                 loaded = true;
                 match e {
-                    Event::Image => {
-                        gauge = pack::image_in(&l[4..end]);
+                    Event::Image(f) => {
+                        gauge = pack::image_in(f, &l[4..end]);
                     }
                     Event::Change(c) => match c {
                         Change::Reading(volt, temp) => {
@@ -124,7 +126,18 @@ pub fn run(s: &[u8], room: &mut [u8], answers: &mut [u64]) -> Ran
     }
 }
 
-// The image taken out of a session's state: its answer number, and the first 60 bytes of the room.
+// How many bytes the image of a session's pack has.
+pub fn image_size(s: Session) -> usize
+    ensures { λ r. ⌜ r ≡ sizeFor (s .gauge) ⌝ }
+{
+    let gauge = s.gauge;
+    let meter = gauge.meter;
+    let cells = meter.cells;
+    let f = cells.profile;
+    profile::size(f)
+}
+
+// The image taken out of a session's state: its answer number, and the first bytes of the room.
 pub fn take_out(s: Session, room: &mut [u8]) -> u8
     ensures { λ r. ⌜ TakenOut s (now (room .entry)) r (now (room .exit)) ⌝ }
 {

@@ -10,6 +10,7 @@ use borrow.Author.Tests.{lt-ltb, le-ltb, eq-eqb, ne-eqb, eqb-true}
 use Rattle.numbers.specs.Offset.{zeroAt}
 use Rattle.numbers.specs.Choice.{both, either, butNot}
 use Rattle.params.specs.declared.Counting.{Counting}
+use Rattle.profile.specs.declared.Profile.{Profile}
 use Rattle.charge.specs.declared.Charge.{Charge}
 use Rattle.charge.specs.Charge.{ChargeWF, acrOf, fallOf, grownOf, addedOf, agedOf, turnedOf, negative, countedOf, blankedOf}
 use Rattle.charge.proofs.Laws.{counted-wf}
@@ -165,9 +166,9 @@ learnf-more learnf false false after h = refl
 
 -- ---- the charge
 
-module _ (p : Counting) (g : Charge) (last c : ℕ) (w : ChargeWF g) where
+module _ (f : Profile) (p : Counting) (g : Charge) (last c : ℕ) (w : ChargeWF g) where
   abbrev counted : ℕ
-  counted = blankedOf (p .nben) c
+  counted = blankedOf f (p .nben) c
 
   -- what a conversion makes of a charge h, with y for the new count
   abbrev next : Charge → ℕ → ℕ → Charge
@@ -179,18 +180,18 @@ module _ (p : Counting) (g : Charge) (last c : ℕ) (w : ChargeWF g) where
     mark = false;
   }
 
-  pub charge-one : countedOf p g last c ≡ chargeOver p g last c 1
+  pub charge-one : countedOf f p g last c ≡ chargeOver f p g last c 1
   unfolding countedOf chargeOver
   charge-one =
       let x = added-one (g .mark) (g .count) counted (p .ab) (w .count) in
       let few = subst (λ (y : ℕ). fallOf (g .count) y ≤ 9) x (added-few (g .mark) (g .count) counted (p .ab) (w .count)) in
-      let a = aged-one (p .ac) (g .age) (fallOf (g .count) (countOver p g c 1)) (g .aging) few (w .low) in
+      let a = aged-one (p .ac) (g .age) (fallOf (g .count) (countOver f p g c 1)) (g .aging) few (w .low) in
       ap (next g last) x ∙
       (λ i. record {
-        count = countOver p g c 1;
+        count = countOver f p g c 1;
         age = a .0 i;
         aging = a .1 i;
-        learnf = butNot (butNot (g .learnf) (turnedOf last c)) (either-same (eqb (acrOf (countOver p g c 1)) 0) i);
+        learnf = butNot (butNot (g .learnf) (turnedOf last c)) (either-same (eqb (acrOf (countOver f p g c 1)) 0) i);
         mark = false;
       })
 
@@ -200,10 +201,10 @@ module _ (p : Counting) (g : Charge) (last c : ℕ) (w : ChargeWF g) where
     k = suc j
 
     abbrev x1 : ℕ
-    x1 = countOver p g c k
+    x1 = countOver f p g c k
 
     abbrev x2 : ℕ
-    x2 = countOver p g c (suc k)
+    x2 = countOver f p g c (suc k)
 
     -- an ACR of 0 stays, or was there after the first
     empties : (first x y : ℕ) → ((first ≤ x) × (x ≤ y)) ⊎ ((x ≤ first) × (y ≤ x)) → eqb (acrOf x) 0 ≡ true
@@ -229,49 +230,59 @@ module _ (p : Counting) (g : Charge) (last c : ℕ) (w : ChargeWF g) where
     after : grownOver (g .count) counted (p .ab) (suc n) ≡ x2
     after = ap (grownOver (g .count) counted (p .ab)) (sym (adds-more (g .mark) j))
 
-    from-first : ((countOver p g c 1 ≤ x1) × (x1 ≤ x2)) ⊎ ((x1 ≤ countOver p g c 1) × (x2 ≤ x1))
+    from-first : ((countOver f p g c 1 ≤ x1) × (x1 ≤ x2)) ⊎ ((x1 ≤ countOver f p g c 1) × (x2 ≤ x1))
     from-first =
         let add = grownOver (g .count) counted (p .ab) in
         rw (← after)
         (subst (λ (i : ℕ). ((add first ≤ add i) × (add i ≤ add (suc i))) ⊎ ((add i ≤ add first) × (add (suc i) ≤ add i)))
         (sym (adds-on (g .mark) j)) (from-one (g .count) counted (p .ab) first j (w .count)))
 
-    fallen-more : fallenOver p g c k + fallOf x1 x2 ≡ fallenOver p g c (suc k)
-    fallen-more = joined (g .age) _ _ _ (rw (← after) (fall-more (g .count) counted (p .ab) n (w .count)))
+    falls-join : fallOf (g .count) x1 + fallOf x1 x2 ≡ fallOf (g .count) x2
+    falls-join = rw (← after) (fall-more (g .count) counted (p .ab) n (w .count))
+
+    fallen-more : fallenOver f p g c k + fallOf x1 x2 ≡ fallenOver f p g c (suc k)
+    fallen-more = joined (g .age) _ _ _ falls-join
       where
         joined : (a b c d : ℕ) → b + c ≡ d → a + b + c ≡ a + d
         joined a b c d e = omega arith
 
     aged-both :
-        let x = agedOf (p .ac) (chargeOver p g last c k .age + fallOf x1 x2) (chargeOver p g last c k .aging) in
-        (x .age ≡ chargeOver p g last c (suc k) .age) × (x .aging ≡ chargeOver p g last c (suc k) .aging)
+        let x = agedOf (p .ac) (chargeOver f p g last c k .age + fallOf x1 x2) (chargeOver f p g last c k .aging) in
+        (x .age ≡ chargeOver f p g last c (suc k) .age) × (x .aging ≡ chargeOver f p g last c (suc k) .aging)
     unfolding chargeOver
     aged-both =
         let few : fallOf x1 x2 ≤ 9 = rw (← after) (fall-few (g .count) counted (p .ab) n (w .count)) in
-        let a = aged-more (p .ac) (fallenOver p g c k) (fallOf x1 x2) k (g .aging) few in (
+        let a = aged-more (p .ac) (fallenOver f p g c k) (fallOf x1 x2) k (g .aging) few in (
           a .0 ∙ ap (λ (t : ℕ). ageAfter (p .ac) t (suc k)) fallen-more,
           a .1 ∙ ap (λ (t : ℕ). agingAfter (p .ac) t (suc k) (g .aging)) fallen-more,
         )
 
     learnf-both :
-        butNot (butNot (chargeOver p g last c k .learnf) (turnedOf c c)) (eqb (acrOf x2) 0) ≡ chargeOver p g last c (suc k) .learnf
+        butNot (butNot (chargeOver f p g last c k .learnf) (turnedOf c c)) (eqb (acrOf x2) 0) ≡ chargeOver f p g last c (suc k) .learnf
     unfolding chargeOver
     learnf-both =
         let l = butNot (g .learnf) (turnedOf last c) in
-        ap (λ (t : Bool). butNot (butNot (butNot l (emptyOver p g c k)) t) (eqb (acrOf x2) 0)) (turned-same c) ∙
-        learnf-more l (eqb (acrOf (countOver p g c 1)) 0) (eqb (acrOf x1) 0) (eqb (acrOf x2) 0)
-        (empties (countOver p g c 1) x1 x2 from-first)
+        ap (λ (t : Bool). butNot (butNot (butNot l (emptyOver f p g c k)) t) (eqb (acrOf x2) 0)) (turned-same c) ∙
+        learnf-more l (eqb (acrOf (countOver f p g c 1)) 0) (eqb (acrOf x1) 0) (eqb (acrOf x2) 0)
+        (empties (countOver f p g c 1) x1 x2 from-first)
 
-    pub charge-more : countedOf p (chargeOver p g last c k) c c ≡ chargeOver p g last c (suc k)
+    pub charge-more : countedOf f p (chargeOver f p g last c k) c c ≡ chargeOver f p g last c (suc k)
     unfolding countedOf chargeOver
     charge-more =
-        ap (next (chargeOver p g last c k) c) (grown-more (g .count) counted (p .ab) n (w .count) ∙ after) ∙
+        ap (next (chargeOver f p g last c k) c) (grown-more (g .count) counted (p .ab) n (w .count) ∙ after) ∙
         (λ i. record { count = x2; age = aged-both .0 i; aging = aged-both .1 i; learnf = learnf-both i; mark = false })
+
+    -- what ACR falls adds up
+    pub charge-falls :
+        fallOf (g .count) (chargeOver f p g last c k .count) + fallOf (chargeOver f p g last c k .count) (chargeOver f p g last c (suc k) .count) ≡
+        fallOf (g .count) (chargeOver f p g last c (suc k) .count)
+    unfolding chargeOver
+    charge-falls = falls-join
 
   -- ---- what is kept
 
-  pub charge-wf : p .ac ≤ 65535 → (k : ℕ) → 1 ≤ k → ChargeWF (chargeOver p g last c k)
+  pub charge-wf : p .ac ≤ 65535 → (k : ℕ) → 1 ≤ k → ChargeWF (chargeOver f p g last c k)
   charge-wf h zero some = absurd (omega arith)
-  charge-wf h (suc zero) some = rw (← charge-one) (counted-wf p g last c h w)
+  charge-wf h (suc zero) some = rw (← charge-one) (counted-wf f p g last c h w)
   charge-wf h (suc (suc j)) some =
-      rw (← charge-more j) (counted-wf p (chargeOver p g last c (suc j)) c c h (charge-wf h (suc j) (omega arith)))
+      rw (← charge-more j) (counted-wf f p (chargeOver f p g last c (suc j)) c c h (charge-wf h (suc j) (omega arith)))

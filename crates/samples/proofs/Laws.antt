@@ -13,17 +13,20 @@ use Rattle.params.specs.declared.Counting.{Counting}
 use Rattle.params.specs.declared.Limits.{Limits}
 use Rattle.params.specs.Params.{countingOf, limitsOf, capacityOf}
 use Rattle.charge.specs.declared.Charge.{Charge}
-use Rattle.charge.specs.Charge.{currentOf, tracedOf, countedOf}
+use Rattle.charge.specs.Charge.{currentOf, tracedOf, fallOf, countedOf}
+use Rattle.cycles.specs.declared.Cycles.{Cycles}
+use Rattle.cycles.specs.Cycles.{cycledOf}
+use Rattle.cycles.proofs.Laws.{cycled-more}
 use Rattle.full.specs.declared.Average.{Average}
 use Rattle.full.specs.Full.{AverageWF, offsetTurn, eighth, averagedOf, renewedOf, foundOf, settledOf}
 use Rattle.full.proofs.Laws.{settled-wf}
 use Rattle.meter.specs.declared.Flow.{Flow}
 use Rattle.meter.specs.declared.Meter.{Meter}
-use Rattle.meter.specs.State.{MeterWF, withCharge, withFlags}
-use Rattle.meter.specs.Convert.{convertedOf, filledFlags, flowedOf, convertOf}
+use Rattle.meter.specs.State.{MeterWF, withFlags}
+use Rattle.meter.specs.Convert.{convertedOf, filledFlags, flowedOf, chargedOf, convertOf}
 use Rattle.samples.specs.Samples.{sampledOf, tickedOf}
 use Rattle.samples.specs.Stretch.{chargeOver, traceOver, endsOver, averageOver, foundOver, flowOver, flowedOver, stretchedOf, Quiet, reachOf}
-use Rattle.samples.proofs.Charge.{charge-one, charge-more}
+use Rattle.samples.proofs.Charge.{charge-one, charge-more, charge-falls}
 use Rattle.samples.proofs.Run.{trace-one, trace-more, goes, average-none, renewed-none, found-more, found-not, average-wf}
 
 -- ---- step 6
@@ -85,11 +88,12 @@ either-not found t e = simp e
 
 -- ---- the meter
 
--- what step 6 leaves, with another charge, flow and whether full is found
-abbrev left : Meter → ℕ → Charge → Flow → Bool → Meter
-left m full40 g f found = record {
+-- what step 6 leaves, with another charge, cycle counter, flow and whether full is found
+abbrev left : Meter → ℕ → Charge → Cycles → Flow → Bool → Meter
+left m full40 g y f found = record {
   cells = m .cells;
   charge = settledOf g found (m .shown .model .full) full40;
+  cycles = y;
   flow = f;
   shown = withFlags (m .shown) (filledFlags (m .shown .flags) found);
 }
@@ -110,26 +114,35 @@ module _ (m : Meter) (raw : ℕ) (w : MeterWF m) where
   abbrev last : ℕ
   last = m .flow .trace .last
 
+  -- the charge after k conversions, and the cycle counter of such a charge
+  abbrev chargeAfter : ℕ → Charge
+  chargeAfter k = chargeOver (m .cells .profile) p (m .charge) last c k
+
+  abbrev cyclesAt : Charge → Cycles
+  cyclesAt g = cycledOf (m .cells .profile) full40 (m .cycles) (fallOf (m .charge .count) (g .count))
+
   stretched-one : convertOf m raw ≡ stretchedOf m raw 1
   unfolding convertOf flowedOf stretchedOf flowedOver
   stretched-one =
-      λ i. left m full40 (charge-one p (m .charge) last c (w .charge) i) (flow-one (m .flow) limits c (w .average) i)
+      let e = charge-one (m .cells .profile) p (m .charge) last c (w .charge) in
+      λ i. left m full40 (e i) (cyclesAt (e i)) (flow-one (m .flow) limits c (w .average) i)
       (found-one (m .flow) limits c (w .average) i)
 
   -- a stretch that finds nothing
   abbrev plainly : ℕ → Meter
-  plainly k = record { cells = m .cells; charge = chargeOver p (m .charge) last c k; flow = flowOver (m .flow) c k; shown = m .shown }
+  plainly k = record { cells = m .cells; charge = chargeAfter k; cycles = cyclesAt (chargeAfter k); flow = flowOver (m .flow) c k; shown = m .shown }
 
   module _ (j : ℕ) (q : Quiet (m .flow) (suc (suc j))) where
     stretched-plain : stretchedOf m raw (suc j) ≡ plainly (suc j)
     unfolding stretchedOf flowedOver
     stretched-plain =
         let none = found-not (m .flow) limits c (suc j) q in
-        let charge = settled-not (chargeOver p (m .charge) last c (suc j)) _ (m .shown .model .full) full40 none in
+        let charge = settled-not (chargeAfter (suc j)) _ (m .shown .model .full) full40 none in
         let chgtf = either-not _ (m .shown .flags .chgtf) none in
         (λ i. record {
           cells = m .cells;
           charge = charge i;
+          cycles = cyclesAt (chargeAfter (suc j));
           flow = flowOver (m .flow) c (suc j);
           shown = withFlags (m .shown) (record { porf = m .shown .flags .porf; chgtf = chgtf i; aef = m .shown .flags .aef; sef = m .shown .flags .sef });
         })
@@ -144,15 +157,26 @@ module _ (m : Meter) (raw : ℕ) (w : MeterWF m) where
     -- what a conversion with some c makes of the stretch
     abbrev after : ℕ → Meter
     after z =
-        flowedOf (withCharge (plainly (suc j)) (countedOf p (chargeOver p (m .charge) last c (suc j)) (flowOver (m .flow) c (suc j) .trace .last) z))
-        limits full40 z
+        let counted = countedOf (m .cells .profile) p (chargeAfter (suc j)) (flowOver (m .flow) c (suc j) .trace .last) z in
+        flowedOf (chargedOf (plainly (suc j)) full40 counted) limits full40 z
+
+    abbrev cyclesOn : Charge → Cycles
+    cyclesOn g = cycledOf (m .cells .profile) full40 (cyclesAt (chargeAfter (suc j))) (fallOf (chargeAfter (suc j) .count) (g .count))
+
+    -- a conversion more, of the cycle counter: what ACR falls adds up
+    cycles-more : cyclesOn (chargeAfter (suc (suc j))) ≡ cyclesAt (chargeAfter (suc (suc j)))
+    cycles-more =
+        cycled-more (m .cells .profile) full40 (m .cycles) _ _ ∙
+        ap (cycledOf (m .cells .profile) full40 (m .cycles)) (charge-falls (m .cells .profile) p (m .charge) last c (w .charge) j)
 
     plain-more : convertOf (plainly (suc j)) raw ≡ stretchedOf m raw (suc (suc j))
     unfolding convertOf flowedOf stretchedOf flowedOver flowOver traceOver
     plain-more =
         ap after (next-same (offsetTurn (averageOver (m .flow .average) c (suc j)))) ∙
-        (λ i. left m full40 (charge-more p (m .charge) last c (w .charge) j i) (flow-more (m .flow) limits c j i)
-        (found-more (m .flow) limits c (suc j) q i))
+        (let e = charge-more (m .cells .profile) p (m .charge) last c (w .charge) j in
+        λ i. left m full40 (e i) (cyclesOn (e i)) (flow-more (m .flow) limits c j i)
+        (found-more (m .flow) limits c (suc j) q i)) ∙
+        (λ i. left m full40 (chargeAfter (suc (suc j))) (cycles-more i) (flowOver (m .flow) c (suc (suc j))) (foundOver (m .flow) limits c (suc (suc j))))
 
     stretched-more : convertOf (stretchedOf m raw (suc j)) raw ≡ stretchedOf m raw (suc (suc j))
     stretched-more = ap (λ (x : Meter). convertOf x raw) stretched-plain ∙ plain-more

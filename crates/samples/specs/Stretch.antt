@@ -9,6 +9,7 @@ use Rattle.numbers.specs.Choice.{pick, both, either, butNot}
 use Rattle.params.specs.declared.Counting.{Counting}
 use Rattle.params.specs.declared.Limits.{Limits}
 use Rattle.params.specs.Params.{countingOf, limitsOf, capacityOf}
+use Rattle.profile.specs.declared.Profile.{Profile}
 use Rattle.charge.specs.declared.Charge.{Charge}
 use Rattle.charge.specs.declared.Trace.{Trace}
 use Rattle.charge.specs.Charge.{acrOf, turnedOf, blankedOf, fallOf}
@@ -16,8 +17,8 @@ use Rattle.full.specs.declared.Average.{Average}
 use Rattle.full.specs.Full.{offsetTurn, runOf, renewedOf, foundOf, settledOf}
 use Rattle.meter.specs.declared.Flow.{Flow}
 use Rattle.meter.specs.declared.Meter.{Meter}
-use Rattle.meter.specs.State.{withCharge, withFlags}
-use Rattle.meter.specs.Convert.{convertedOf, filledFlags}
+use Rattle.meter.specs.State.{withFlags}
+use Rattle.meter.specs.Convert.{convertedOf, filledFlags, chargedOf}
 
 -- ---- steps 1 to 5
 
@@ -41,26 +42,26 @@ agingOver aging drops = max (aging - drops) 63
 unfoldable pub addsOver : Bool → ℕ → ℕ
 addsOver mark k = pick mark (k - 1) k
 
-abbrev pub countOver : Counting → Charge → ℕ → ℕ → ℕ
-countOver p g c k = grownOver (g .count) (blankedOf (p .nben) c) (p .ab) (addsOver (g .mark) k)
+abbrev pub countOver : Profile → Counting → Charge → ℕ → ℕ → ℕ
+countOver f p g c k = grownOver (g .count) (blankedOf f (p .nben) c) (p .ab) (addsOver (g .mark) k)
 
 -- the age counter with all that ACR fell, before anything is taken off
-abbrev pub fallenOver : Counting → Charge → ℕ → ℕ → ℕ
-fallenOver p g c k = g .age + fallOf (g .count) (countOver p g c k)
+abbrev pub fallenOver : Profile → Counting → Charge → ℕ → ℕ → ℕ
+fallenOver f p g c k = g .age + fallOf (g .count) (countOver f p g c k)
 
 -- step 5: ACR is 0 after some conversion where it is after the first or the last, since it goes one way
-abbrev pub emptyOver : Counting → Charge → ℕ → ℕ → Bool
-emptyOver p g c k = either (eqb (acrOf (countOver p g c 1)) 0) (eqb (acrOf (countOver p g c k)) 0)
+abbrev pub emptyOver : Profile → Counting → Charge → ℕ → ℕ → Bool
+emptyOver f p g c k = either (eqb (acrOf (countOver f p g c 1)) 0) (eqb (acrOf (countOver f p g c k)) 0)
 
-unfoldable pub chargeOver : Counting → Charge → ℕ → ℕ → ℕ → Charge
-chargeOver p g last c k =
-    let age = fallenOver p g c k in
+unfoldable pub chargeOver : Profile → Counting → Charge → ℕ → ℕ → ℕ → Charge
+chargeOver f p g last c k =
+    let age = fallenOver f p g c k in
     let drops = dropsOver (p .ac) age k in
     record {
-      count = countOver p g c k;
+      count = countOver f p g c k;
       age = ageOver (p .ac) age drops;
       aging = agingOver (g .aging) drops;
-      learnf = butNot (butNot (g .learnf) (turnedOf last c)) (emptyOver p g c k);
+      learnf = butNot (butNot (g .learnf) (turnedOf last c)) (emptyOver f p g c k);
       mark = false;
     }
 
@@ -111,20 +112,23 @@ flowedOver m p full40 c k =
     record {
       cells = m .cells;
       charge = settledOf (m .charge) found (m .shown .model .full) full40;
+      cycles = m .cycles;
       flow = flowOver (m .flow) c k;
       shown = withFlags (m .shown) (filledFlags (m .shown .flags) found);
     }
 
 -- ---- the meter, as after k times `convertOf`
 
--- c is that of the first. Each later one has the same: a 1024th among them takes the c before it
+-- c is that of the first. Each later one has the same: a 1024th among them takes the c before it. What ACR fell in all is what the cycle
+-- counter counts
 unfoldable pub stretchedOf : Meter → ℕ → ℕ → Meter
 stretchedOf m raw k =
     let block = m .cells .block .shadow in
     let p = countingOf block in
+    let full40 = capacityOf block .full40 in
     let c = convertedOf (m .flow) raw (p .cob) in
-    let counted = withCharge m (chargeOver p (m .charge) (m .flow .trace .last) c k) in
-    flowedOver counted (limitsOf block) (capacityOf block .full40) c k
+    let counted = chargeOver (m .cells .profile) p (m .charge) (m .flow .trace .last) c k in
+    flowedOver (chargedOf m full40 counted) (limitsOf block) full40 c k
 
 -- it is that where no run of eight ends before the last conversion; or where no reading came since the last average, so that no full is found,
 -- and the first is not a 1024th, which ends a run and has a c of its own

@@ -6,6 +6,7 @@ use meter::Meter;
 use params::Capacity;
 use params::Counting;
 use params::Limits;
+use profile::Profile;
 ghost use mathlib.Core.Path.{_≡_};
 ghost use Prim.Native.Nat.{_≤_};
 ghost use Rattle.charge.specs.Charge.{ChargeWF};
@@ -59,26 +60,25 @@ fn adds_over(mark: bool, k: u16) -> u16
 }
 
 // Steps 2 and 3.
-fn count_over(p: Counting, g: Charge, c: u16, k: u16) -> u32
-    ensures { λ r. ⌜ r ≡ countOver p g c k ⌝ }
+fn count_over(f: Profile, p: Counting, g: Charge, c: u16, k: u16) -> u32
+    ensures { λ r. ⌜ r ≡ countOver f p g c k ⌝ }
 {
     grown_over(
         g.count,
-        charge::blanked(p.nben, c),
+        charge::blanked(f, p.nben, c),
         p.ab,
         adds_over(g.mark, k),
     )
 }
 
 // Steps 1 to 5.
-fn charge_over(p: Counting, g: Charge, last: u16, c: u16, k: u16) -> Charge
+fn charge_over(f: Profile, p: Counting, g: Charge, last: u16, c: u16, k: u16) -> Charge
     requires { ⌜ ChargeWF g ⌝ }
-    ensures { λ r. ⌜ r ≡ chargeOver p g last c k ⌝ }
+    ensures { λ r. ⌜ r ≡ chargeOver f p g last c k ⌝ }
 {
-    let first = count_over(p, g, c, 1);
-    let count = count_over(p, g, c, k);
-    let fall = numbers::less((g.count / 4096) as u64, (count / 4096) as u64) as u32;
-    let age = g.age + fall;
+    let first = count_over(f, p, g, c, 1);
+    let count = count_over(f, p, g, c, k);
+    let age = g.age + charge::fall(g.count, count);
     let drops = drops_over(p.ac, age, k);
     let was = last < numbers::ZERO15;
     let turned = numbers::and(c < numbers::ZERO15, !was);
@@ -180,7 +180,12 @@ fn stretch(mut m: Meter, raw: u32, k: u16) -> Meter
         m.flow.trace.last,
         charge::current(raw, p.cob),
     );
-    m.charge = charge_over(p, m.charge, m.flow.trace.last, c, k);
+    let cells = m.cells;
+    let f = cells.profile;
+    let charge = charge_over(f, p, m.charge, m.flow.trace.last, c, k);
+    let fall = charge::fall(m.charge.count, charge.count);
+    m.charge = charge;
+    m.cycles = m.cycles.cycled(f, full.full40, fall);
     flowed_over(m, limits, full.full40, c, k)
 }
 

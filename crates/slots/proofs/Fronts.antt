@@ -9,10 +9,13 @@ use borrow.Author.Tests.{eqb-true, leb-true, ltb-true, ltb-false, le-ltb, lt-ltb
 use lib.Dec.{ltb, leb, eqb}
 use lib.ListN.{length, getD, drop, length-take, length-drop}
 use lib.Seq.{getD-take, getD-drop, take-take}
-use Rattle.numbers.specs.Choice.{pick}
+use Rattle.numbers.specs.Choice.{pick, either}
 use Rattle.numbers.proofs.Bounds.{picked}
 use Rattle.parts.specs.Parts.{part, pairAt}
 use Rattle.ticks.specs.declared.Tick.{Tick}
+use Rattle.profile.specs.declared.Profile.{Profile}
+use Rattle.profile.specs.Profile.{imageSizeOf}
+use Rattle.profile.proofs.Laws.{sixty}
 use Rattle.meter.specs.declared.Meter.{Meter}
 use Rattle.events.specs.declared.Kind.{Kind}
 use Rattle.events.specs.declared.Kind.the-variants as kind
@@ -44,10 +47,11 @@ module _ (room count : ℕ) (closed : Bool) (p : List ℕ) (again again′ : Boo
       sym (passes last again (acceptedFor count closed k p) (drop (aheadOf k) p) room k s) ∙ e
       ∙ passes last′ again′ (acceptedFor count closed k p) (drop (aheadOf k) p) room k s
 
-  sized-image : (b : Bool) → eqb (length p) imageSize ≡ b → (length p ≡ imageSize → again ≡ again′)
-      → takenBy again kind.Image (acceptedFor count closed kind.Image p) p ≡ takenBy again′ kind.Image (acceptedFor count closed kind.Image p) p
-  sized-image true e h = ap (λ (b : Bool). takenBy b kind.Image (acceptedFor count closed kind.Image p) p) (h (eqb-true (length p) imageSize e))
-  sized-image false e h = rw e refl
+  sized-image : (f : Profile) (b : Bool) → eqb (length p) (imageSizeOf f) ≡ b → (length p ≡ imageSizeOf f → again ≡ again′)
+      → let k = kind.Image f in takenBy again k (acceptedFor count closed k p) p ≡ takenBy again′ k (acceptedFor count closed k p) p
+  sized-image f true e h =
+      ap (λ (b : Bool). takenBy b (kind.Image f) (acceptedFor count closed (kind.Image f) p) p) (h (eqb-true (length p) (imageSizeOf f) e))
+  sized-image f false e h = rw e refl
 
   sampled : (b : Bool) → ltb (slotIn p) count ≡ b → (ltb (slotIn p) count ≡ true → last ≡ last′) → asks again last kind.Sample ≡ asks again′ last′ kind.Sample
   sampled true e h = ap (λ (t : Tick). asks again t kind.Sample) (h e)
@@ -58,8 +62,9 @@ module _ (room count : ℕ) (closed : Bool) (p : List ℕ) (again again′ : Boo
       late false = refl
 
   module _ (slot : 1 ≤ length p → ltb (slotIn p) count ≡ true → last ≡ last′) where
-    by-kind : (k : Kind) → aheadOf k ≤ length p → (kind.Image ≡ k → length p ≡ imageSize → again ≡ again′) → asks again last k ≡ asks again′ last′ k
-    by-kind kind.Image h i = stateless kind.Image tt (sized-image (eqb (length p) imageSize) refl (i refl))
+    by-kind : (k : Kind) → aheadOf k ≤ length p → ((f : Profile) → kind.Image f ≡ k → length p ≡ imageSizeOf f → again ≡ again′)
+        → asks again last k ≡ asks again′ last′ k
+    by-kind (kind.Image f) h i = stateless (kind.Image f) tt (sized-image f (eqb (length p) (imageSizeOf f)) refl (i f refl))
     by-kind kind.Reading h i = stateless kind.Reading tt refl
     by-kind kind.Conversion h i = stateless kind.Conversion tt refl
     by-kind (kind.Transaction f) h i =
@@ -69,7 +74,7 @@ module _ (room count : ℕ) (closed : Bool) (p : List ℕ) (again again′ : Boo
     by-kind kind.Sample h i = sampled (ltb (slotIn p) count) refl (slot h)
     by-kind kind.Unknown h i = stateless kind.Unknown tt refl
 
-    asked-same : (k : Kind) → (kind.Image ≡ k → length p ≡ imageSize → again ≡ again′)
+    asked-same : (k : Kind) → ((f : Profile) → kind.Image f ≡ k → length p ≡ imageSizeOf f → again ≡ again′)
         → fittedOf room (trayAskedBy count closed again last k p) ≡ fittedOf room (trayAskedBy count closed again′ last′ k p)
     asked-same k image = go (leb (aheadOf k) (length p)) refl
       where
@@ -77,31 +82,31 @@ module _ (room count : ℕ) (closed : Bool) (p : List ℕ) (again again′ : Boo
         go true e = rw e (by-kind k (leb-true (aheadOf k) (length p) e) image)
         go false e = rw e refl
 
--- ---- kind 1 alone is an image
+-- ---- kinds 1 and 8 alone are images
 
-abbrev Other : Kind → Type 0
-Other kind.Image = ⊥
-Other kind.Reading = Unit
-Other kind.Conversion = Unit
-Other (kind.Transaction f) = Unit
-Other kind.PowerOn = Unit
-Other kind.Sample = Unit
-Other kind.Unknown = Unit
+abbrev Imaged : Bool → Kind → Type 0
+Imaged b (kind.Image f) = b ≡ true
+Imaged b kind.Reading = Unit
+Imaged b kind.Conversion = Unit
+Imaged b (kind.Transaction f) = Unit
+Imaged b kind.PowerOn = Unit
+Imaged b kind.Sample = Unit
+Imaged b kind.Unknown = Unit
 
-first-of : (b : Bool) (k : Kind) → Other k → kind.Image ≡ pick b kind.Image k → b ≡ true
-first-of true k o e = refl
-first-of false k o e = absurd (subst Other (sym e) o)
-
-image-one : (n : ℕ) → kind.Image ≡ trayKindOf n → eqb n 1 ≡ true
+imaged : (n : ℕ) → Imaged (either (eqb n 1) (eqb n 8)) (trayKindOf n)
 unfolding trayKindOf
-image-one n e =
-    first-of (eqb n 1) _
-    (picked Other (eqb n 4) _ _ (λ a. tt)
-    (λ a. picked Other (eqb n 7) _ _ (λ b. tt)
-    (λ b. picked Other (eqb n 18) _ _ (λ c. tt)
-    (λ c. picked Other (eqb n 19) _ _ (λ d. tt)
-    (λ d. picked Other (eqb n 21) _ _ (λ f. tt) (λ f. picked Other (eqb n 22) _ _ (λ g. tt) (λ g. tt)))))))
-    e
+imaged n =
+    let I : Kind → Type 0 = Imaged (either (eqb n 1) (eqb n 8)) in
+    picked I (eqb n 1) _ _ (λ one. rw one refl)
+    (λ one. picked I (eqb n 4) _ _ (λ a. tt)
+    (λ a. picked I (eqb n 7) _ _ (λ b. tt)
+    (λ b. picked I (eqb n 8) _ _ (λ eight. rw (one, eight) refl)
+    (λ h. picked I (eqb n 18) _ _ (λ c. tt)
+    (λ c. picked I (eqb n 19) _ _ (λ d. tt)
+    (λ d. picked I (eqb n 21) _ _ (λ f. tt) (λ f. picked I (eqb n 22) _ _ (λ g. tt) (λ g. tt))))))))
+
+image-kinds : (f : Profile) (n : ℕ) → kind.Image f ≡ trayKindOf n → either (eqb n 1) (eqb n 8) ≡ true
+image-kinds f n e = subst (Imaged (either (eqb n 1) (eqb n 8))) (sym e) (imaged n)
 
 -- ---- the slot that is named
 
@@ -134,12 +139,12 @@ module _ (τ : Tray) (w : TrayWF τ) (room : ℕ) (l : List ℕ) where
     long : length p ≡ n
     long = length-take (4 + n - 4) (drop 4 l) ∙ omega (arith, length-drop 4 l, whole-end l whole)
 
-    image : kind.Image ≡ trayKindOf (pairAt l 2) → length p ≡ imageSize → againAt ≡ againOf τ p
+    image : (f : Profile) → kind.Image f ≡ trayKindOf (pairAt l 2) → length p ≡ imageSizeOf f → againAt ≡ againOf τ p
     unfolding imageAt
-    image e size =
-        let fits : 4 + imageSize ≤ length l = omega (arith, long, whole-end l whole) in
-        let address : imageAddress p ≡ part 8 l 4 = take-take 8 (4 + n - 4) (drop 4 l) (omega (arith, long)) in
-        rw (le-ltb (length l) (4 + imageSize) fits, image-one (pairAt l 2) e, address) refl
+    image f e size =
+        let fits : 4 + imageSize ≤ length l = omega (arith, size, sixty f, long, whole-end l whole) in
+        let address : imageAddress p ≡ part 8 l 4 = take-take 8 (4 + n - 4) (drop 4 l) (omega (arith, size, sixty f, long)) in
+        rw (le-ltb (length l) (4 + imageSize) fits, image-kinds f (pairAt l 2) e, address) refl
 
     slot : 1 ≤ length p → ltb (slotIn p) (τ .count) ≡ true → tickAt ≡ slotTick τ p
     slot some has =
@@ -178,7 +183,7 @@ pub image-long : (l : List ℕ) → imageAt l ≡ true → 4 + imageSize ≤ len
 unfolding imageAt
 image-long l e = by (ltb (length l) (4 + imageSize)) refl e
   where
-    by : (b : Bool) → ltb (length l) (4 + imageSize) ≡ b → pick b false (eqb (pairAt l 2) 1) ≡ true → 4 + imageSize ≤ length l
+    by : (b : Bool) → ltb (length l) (4 + imageSize) ≡ b → pick b false (either (eqb (pairAt l 2) 1) (eqb (pairAt l 2) 8)) ≡ true → 4 + imageSize ≤ length l
     by true f g = absurd (never g)
       where
         Is : Bool → Type 0

@@ -103,11 +103,11 @@ pub tray-replying : Replying ofTray
 tray-replying = record { answer = answers; reply = replies }
   where
     answers : (τ : Tray) (p : List ℕ) (e : Event) → trayEvent τ p e .answer ≡ 0
-    answers τ p Image = refl
+    answers τ p (Image f) = refl
     answers τ p (Change c) = refl
     answers τ p (Transact t) = refl
 
     replies : (τ : Tray) (p : List ℕ) (e : Event) → length (trayEvent τ p e .reply) ≡ asksOf e
-    replies τ p Image = refl
+    replies τ p (Image f) = refl
     replies τ p (Change c) = refl
     replies τ p (Transact t) = tray-reply-length t (masterOf t p) τ (trayReach τ t (masterOf t p))

@@ -15,21 +15,21 @@ use Rattle.events.specs.declared.Kind.the-variants as kind
 use Rattle.events.specs.declared.Event.the-variants.{Image, Change, Transact}
 use Rattle.events.specs.declared.Taken.{Taken}
 use Rattle.events.specs.declared.Taken.the-variants.{Run, Refused}
-use Rattle.events.specs.Image.{imageSize}
-use Rattle.events.specs.Record.{judgedOf, takenBy, timedOf, Mastered}
+use Rattle.profile.specs.Profile.{imageSizeOf}
+use Rattle.events.specs.Record.{judgedBy, takenBy, timedOf, Mastered}
 use Rattle.events.proofs.Fits.{Taking, timed-by, kindSort, Sorted, sorted-by, judged-alone}
 use Rattle.slots.specs.declared.Tray.{Tray}
 use Rattle.slots.specs.Tray.{trayKindOf, aheadOf, slotIn, acceptedFor, trayAskedBy, againOf, slotTick, trayTold}
 
 module _ (count : ℕ) (closed : Bool) (p : List ℕ) where
   abbrev pub TrayTaking : Bool → Taken → Type 0
-  TrayTaking again (Run Image) = (closed ≡ false) × (count < 8) × (length p ≡ imageSize) × (again ≡ false) × (judgedOf p ≡ Run Image)
+  TrayTaking again (Run (Image f)) = (closed ≡ false) × (count < 8) × (length p ≡ imageSizeOf f) × (again ≡ false) × (judgedBy f p ≡ Run (Image f))
   TrayTaking again (Run (Change c)) = (1 ≤ length p) × (slotIn p < count)
   TrayTaking again (Run (Transact t)) = (0 < count) × Mastered t p
   TrayTaking again (Refused r) = Unit
 
-  image-kind : (k : Kind) → 0 ≡ kindSort k → k ≡ kind.Image
-  image-kind kind.Image e = refl
+  image-kind : (k : Kind) → 0 ≡ kindSort k → (acceptedFor count closed k p ≡ either closed (leb 8 count)) × (aheadOf k ≡ 0)
+  image-kind (kind.Image f) e = (refl, refl)
   image-kind kind.Reading e = absurd (omega arith)
   image-kind kind.Conversion e = absurd (omega arith)
   image-kind (kind.Transaction f) e = absurd (omega arith)
@@ -38,7 +38,7 @@ module _ (count : ℕ) (closed : Bool) (p : List ℕ) where
   image-kind kind.Unknown e = absurd (omega arith)
 
   transaction-kind : (k : Kind) → 2 ≡ kindSort k → (acceptedFor count closed k p ≡ ltb 0 count) × (aheadOf k ≡ 0)
-  transaction-kind kind.Image e = absurd (omega arith)
+  transaction-kind (kind.Image f) e = absurd (omega arith)
   transaction-kind kind.Reading e = absurd (omega arith)
   transaction-kind kind.Conversion e = absurd (omega arith)
   transaction-kind (kind.Transaction f) e = (refl, refl)
@@ -47,7 +47,7 @@ module _ (count : ℕ) (closed : Bool) (p : List ℕ) where
   transaction-kind kind.Unknown e = absurd (omega arith)
 
   slot-kind : (k : Kind) → 1 ≡ kindSort k → aheadOf k ≤ length p → acceptedFor count closed k p ≡ true → (1 ≤ length p) × (slotIn p < count)
-  slot-kind kind.Image e h a = absurd (omega arith)
+  slot-kind (kind.Image f) e h a = absurd (omega arith)
   slot-kind kind.Reading e h a = (h, ltb-true (slotIn p) count a)
   slot-kind kind.Conversion e h a = (h, ltb-true (slotIn p) count a)
   slot-kind (kind.Transaction f) e h a = absurd (omega arith)
@@ -68,12 +68,11 @@ module _ (count : ℕ) (closed : Bool) (p : List ℕ) where
 
   by-event : (again : Bool) (k : Kind) → aheadOf k ≤ length p → (t : Taken) → Sorted k t → Taking again (acceptedFor count closed k p) (drop (aheadOf k) p) t
       → TrayTaking again t
-  by-event again k h (Run Image) s x =
+  by-event again k h (Run (Image f)) s x =
       let e = image-kind k s in
-      let y = subst (λ (j : Kind). Taking again (acceptedFor count closed j p) (drop (aheadOf j) p) (Run Image)) e x in
-      let o = opening closed (y .0) in
-      let j = judged-alone again p (y .1) in
-      (o .0, o .1, y .2, j .0, j .1)
+      let o = opening closed (sym (e .0) ∙ x .0) in
+      let j = judged-alone f again p (rw (e .1) at (x .1)) in
+      (o .0, o .1, rw (e .1) at (x .2), j .0, j .1)
   by-event again k h (Run (Change c)) s x = slot-kind k s h x
   by-event again k h (Run (Transact t)) s x =
       let e = transaction-kind k s in

@@ -12,6 +12,7 @@ use Rattle.bus.specs.declared.Rom.{Rom}
 use Rattle.bus.specs.declared.Rom.the-variants as rom
 use Rattle.bus.specs.declared.Transaction.{Transaction}
 use Rattle.bus.specs.Ask.{sameBytes}
+use Rattle.profile.specs.declared.Profile.the-variants.{Ds2781, Ds2775}
 use Rattle.label.specs.declared.Common.{Common}
 use Rattle.replies.specs.Reply.{listed}
 use Rattle.gauge.specs.declared.Gauge.{Gauge}
@@ -40,7 +41,7 @@ use Rattle.slots.specs.Wire.{andBytes}
 -- ---- the state: how many packs there are, whether the opening is closed, and each pack by its parts
 
 abbrev pub noGauge : Gauge
-noGauge = imageOf (replicate imageSize 0)
+noGauge = imageOf Ds2781 (replicate imageSize 0)
 
 -- before the first record
 abbrev pub emptyTray : Tray
@@ -101,20 +102,22 @@ isFound Nowhere = false
 
 -- ---- what a record asks
 
--- "Readings, conversions, kind 6 samples and power-ons come as kinds 18, 19, 22 and 21". 3: "any kind but 1, 4, 18, 19, 21, 22", and no longer kind 7
+-- "Readings, conversions, kind 6 samples and power-ons come as kinds 18, 19, 22 and 21". 3: "any kind but 1, 4, 18, 19, 21, 22", and no longer
+-- kinds 7 and 8
 unfoldable pub trayKindOf : ℕ → Kind
 trayKindOf n =
-    pick (eqb n 1) kind.Image
+    pick (eqb n 1) (kind.Image Ds2781)
     (pick (eqb n 4) (kind.Transaction Short)
     (pick (eqb n 7) (kind.Transaction Long)
+    (pick (eqb n 8) (kind.Image Ds2775)
     (pick (eqb n 18) kind.Reading
     (pick (eqb n 19) kind.Conversion
     (pick (eqb n 21) kind.PowerOn
-    (pick (eqb n 22) kind.Sample kind.Unknown))))))
+    (pick (eqb n 22) kind.Sample kind.Unknown)))))))
 
 -- "with a slot byte ahead of the old payload"
 abbrev pub aheadOf : Kind → ℕ
-aheadOf kind.Image = 0
+aheadOf (kind.Image f) = 0
 aheadOf kind.Reading = 1
 aheadOf kind.Conversion = 1
 aheadOf (kind.Transaction f) = 0
@@ -128,7 +131,7 @@ slotIn p = getD p 0 0
 -- 5: "any other event before an image, a slot without an image, or an image after the first accepted event that is no image, or after the eighth
 -- image": what stands for an accepted image in a plain session
 abbrev pub acceptedFor : ℕ → Bool → Kind → List ℕ → Bool
-acceptedFor count closed kind.Image p = either closed (leb 8 count)
+acceptedFor count closed (kind.Image f) p = either closed (leb 8 count)
 acceptedFor count closed kind.Reading p = ltb (slotIn p) count
 acceptedFor count closed kind.Conversion p = ltb (slotIn p) count
 acceptedFor count closed (kind.Transaction f) p = ltb 0 count
@@ -207,7 +210,7 @@ module _ (t : Transaction) (master : List ℕ) where
 -- ---- what an event does
 
 abbrev pub trayEvent : Tray → List ℕ → Event → Did Tray
-trayEvent τ p Image = silently (packJoined τ (imageOf p)) 0
+trayEvent τ p (Image f) = silently (packJoined τ (imageOf f p)) 0
 trayEvent τ p (Change c) = silently (closedOf (storedOf τ (slotIn p) (changedOf (packOf τ (slotIn p)) c))) 0
 trayEvent τ p (Transact t) =
     let master = masterOf t p in
@@ -227,9 +230,9 @@ trayDid τ room r = recordBy ofTray τ room r
 unfoldable pub namedSlot : List ℕ → ℕ
 namedSlot l = pick (ltb 4 (length l)) (pick (ltb (getD l 4 0) 8) (getD l 4 0) 0) 0
 
--- whether it is an image of its size
+-- whether it is an image, long enough for its address
 unfoldable pub imageAt : List ℕ → Bool
-imageAt l = pick (ltb (length l) (4 + imageSize)) false (eqb (pairAt l 2) 1)
+imageAt l = pick (ltb (length l) (4 + imageSize)) false (either (eqb (pairAt l 2) 1) (eqb (pairAt l 2) 8))
 
 -- ---- what holds of every tray: eight places, of which the first are packs, each well-formed
 

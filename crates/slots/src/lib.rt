@@ -10,6 +10,7 @@ use gauge::Gauge;
 use label::Common;
 use label::Label;
 use meter::Meter;
+use profile::Profile;
 use steps::Record;
 use ticks::Tick;
 ghost use mathlib.Core.Path.{_≡_};
@@ -44,7 +45,7 @@ pub fn empty() -> Tray
     ensures kept { λ r. ⌜ TrayWF r ⌝ }
 {
     let zeros = [0u8; IMAGE_SIZE];
-    let g = pack::image_in(&zeros);
+    let g = pack::image_in(Profile::Ds2781, &zeros);
     let k = g.common;
     let l = g.label;
     let m = g.meter;
@@ -73,23 +74,25 @@ pub fn slot(l: &[u8]) -> usize
     0
 }
 
-// Whether the record at the front is an image of its size.
+// Whether the record at the front is an image, long enough for its address.
 pub fn image_at(l: &[u8]) -> bool
     ensures { λ r. ⌜ r ≡ imageAt (now (l .entry)) ⌝ }
 {
     if l.len() < 4 + IMAGE_SIZE {
         return false;
     }
-    parts::pair(l, 2) == 1
+    let kind = parts::pair(l, 2);
+    numbers::or(kind == 1, kind == 8)
 }
 
 fn kind_of(n: u16) -> Kind
     ensures { λ r. ⌜ r ≡ trayKindOf n ⌝ }
 {
     match n {
-        1 => Kind::Image,
+        1 => Kind::Image(Profile::Ds2781),
         4 => Kind::Transaction(Form::Short),
         7 => Kind::Transaction(Form::Long),
+        8 => Kind::Image(Profile::Ds2775),
         18 => Kind::Reading,
         19 => Kind::Conversion,
         21 => Kind::PowerOn,
@@ -104,7 +107,7 @@ fn ahead(k: Kind) -> usize
     ensures small { λ r. ⌜ r ≤ 1 ⌝ }
 {
     match k {
-        Kind::Image => 0,
+        Kind::Image(_) => 0,
         Kind::Reading => 1,
         Kind::Conversion => 1,
         Kind::Transaction(_) => 0,
@@ -120,7 +123,7 @@ fn accepted(k: Kind, count: u8, closed: bool, p: &[u8]) -> bool
     ensures { λ r. ⌜ r ≡ acceptedFor count closed k (now (p .entry)) ⌝ }
 {
     match k {
-        Kind::Image => numbers::or(closed, 8 <= count),
+        Kind::Image(_) => numbers::or(closed, 8 <= count),
         Kind::Reading => p[0] < count,
         Kind::Conversion => p[0] < count,
         Kind::Transaction(_) => 0 < count,

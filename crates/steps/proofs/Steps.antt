@@ -79,12 +79,12 @@ pub session-replying : Replying ofSession
 session-replying = record { answer = answers; reply = replies }
   where
     answers : (σ : Session) (p : List ℕ) (e : Event) → eventDid σ p e .answer ≡ 0
-    answers σ p Image = refl
+    answers σ p (Image f) = refl
     answers σ p (Change c) = refl
     answers σ p (Transact t) = refl
 
     replies : (σ : Session) (p : List ℕ) (e : Event) → length (eventDid σ p e .reply) ≡ asksOf e
-    replies σ p Image = refl
+    replies σ p (Image f) = refl
     replies σ p (Change c) = refl
     replies σ p (Transact t) = reply-length (σ .gauge) t (masterOf t p)
 

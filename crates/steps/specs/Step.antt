@@ -37,7 +37,7 @@ toldOf loaded last kind p = timedOf last (takenOf kind loaded p)
 
 -- an event
 abbrev pub eventDid : Session → List ℕ → Event → Did Session
-eventDid σ p Image = silently (loadedWith (imageOf p)) 0
+eventDid σ p (Image f) = silently (loadedWith (imageOf f p)) 0
 eventDid σ p (Change c) = silently (loadedWith (changedOf (σ .gauge) c)) 0
 eventDid σ p (Transact t) = record {
   state = loadedWith (actOf (σ .gauge) t (masterOf t p));

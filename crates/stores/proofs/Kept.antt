@@ -1,5 +1,5 @@
 -- What a write, a copy and a recall leave of block 1 as it was, and what they leave of the whole meter where they are for other addresses.
--- The saved cells and BL1 stay by the definitions alone.
+-- The profile, the saved cells and BL1 stay by the definitions alone, and so does the cycle counter at a copy, a recall and a lock.
 use mathlib.Core.Path.{_≡_, refl, _∙_}
 use mathlib.Core.Bool.{Bool, true, false}
 use mathlib.Core.List.{List}
@@ -7,15 +7,18 @@ use Prim.Native.Nat.{ℕ, _+_, _≤_, _<_, min, max}
 use native.Mathlib.Omega.{arith}
 use lib.ListN.{length}
 use borrow.Author.Tests.{lt-leb}
-use Rattle.numbers.specs.Choice.{butNot}
+use Rattle.numbers.specs.Choice.{both, butNot}
 use Rattle.numbers.proofs.Bounds.{picked}
 use Rattle.parts.proofs.Laws.{laid-none, laid-length}
+use Rattle.profile.specs.Profile.{countsCycles}
+use Rattle.cycles.specs.declared.Cycles.{Cycles}
 use Rattle.meter.specs.declared.Block.{Block}
+use Rattle.meter.specs.declared.Cells.{Cells}
 use Rattle.meter.specs.declared.Meter.{Meter}
 use Rattle.meter.specs.State.{withCells}
 use Rattle.label.specs.Label.{inLabel, inBlock}
 use Rattle.label.proofs.Kept.{but-none, or-none}
-use Rattle.stores.specs.Stores.{reachesOf, porfWrittenOf, acrWrittenOf, asWrittenOf, lockWrittenOf, blockWrittenOf, cellsWrittenOf, meterWrittenOf, blockCopiedOf, blockRecalledOf, meterCopiedOf, meterRecalledOf, meterLockedOf, BlockSized}
+use Rattle.stores.specs.Stores.{reachesOf, porfWrittenOf, acrWrittenOf, asWrittenOf, lockWrittenOf, cyclesWrittenOf, blockWrittenOf, cellsWrittenOf, meterWrittenOf, blockCopiedOf, blockRecalledOf, meterCopiedOf, meterRecalledOf, meterLockedOf, BlockSized}
 
 module _ (b : Block) (locked : Bool) (a : ℕ) where
   module _ (bytes : List ℕ) where
@@ -61,6 +64,20 @@ module _ (b : Block) (a : ℕ) where
   unfolding blockRecalledOf
   recalled-eeprom = picked (λ (x : Block). x .eeprom ≡ b .eeprom) (inBlock a) _ b (λ e. refl) (λ e. refl)
 
+-- no write reaches the cycle counter of a profile that has none, nor of one whose block 1 is locked
+none-of-both : (t : Bool) → both t false ≡ false
+none-of-both true = refl
+none-of-both false = refl
+
+module _ (y : Cycles) (c : Cells) (a : ℕ) (bytes : List ℕ) where
+  pub cycles-uncounted : countsCycles (c .profile) ≡ false → cyclesWrittenOf y c a bytes ≡ y
+  unfolding cyclesWrittenOf
+  cycles-uncounted e = rw (e, but-none (c .locks .bl1), none-of-both (reachesOf a bytes 0x1e)) refl
+
+  pub cycles-locked : c .locks .bl1 ≡ true → cyclesWrittenOf y c a bytes ≡ y
+  unfolding cyclesWrittenOf
+  cycles-locked e = rw (e, none-of-both (reachesOf a bytes 0x1e)) refl
+
 -- ---- elsewhere
 
 missed : (a : ℕ) (bytes : List ℕ) (x : ℕ) → x < a → reachesOf a bytes x ≡ false
@@ -70,9 +87,9 @@ missed a bytes x h = rw (lt-leb a x h) refl
 module _ (m : Meter) (a : ℕ) where
   -- bytes from 20h on are for no register: the cells alone may change
   pub written-above : (bytes : List ℕ) → 0x20 ≤ a → meterWrittenOf m a bytes ≡ withCells m (cellsWrittenOf (m .cells) a bytes)
-  unfolding meterWrittenOf porfWrittenOf acrWrittenOf asWrittenOf
+  unfolding meterWrittenOf porfWrittenOf acrWrittenOf asWrittenOf cyclesWrittenOf
   written-above bytes low =
-      rw (missed a bytes 0x01 (omega arith), missed a bytes 0x10 (omega arith), missed a bytes 0x14 (omega arith)) refl
+      rw (missed a bytes 0x01 (omega arith), missed a bytes 0x10 (omega arith), missed a bytes 0x14 (omega arith), missed a bytes 0x1e (omega arith)) refl
 
   -- bytes for 20h..2Fh alone are not for block 1 either
   pub written-elsewhere : (bytes : List ℕ) → 0x20 ≤ a → a + length bytes ≤ 0x30 → meterWrittenOf m a bytes ≡ m

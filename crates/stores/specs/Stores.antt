@@ -10,6 +10,8 @@ use Rattle.numbers.specs.Offset.{joinedOf}
 use Rattle.parts.specs.Parts.{laidOf}
 use Rattle.charge.specs.declared.Charge.{Charge}
 use Rattle.charge.specs.Charge.{setOf, withAs, markedOf}
+use Rattle.profile.specs.Profile.{countsCycles}
+use Rattle.cycles.specs.declared.Cycles.{Cycles}
 use Rattle.reading.specs.declared.Flags.{Flags}
 use Rattle.meter.specs.declared.Block.{Block}
 use Rattle.meter.specs.declared.Locks.{Locks}
@@ -50,6 +52,13 @@ asWrittenOf g a bytes = pick (reachesOf a bytes 0x14) (withAs g (asIn (byteFor a
 unfoldable pub lockWrittenOf : Bool → ℕ → List ℕ → Bool
 lockWrittenOf lock a bytes = pick (reachesOf a bytes 0x1f) (bitIn (byteFor a bytes 0x1f) 64) lock
 
+-- 1Eh: the cycle counter of a profile that has one is "writable only while block 1 is unlocked"; the rest stays
+unfoldable pub cyclesWrittenOf : Cycles → Cells → ℕ → List ℕ → Cycles
+cyclesWrittenOf y c a bytes =
+    pick (both (reachesOf a bytes 0x1e) (butNot (countsCycles (c .profile)) (c .locks .bl1)))
+    (record { count = byteFor a bytes 0x1e; rest = y .rest })
+    y
+
 -- 60h..7Fh, unless locked
 unfoldable pub blockWrittenOf : Block → Bool → ℕ → List ℕ → Block
 blockWrittenOf b locked a bytes =
@@ -57,6 +66,7 @@ blockWrittenOf b locked a bytes =
 
 abbrev pub cellsWrittenOf : Cells → ℕ → List ℕ → Cells
 cellsWrittenOf c a bytes = record {
+  profile = c .profile;
   block = blockWrittenOf (c .block) (c .locks .bl1) a bytes;
   locks = record { lock = lockWrittenOf (c .locks .lock) a bytes; bl1 = c .locks .bl1 };
   saved = c .saved;
@@ -70,6 +80,7 @@ unfoldable pub meterWrittenOf : Meter → ℕ → List ℕ → Meter
 meterWrittenOf m a bytes = record {
   cells = cellsWrittenOf (m .cells) a bytes;
   charge = asWrittenOf (acrWrittenOf (m .charge) a bytes) a bytes;
+  cycles = cyclesWrittenOf (m .cycles) (m .cells) a bytes;
   flow = m .flow;
   shown = withFlags (m .shown) (flagsWrittenOf (m .shown .flags) a bytes);
 }

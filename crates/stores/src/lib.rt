@@ -1,5 +1,6 @@
 // What a write, a copy, a recall and a lock do to the meter.
 use charge::Charge;
+use cycles::Cycles;
 use meter::Block;
 use meter::Cells;
 use meter::Locks;
@@ -9,7 +10,7 @@ ghost use mathlib.Core.Bool.{true};
 ghost use Prim.Native.Nat.{_<_};
 ghost use Rattle.charge.specs.Charge.{ChargeWF};
 ghost use Rattle.meter.specs.State.{MeterWF};
-ghost use Rattle.stores.specs.Stores.{reachesOf, byteFor, porfWrittenOf, acrWrittenOf, asWrittenOf, lockWrittenOf, blockWrittenOf, cellsWrittenOf, meterWrittenOf, blockCopiedOf, blockRecalledOf, reblockedOf, meterCopiedOf, meterRecalledOf, locksLockedOf, meterLockedOf};
+ghost use Rattle.stores.specs.Stores.{reachesOf, byteFor, porfWrittenOf, acrWrittenOf, asWrittenOf, lockWrittenOf, cyclesWrittenOf, blockWrittenOf, cellsWrittenOf, meterWrittenOf, blockCopiedOf, blockRecalledOf, reblockedOf, meterCopiedOf, meterRecalledOf, locksLockedOf, meterLockedOf};
 
 // ---- 6Ch: bytes written from the address a upward
 
@@ -80,6 +81,21 @@ fn lock_written(lock: bool, a: usize, bytes: &[u8]) -> bool
     lock
 }
 
+// 1Eh: c says of which profile it is, and whether block 1 is locked.
+fn cycles_written(mut y: Cycles, c: Cells, a: usize, bytes: &[u8]) -> Cycles
+    requires { ⌜ a < 256 ⌝ }
+    ensures { λ r. ⌜ r ≡ cyclesWrittenOf y c a (now (bytes .entry)) ⌝ }
+{
+    if reaches(a, bytes, 0x1e) {
+        let f = c.profile;
+        if numbers::and_not(profile::counts(f), c.locks.bl1) {
+            let count = byte_for(a, bytes, 0x1e);
+            y.count = count;
+        }
+    }
+    y
+}
+
 // 60h to 7Fh, where the bytes end above 60h.
 fn block_written(mut b: Block, locked: bool, a: usize, bytes: &[u8]) -> Block
     requires { ⌜ a < 256 ⌝ }
@@ -115,6 +131,7 @@ pub fn meter_written(mut m: Meter, a: usize, bytes: &[u8]) -> Meter
     let cells = cells_written(m.cells, a, bytes);
     m.cells = cells;
     if a < 0x20 {
+        m.cycles = cycles_written(m.cycles, cells, a, bytes);
         let charge = as_written(acr_written(m.charge, a, bytes), a, bytes);
         let porf = porf_written(m.shown.flags.porf, a, bytes);
         m.charge = charge;

@@ -12,6 +12,7 @@ use Rattle.numbers.proofs.Bounds.{picked, both-true}
 use Rattle.parts.specs.Parts.{part, put}
 use Rattle.parts.proofs.Laws.{part-length, put-front}
 use Rattle.digits.specs.Digits.{Writing}
+use Rattle.profile.specs.declared.Profile.the-variants.{Ds2781}
 use Rattle.events.specs.declared.Taken.{Taken}
 use Rattle.events.specs.declared.Taken.the-variants as taken
 use Rattle.events.specs.Image.{imageSize, imageLabel, imageBlock, imageBl0}
@@ -29,7 +30,7 @@ accepted-sized : (image : List ℕ) → acceptedOf image ≡ true → length ima
 accepted-sized image e = by (judgedOf image) refl e
   where
     by : (t : Taken) → judgedOf image ≡ t → acceptedBy t ≡ true → length image ≡ imageSize
-    by (taken.Run e) j a = judged-sized image j
+    by (taken.Run e) j a = judged-sized Ds2781 image j
     by (taken.Refused r) j a = let z : _≡_ {A = ℕ} 0 1 = cc in absurd (omega arith)
 
 module _ (pack factory : List ℕ) (both-taken : bothAccepted pack factory ≡ true) where

@@ -1,18 +1,19 @@
 -- What follows of what `run` and `take_out` told.
 use mathlib.Core.Path.{_≡_, refl, sym, ap, _∙_}
 use mathlib.Core.Bool.{Bool, true, false}
-use mathlib.Core.List.{List, _++_, append-nil}
+use mathlib.Core.List.{List, _++_}
 use Prim.Native.Nat.{ℕ, _<_}
 use native.Mathlib.Omega.{arith}
 use borrow.Author.Tests.{le-leb, lt-ltb}
 use lib.Dec.{leb}
-use lib.ListN.{length, drop-of-length-le}
+use lib.ListN.{length, drop, length-append, length-drop}
 use Rattle.numbers.specs.Choice.{pick}
-use Rattle.parts.proofs.Laws.{put-whole}
+use Rattle.parts.proofs.Laws.{put-front}
 use Rattle.streams.specs.declared.Said.{Said}
 use Rattle.streams.specs.declared.Stream.the-variants.{Output}
 use Rattle.streams.specs.Streams.{Speech, Saying, error, refusedText}
-use Rattle.pack.specs.Image.{bytesOf}
+use Rattle.pack.specs.Image.{bytesOf, sizeFor}
+use Rattle.pack.proofs.Image.{size-few}
 use Rattle.runs.specs.declared.Outcome.{Outcome}
 use Rattle.runs.specs.declared.Outcome.the-variants.{Done, Over}
 use Rattle.runs.specs.Run.{outcomeNumber}
@@ -45,20 +46,26 @@ pub alike : (word s : List ℕ) → 32768 < length s → wordSpeech word s ≡ o
 unfolding wordSpeech takenSpeech
 alike word s h = rw (outcome-told s, lt-ltb 32768 (length s) h) refl
 
--- ---- the image of a slot taken out into a room of 60 bytes
+-- ---- the image of a slot taken out into a room of 61 bytes
 
-module _ {τ : Tray} {i : ℕ} {room after : List ℕ} {answer : ℕ} (t : SlotOut τ i room answer after) (size : length room ≡ 60) where
-  long : leb 60 (length room) ≡ true
-  long = le-leb 60 (length room) (omega arith)
+module _ {τ : Tray} {i : ℕ} {room after : List ℕ} {answer : ℕ} (t : SlotOut τ i room answer after) (size : length room ≡ 61) where
+  long : leb (sizeFor (packOf τ i)) (length room) ≡ true
+  long = le-leb (sizeFor (packOf τ i)) (length room) (omega (arith, size-few (packOf τ i)))
 
-  pub handed : answer ≡ 0 → length after ≡ length room → Saying (slotSpeech Done τ i) room (record { stream = Output; count = length after }) after
-  handed zero kept = by (slotHeld τ i) refl
+  pub handed : {count : ℕ} → answer ≡ 0 → length after ≡ length room → count ≡ sizeFor (packOf τ i) → Saying (slotSpeech Done τ i) room (record { stream = Output; count = count }) after
+  handed {count} zero kept size-told = by (slotHeld τ i) refl
     where
-      by : (b : Bool) → slotHeld τ i ≡ b → Saying (slotSpeech Done τ i) room (record { stream = Output; count = length after }) after
+      by : (b : Bool) → slotHeld τ i ≡ b → Saying (slotSpeech Done τ i) room (record { stream = Output; count = count }) after
       by true e =
-          let whole : after ≡ bytesOf (packOf τ i) =
-          rw (e, long) at (t .written) ∙ ap (λ (rest : List ℕ). bytesOf (packOf τ i) ++ rest) (drop-of-length-le room {i = 60} (omega arith)) ∙ append-nil (bytesOf (packOf τ i)) in
-          rw e (record { stream = refl; counted = ap length whole; written = whole ∙ sym (put-whole room (bytesOf (packOf τ i)) (sym (ap length whole) ∙ kept)) })
+          let all = rw (e, long) at (t .written) in
+          let length-is : length (bytesOf (packOf τ i)) ≡ sizeFor (packOf τ i) =
+          omega (arith, sym (ap length all) ∙ kept, length-append (bytesOf (packOf τ i)) (drop (sizeFor (packOf τ i)) room), length-drop (sizeFor (packOf τ i)) room, size-few (packOf τ i)) in
+          rw e
+          (record {
+            stream = refl;
+            counted = size-told ∙ sym length-is;
+            written = all ∙ ap (λ (n : ℕ). bytesOf (packOf τ i) ++ drop n room) (sym length-is) ∙ sym (put-front room (bytesOf (packOf τ i)) (omega (arith, length-is, size-few (packOf τ i))));
+          })
       by false e = let five : answer ≡ 5 = rw e at (t .number) in absurd (omega arith)
 
   -- an answer that is not 0 is 5, and nothing was written

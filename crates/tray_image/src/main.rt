@@ -44,7 +44,7 @@ fn slot_of(word: &[u8]) -> u8
 }
 
 fn put_no_number(room: &mut [u8]) -> Said
-    requires { ⌜ length (now room) ≡ 60 ⌝ }
+    requires { ⌜ length (now room) ≡ 61 ⌝ }
     ensures { λ r. ⌜ Saying (error noNumberText) (now (room .entry)) r (now (room .exit)) ⌝ }
 {
     let count = digits::put_bytes(b"tray_image: SLOT is no number\n", room, 0);
@@ -59,12 +59,12 @@ fn put_no_number(room: &mut [u8]) -> Said
 
 // The image of a slot of a session that was run to its end.
 fn put_image(tray: Tray, slot: u8, room: &mut [u8]) -> Said
-    requires { ⌜ length (now room) ≡ 60 ⌝ }
+    requires { ⌜ length (now room) ≡ 61 ⌝ }
     ensures { λ r. ⌜ Saying (slotSpeech Done tray slot) (now (room .entry)) r (now (room .exit)) ⌝ }
 {
     let answer = trays::take_out(tray, slot, room);
     if answer == 0 {
-        let count = room.len();
+        let count = trays::image_size(tray, slot);
         let stream = Stream::Output;
         return Said {
             stream: stream,
@@ -75,7 +75,7 @@ fn put_image(tray: Tray, slot: u8, room: &mut [u8]) -> Said
 }
 
 fn put_taken(s: &[u8], slot: u8, room: &mut [u8]) -> Said
-    requires { ⌜ length (now room) ≡ 60 ⌝ }
+    requires { ⌜ length (now room) ≡ 61 ⌝ }
     ensures { λ r. ⌜ Saying (takenSpeech slot (now (s .entry))) (now (room .entry)) r (now (room .exit)) ⌝ }
 {
     let mut replies = [0u8; 65536];
@@ -99,7 +99,7 @@ fn put_taken(s: &[u8], slot: u8, room: &mut [u8]) -> Said
 }
 
 fn put_asked(word: &[u8], s: &[u8], room: &mut [u8]) -> Said
-    requires { ⌜ length (now room) ≡ 60 ⌝ }
+    requires { ⌜ length (now room) ≡ 61 ⌝ }
     ensures { λ r. ⌜ Saying (wordSpeech (now (word .entry)) (now (s .entry))) (now (room .entry)) r (now (room .exit)) ⌝ }
 {
     if is_number(word) {
@@ -109,9 +109,9 @@ fn put_asked(word: &[u8], s: &[u8], room: &mut [u8]) -> Said
 }
 
 // What the program says. A byte more than a session may have is enough to know of any input. (That the room keeps its length is said for `main`.)
-fn extracted(word: &[u8], input: &[u8; 32769], got: Input, room: &mut [u8; 60]) -> Said
+fn extracted(word: &[u8], input: &[u8; 32769], got: Input, room: &mut [u8; 61]) -> Said
     ensures { λ r. ⌜ ((s : List ℕ) → Front s (now (input .entry)) (got .count) → Saying (extractedOf (got .failed) (now (word .entry)) s) (now (room .entry)) r (now (room .exit))) ⌝ }
-    ensures { λ _. ⌜ 60 ≡ length (now (room .exit)) ⌝ }
+    ensures { λ _. ⌜ 61 ≡ length (now (room .exit)) ⌝ }
 {
     if got.failed {
         return streams::put_unread(b"tray_image", room);
@@ -126,7 +126,7 @@ fn main() {
     let length = os::arg(1, &mut word);
     let mut input = [0u8; 32769];
     let got = streams::read_input(&mut input);
-    let mut room = [0u8; 60];
+    let mut room = [0u8; 61];
     let said = extracted(&word[..length], &input, got, &mut room);
     streams::say(b"tray_image", said, &room);
 }

@@ -17,6 +17,7 @@ use Rattle.meter.specs.Read.{readOf}
 use Rattle.samples.specs.Samples.{sampleOf}
 use Rattle.gauge.specs.Gauge.{GaugeWF, withMeter, conversionOf, samplingOf, readingOf, powerOnOf}
 use Rattle.gauge.specs.Change.{changedOf}
+use Rattle.profile.specs.declared.Profile.{Profile}
 use Rattle.pack.specs.Image.{imageOf}
 use Rattle.events.specs.declared.Change.{Change as Changes}
 use Rattle.events.specs.declared.Change.the-variants.{Reading, Conversion, Sample, PowerOn}
@@ -141,12 +142,13 @@ module _ {τ : Tray} {room : List ℕ} {used : ℕ} {l : List ℕ} {r : Record} 
   pub turn-idle : r .event ≡ asked.Nothing → σ ≡ τ → after ≡ room → next ≡ used → line ≡ codeOf (r .kind) (r .answer) 0 → Turn τ room used l σ after next line
   turn-idle a e = every.turn-idle ofTray trayDid did-same TrayWF f (subst TrayWF (sym e) w) a e
 
-  pub turn-image : {i : ℕ} {g : Gauge} → Ran ofTray τ (length room - used) l (r .used) Image → i ≡ τ .count → GaugeWF g → g ≡ imageOf (payloadOf (r .used) l)
+  pub turn-image : {k : Profile} {i : ℕ} {g : Gauge} → Ran ofTray τ (length room - used) l (r .used) (Image k) → i ≡ τ .count → GaugeWF g
+      → g ≡ imageOf k (payloadOf (r .used) l)
       → σ ≡ record { count = τ .count + 1; closed = τ .closed; commons = set (τ .commons) i (g .common); labels = set (τ .labels) i (g .label); meters = set (τ .meters) i (g .meter) }
       → after ≡ room → next ≡ used → line ≡ codeOf (r .kind) (r .answer) 0 → Turn τ room used l σ after next line
-  turn-image {i} {g} x ei v eg e =
-      let joined : σ ≡ packJoined τ (imageOf (payloadOf (r .used) l)) = e ∙ rw (ei, eg) refl in
-      let kept = join-wf τ i (imageOf (payloadOf (r .used) l)) w (ran-taking x .1) (subst GaugeWF eg v) in
+  turn-image {k} {i} {g} x ei v eg e =
+      let joined : σ ≡ packJoined τ (imageOf k (payloadOf (r .used) l)) = e ∙ rw (ei, eg) refl in
+      let kept = join-wf τ i (imageOf k (payloadOf (r .used) l)) w (ran-taking x .1) (subst GaugeWF eg v) in
       every.turn-silent ofTray trayDid did-same TrayWF f (subst TrayWF (sym joined) kept) x (ap (λ (s : Tray). silently s 0) (sym joined))
 
   -- an event of a slot: its pack's label and meter afterwards

@@ -11,6 +11,7 @@ use Rattle.trays.specs.declared.Ran.{Ran}
 use Rattle.trays.specs.Run.{trayResultOf}
 use Rattle.trays.proofs.run
 use Rattle.trays.proofs.take_out
+use Rattle.trays.proofs.image_size
 
 ran-of : Result Tray → Ran
 ran-of r = record { outcome = r .outcome; tray = r .state; lines = r .lines; replied = r .replied }
@@ -25,3 +26,6 @@ run-once κs a r r′ w w′ p h h′ =
 
 pub take-out-once : Once «take_out».ended «take_out».Reads.Pre «take_out».Reads.Learnt
 take-out-once κs a r r′ w w′ p h h′ = (h .number ∙ sym (h′ .number), λ i. (tt, (tt, ((h .written ∙ sym (h′ .written)) i, tt))))
+
+pub image-size-once : Once «image_size».ended «image_size».Reads.Pre «image_size».Reads.Learnt
+image-size-once κs a r r′ w w′ p h h′ = (h ∙ sym h′, refl)

@@ -6,9 +6,8 @@ use Prim.Native.Nat.{ℕ}
 use lib.Dec.{ltb, leb}
 use lib.ListN.{length}
 use Rattle.numbers.specs.Choice.{pick, both}
-use Rattle.pack.specs.Image.{roomAfter}
+use Rattle.pack.specs.Image.{sizeFor, roomAfter}
 use Rattle.events.specs.declared.Refusal.the-variants.{Order, Room}
-use Rattle.events.specs.Image.{imageSize}
 use Rattle.events.specs.Record.{refusalNumber}
 use Rattle.runs.specs.declared.Outcome.{Outcome}
 use Rattle.runs.specs.Record.{recsOf}
@@ -29,18 +28,18 @@ trayResultOf r = record { outcome = r .outcome; state = r .tray; lines = r .line
 abbrev pub trayIdleOf : Outcome → Ran
 trayIdleOf o = record { outcome = o; tray = emptyTray; lines = 0; replied = 0 }
 
--- ---- the image taken out of a slot: 5 for a slot without an image, from 8 on too, then 9 for a room under 60
+-- ---- the image taken out of a slot: 5 for a slot without an image, from 8 on too, then 9 for a room under 60, or under 61
 
 abbrev pub slotHeld : Tray → ℕ → Bool
 slotHeld τ i = both (ltb i 8) (ltb i (τ .count))
 
 abbrev pub slotOutNumber : Tray → ℕ → List ℕ → ℕ
 slotOutNumber τ i room =
-    pick (slotHeld τ i) (pick (leb imageSize (length room)) 0 (refusalNumber Room)) (refusalNumber Order)
+    pick (slotHeld τ i) (pick (leb (sizeFor (packOf τ i)) (length room)) 0 (refusalNumber Room)) (refusalNumber Order)
 
 -- nothing is written on a refusal
 abbrev pub slotOutRoom : Tray → ℕ → List ℕ → List ℕ
-slotOutRoom τ i room = pick (slotHeld τ i) (roomAfter (leb imageSize (length room)) (packOf τ i) room) room
+slotOutRoom τ i room = pick (slotHeld τ i) (roomAfter (leb (sizeFor (packOf τ i)) (length room)) (packOf τ i) room) room
 
 pub record SlotOut (τ : Tray) (i : ℕ) (room : List ℕ) (answer : ℕ) (after : List ℕ) : Type 0 where
   pub number : answer ≡ slotOutNumber τ i room

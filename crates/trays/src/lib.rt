@@ -15,7 +15,8 @@ ghost use mathlib.Core.Path.{_≡_};
 ghost use Prim.Native.Nat.{_+_, _/_, _≤_};
 ghost use lib.ListN.{length};
 ghost use Rattle.runs.specs.Run.{Running, Runs};
-ghost use Rattle.slots.specs.Tray.{TrayWF, emptyTray, trayDid};
+ghost use Rattle.pack.specs.Image.{sizeFor};
+ghost use Rattle.slots.specs.Tray.{TrayWF, emptyTray, packOf, trayDid};
 ghost use Rattle.trays.specs.Run.{trayResultOf, trayIdleOf, SlotOut};
 
 // What a tray session did: the state at its end, how many lines it has, and how many bytes of reply.
@@ -55,9 +56,9 @@ fn run_all(s: &[u8], room: &mut [u8], answers: &mut [u64]) -> Ran
         match asked {
             Asked::Nothing => {}
             Asked::Run(e) => match e {
-                Event::Image => {
+                Event::Image(f) => {
                     let n = parts::wide(tray.count);
-                    let g = pack::image_in(&l[4..end]);
+                    let g = pack::image_in(f, &l[4..end]);
                     let common = g.common;
                     let label = g.label;
                     let meter = g.meter;
@@ -133,7 +134,7 @@ fn sized(commons: [Common; 8], labels: [Label; 8], meters: [Meter; 8])
     ensures { λ _. ⌜ (length commons ≡ 8) × (length labels ≡ 8) × (length meters ≡ 8) ⌝ }
 {}
 
-// The image taken out of a slot: its answer number, and the first 60 bytes of the room.
+// The image taken out of a slot: its answer number, and the first bytes of the room.
 pub fn take_out(tray: Tray, slot: u8, room: &mut [u8]) -> u8
     ensures { λ r. ⌜ SlotOut tray slot (now (room .entry)) r (now (room .exit)) ⌝ }
 {
@@ -157,6 +158,24 @@ pub fn take_out(tray: Tray, slot: u8, room: &mut [u8]) -> u8
         return events::number(Taken::Refused(Refusal::Room));
     }
     events::number(Taken::Refused(Refusal::Order))
+}
+
+// How many bytes the image of a slot has; as many as one of kind 1 where a tray has no such slot.
+pub fn image_size(tray: Tray, slot: u8) -> usize
+    ensures { λ r. ⌜ r ≡ sizeFor (packOf tray slot) ⌝ }
+{
+    let i = parts::wide(slot);
+    let commons = tray.commons;
+    let labels = tray.labels;
+    let meters = tray.meters;
+    sized(commons, labels, meters);
+    if i < 8 {
+        let meter = meters[i];
+        let cells = meter.cells;
+        let f = cells.profile;
+        return profile::size(f);
+    }
+    60
 }
 
 // A whole tray session: an answer for each record, the replies one after the other at the front of the room, the state at the end. Nothing

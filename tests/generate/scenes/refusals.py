@@ -1,6 +1,6 @@
 """Records that are refused, and a reply room that is used up."""
 from builder import (
-    CONVERSION, IMAGE, LONG_TRANSACTION, POWER_ON, READING, REPLY_ROOM, SAMPLE, TRANSACTION, WRITE, Session, crc, little, profile, record, some, unknown)
+    CAMERA_IMAGE, CONVERSION, FAMILY, IMAGE, LONG_TRANSACTION, POWER_ON, READING, REPLY_ROOM, SAMPLE, TRANSACTION, WRITE, Session, crc, little, profile, record, some, unknown)
 from scenes.bus import any_event, any_transaction
 from scenes.pack import battery, start
 
@@ -15,19 +15,32 @@ def crossed(chance):
         [high, base, base], [high, more, base], [high, high, high]]))
 
 
+def with_family(image, family):
+    """An image or an address with another first byte, and the CRC that belongs to it."""
+    serial = bytes([family]) + bytes(image[1:7])
+    return serial + bytes([crc(serial)]) + bytes(image[8:])
+
+
 def wrong_image(session):
     """An image that is refused, also where none was accepted before."""
     chance = session.chance
-    good = session.address + bytes(48) + b"\x00\x00\x80\x00"
+    kind = chance.choice([IMAGE, IMAGE, CAMERA_IMAGE])
+    end = b"\x07" if kind == CAMERA_IMAGE else b""
+    good = with_family(session.address, FAMILY[kind]) + bytes(48) + b"\x00\x00\x80\x00" + end
     flipped = bytearray(good)
     flipped[chance.randrange(8)] ^= 1 << chance.randrange(8)
-    family = bytes([chance.choice([0x00, 0x32, 0x3C, 0x3E])]) + session.address[1:7]
-    other_family = family + bytes([crc(family)]) + good[8:]
-    lock = bytes([chance.choice([4, 4, 5, 8, 255])])
+    other_family = with_family(good, chance.choice([0x00, FAMILY[IMAGE + CAMERA_IMAGE - kind], FAMILY[IMAGE + CAMERA_IMAGE - kind], 0x3C, 0x3E]))
+    lock = bytes([chance.choice([4, 4, 5, 8, 255])]) + end
     cross = crossed(chance) + good[55:59]
-    session.add(IMAGE, some(chance, flipped, other_family, good[:59] + lock, bytes(flipped[:59]) + lock, good[:59],
-                            good + b"\x00", good[:52] + cross + good[59:], good[:52] + cross + good[59:],
-                            good[:52] + cross + lock, bytes(flipped[:52]) + cross + good[59:]))
+    session.add(kind, some(chance, flipped, other_family, other_family, good[:59] + lock, bytes(flipped[:59]) + lock, good[:-1],
+                           good + b"\x00", good[:52] + cross + good[59:], good[:52] + cross + good[59:],
+                           good[:52] + cross + lock, bytes(flipped[:52]) + cross + good[59:]))
+
+
+def other_image(session):
+    """An image of the other kind, which is good, and refused after one was accepted."""
+    kind = IMAGE + CAMERA_IMAGE - session.image_kind
+    session.add(kind, with_family(session.address, FAMILY[kind]) + bytes(48) + b"\x00\x00\x80\x00" + bytes([9] if kind == CAMERA_IMAGE else []))
 
 
 def wrong_record(session):
@@ -82,7 +95,8 @@ def refusals(chance):
     session.room = REPLY_ROOM
     for _ in range(chance.randint(50, 250)):
         some(chance, lambda: wrong_record(session), lambda: wrong_record(session), lambda: any_event(session),
-             lambda: any_transaction(session), lambda: session.image(), lambda: session.registers())
+             lambda: any_transaction(session), lambda: session.image(), lambda: other_image(session),
+             lambda: session.registers())
         if not session.room_for(1500):
             break
     return session.finish() + (cut(chance) if chance.random() < 0.7 else b"")

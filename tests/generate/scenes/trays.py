@@ -1,11 +1,11 @@
 """Trays: up to eight packs on one line, what opens and closes a tray, events by slot, and transactions to one pack, to all and to nobody."""
 from builder import (
-    CONTROL, CONVERSION, COPY, IMAGE, LOCK, LONG_TRANSACTION, POWER_ON, READ, READING, RECALL, SAMPLE, SESSION_LIMIT, SLOT_KINDS, SLOTS, TBP34, TRANSACTION,
+    CAMERA_IMAGE, CONTROL, CONVERSION, COPY, CYCLES, FAMILY, IMAGE, LOCK, LONG_TRANSACTION, POWER_ON, READ, READING, RECALL, SAMPLE, SESSION_LIMIT, SLOT_KINDS, SLOTS, TBP34, TRANSACTION,
     TRAY_SIZES, WRITE, Tray, boundaries, crc, little, play, record, some, tray_profile, tray_unknown)
 from scenes.bus import (
     acr_writes, any_event, any_transaction, block_dance, lock_dance, net_address_dance, past_the_end, status_dance)
 from scenes.pack import battery, in_order, temperature
-from scenes.refusals import crossed
+from scenes.refusals import crossed, with_family
 from scenes.samples import some_ticks
 
 
@@ -14,12 +14,14 @@ def how_many(chance):
 
 
 def addresses(tray):
-    """An address for each pack; in half of the trays two differ in one byte and the CRC alone."""
+    """An address for each pack; in half of the trays two differ in one byte and the CRC alone, which is the family of packs of two kinds."""
     chance = tray.chance
     for pack in tray.packs[1:]:
         if chance.random() < 0.5:
-            near = bytearray(chance.choice(tray.packs[:pack.slot]).address[:7])
-            near[chance.choice([1, 5, 6, 6])] ^= 1 << chance.randrange(8)
+            other = chance.choice(tray.packs[:pack.slot])
+            near = bytearray(with_family(other.address, FAMILY[pack.image_kind])[:7])
+            if other.camera == pack.camera:
+                near[chance.choice([1, 5, 6, 6])] ^= 1 << chance.randrange(8)
             pack.address = bytes(near) + bytes([crc(near)])
     if len({pack.address for pack in tray.packs}) < len(tray.packs):  # two near ones of one address may be the same
         for pack in tray.packs:
@@ -45,10 +47,24 @@ def opened(chance, packs=None, locks=None):
 
 
 def image_of(pack, address=None, breakpoints=None, locks=0):
-    """The bytes of some image."""
+    """The kind and the bytes of some image, of the kind that the address asks for."""
     block = bytearray(pack.block_1)
     block[TBP34 - 0x60:TBP34 - 0x60 + 3] = breakpoints or in_order(block[TBP34 - 0x60:TBP34 - 0x60 + 3])
-    return (address or pack.new_address()) + pack.chance.randbytes(16) + bytes(block) + pack.chance.randbytes(3) + bytes([locks])
+    address = address or pack.new_address()
+    camera = address[0] == FAMILY[CAMERA_IMAGE]
+    bytes_there = address + pack.chance.randbytes(16) + bytes(block) + pack.chance.randbytes(3) + bytes([locks])
+    return (CAMERA_IMAGE, bytes_there + pack.chance.randbytes(1)) if camera else (IMAGE, bytes_there)
+
+
+def of_another_size(image, change):
+    kind, bytes_there = image
+    return kind, bytes_there[:-1] if change < 0 else bytes_there + b"\x00"
+
+
+def of_another_kind(image):
+    """With the length of the other kind, and the family of its own."""
+    kind, bytes_there = image
+    return (CAMERA_IMAGE, bytes_there + b"\x05") if kind == IMAGE else (IMAGE, bytes_there[:60])
 
 
 def odd_image(tray, taken):
@@ -58,7 +74,7 @@ def odd_image(tray, taken):
     broken = bytearray(known or pack.new_address())
     broken[chance.choice([0, 1, 7, 7])] ^= 1 << chance.randrange(8)
     lock = chance.choice([4, 4, 5, 255])
-    pack.add(IMAGE, some(
+    pack.add(*some(
         chance,
         lambda: image_of(pack, known),
         lambda: image_of(pack, known),
@@ -70,8 +86,9 @@ def odd_image(tray, taken):
         lambda: image_of(pack, bytes(broken), crossed(chance), lock),
         lambda: image_of(pack, breakpoints=crossed(chance)),
         lambda: image_of(pack, locks=lock),
-        lambda: image_of(pack, known)[:59],
-        lambda: image_of(pack, known) + b"\x00"))
+        lambda: of_another_kind(image_of(pack, known)),
+        lambda: of_another_size(image_of(pack, known), -1),
+        lambda: of_another_size(image_of(pack, known), 1)))
 
 
 def to_nobody(tray):
@@ -179,10 +196,10 @@ def opening(chance):
             odd_image(tray, taken)
     elif len(taken) == SLOTS:
         for _ in range(chance.randint(1, 3)):
-            some(chance, lambda: tray.everyone.add(IMAGE, image_of(tray.everyone)), lambda: odd_image(tray, taken))
+            some(chance, lambda: tray.everyone.add(*image_of(tray.everyone)), lambda: odd_image(tray, taken))
     chance.choice(CLOSERS)(tray)
     for _ in range(chance.randint(1, 4)):
-        some(chance, lambda: tray.everyone.add(IMAGE, image_of(tray.everyone)), lambda: odd_image(tray, taken), lambda: refused_event(tray),
+        some(chance, lambda: tray.everyone.add(*image_of(tray.everyone)), lambda: odd_image(tray, taken), lambda: refused_event(tray),
              lambda: to_missing(tray))
     for _ in range(chance.randint(0, 10)):
         some(chance, lambda: slot_event(chance.choice(tray.packs)), lambda: to_nobody(tray), lambda: odd_image(tray, taken))
@@ -298,7 +315,7 @@ def labels_read(tray):
 def written_to_all(tray):
     """One write to every pack, then what each has; a copy or a recall over all."""
     chance, all_packs = tray.chance, tray.everyone
-    first = chance.choice([0x20, 0x60, 0x10, 0x14, 0x1F, 0x01])
+    first = chance.choice([0x20, 0x60, 0x10, 0x14, CYCLES, 0x1F, 0x01])
     size = {0x20: 16, 0x60: 32}.get(first, 2)
     all_packs.write(first, chance.randbytes(chance.randint(1, size)))
     if first in (0x20, 0x60) and chance.random() < 0.7:
@@ -349,7 +366,8 @@ def packs_at_work(chance):
     tray = opened(chance, locks=chance.choice([0, 1]))
     length = chance.randint(3000, SESSION_LIMIT - 9000)
     while len(tray.records) < length and tray.room > 8000:
-        play(chance.choice(tray.packs), chance.choice(["walk", "samples", "aimed"]))
+        pack = chance.choice(tray.packs)
+        play(pack, chance.choice(["walk", "samples", "aimed"] + ["cycles"] * 2 * pack.camera))
         some(chance, lambda: tray.everyone.registers(), lambda: to_nobody(tray), lambda: refused_event(tray))
     return tray.finish()
 

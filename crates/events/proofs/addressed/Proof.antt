@@ -5,17 +5,10 @@ use Rattle.events.proofs.addressed.Tie as tie
 
 returns : tie.Need-returns
 unfolding addressedOf
-returns c = simp (c .and .ensures, c .before .before .before .crc .ensures)
+returns c =
+    let c2 = c .before .before in
+    let c4 = c2 .before .before in
+    simp (c .and .ensures, c2 .family .ensures, c4 .crc .ensures)
 
 pub addressed-spec : {M : Type 1} → statement M
-addressed-spec =
-    tie.close
-    (tie.spec
-    (λ c. search needs)
-    (λ c. search needs)
-    (λ c. search needs)
-    (λ c κs. search needs)
-    (λ c. search needs)
-    (λ c. search needs)
-    (λ c κs. search needs)
-    returns)
+addressed-spec = tie.close (tie.spec (λ c. search needs) (λ c. search needs) (λ c. search needs) (λ c κs. search needs) (λ c. search needs) (λ c κs. search needs) (λ c. search needs) (λ c κs. search needs) returns)

@@ -73,10 +73,10 @@ returns-15 c = rw (c .before .match .keys15) (c .two4 .ensures)
 returns-16 : tie.Need-returns-16
 unfolding registersOf
 returns-16 c =
-    let start = c .before .before .before in
+    let start = c .before .before .before .before in
     let at = start .args .at in
     let even = start .pre .1 .1 in
-    let r = c .before .before .match .rest in
+    let r = c .before .before .before .match .rest in
     let h₁ = past at 0x0 even (omega arith) (r .0 .0 .0 .0 .0 .0 .0 .0 .0 .0 .0 .0 .0 .0 .1) in
     let h₂ = past at 0x1 even h₁ (r .0 .0 .0 .0 .0 .0 .0 .0 .0 .0 .0 .0 .0 .1) in
     let h₃ = past at 0x2 even h₂ (r .0 .0 .0 .0 .0 .0 .0 .0 .0 .0 .0 .0 .1) in
@@ -93,7 +93,7 @@ returns-16 c =
     let h₁₄ = past at 0xd even h₁₃ (r .0 .1) in
     let h₁₅ = past at 0xe even h₁₄ (r .1) in
     let last : at ≡ 0x1e = omega (arith, h₁₅, start .pre .1) in
-    rw last (c .two5 .ensures ∙ ap (twoOf 0xff) (c .before .eeprom .ensures))
+    rw last (c .two5 .ensures ∙ (λ i. twoOf (c .before .before .cycle-byte .ensures i) (c .before .eeprom .ensures i)))
 
 pub register-spec : {M : Type 1} → statement M
 register-spec =
@@ -116,6 +116,7 @@ register-spec =
     (λ c κs. search needs)
     (λ c. search needs)
     (λ c. search needs)
+    (λ c κs. search needs)
     (λ c κs. search needs)
     (λ c κs. search needs)
     (λ c κs. search needs)

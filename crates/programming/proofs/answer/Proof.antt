@@ -1,5 +1,6 @@
 use mathlib.Core.Path.{sym, _∙_}
 use denote.Ref.{now}
+use Rattle.profile.specs.declared.Profile.the-variants.{Ds2781}
 use Rattle.events.proofs.Fits.{judged-sized}
 use Rattle.programming.specs.Programming.{answerOf}
 use borrow.Author.Needs.{needs}
@@ -7,7 +8,7 @@ use Rattle.programming.proofs.answer.Statement.{statement}
 use Rattle.programming.proofs.answer.Tie as tie
 
 accepted-requires : tie.Need-accepted-requires
-accepted-requires c κs = judged-sized (now (c .before .before .before .before .before .args .image)) (sym (c .before .before .judged .ensures) ∙ c .enum-told .given .1)
+accepted-requires c κs = judged-sized Ds2781 (now (c .before .before .before .before .before .args .image)) (sym (c .before .before .judged .ensures) ∙ c .enum-told .given .1)
 
 returns : tie.Need-returns
 unfolding answerOf

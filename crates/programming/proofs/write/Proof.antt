@@ -2,6 +2,7 @@
 use mathlib.Core.Path.{sym, ap, _∙_}
 use lib.ListN.{length}
 use denote.Ref.{now}
+use Rattle.profile.specs.declared.Profile.the-variants.{Ds2781}
 use Rattle.events.proofs.Fits.{judged-sized}
 use Rattle.programming.specs.Programming.{writtenNumber}
 use Rattle.programming.proofs.Laws.{granted}
@@ -13,7 +14,7 @@ put-session-requires : tie.Need-put-session-requires
 put-session-requires c κs =
     let a = c .before .before .before .before .before .before .before .args in
     let g = granted (now (a .image)) (now (a .wanted)) (length (now (a .room))) (sym (c .before .before .before .answer .ensures) ∙ c .before .enum-told .given .1) in
-    (judged-sized (now (a .image)) (g .accepted), (g .all, g .fits))
+    (judged-sized Ds2781 (now (a .image)) (g .accepted), (g .all, g .fits))
 
 returns : tie.Need-returns
 returns c =

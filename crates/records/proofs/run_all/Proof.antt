@@ -43,7 +43,7 @@ turned c =
     let f = at-front (c .before .before) in
     let n = c .before .code .ensures in
     ⊎-elim (λ w. turn-idle f (w .1 .given .1) (g .wf .gauge) (w .3) (w .4) (w .2) (w .5) (w .6 ∙ n))
-    (⊎-elim (λ w. turn-silent f (w .6 .ensures .1) (w .8) (w .9) (ran ofSession f (w .1 .given .1 ∙ ap Run (w .4 .given .1))) (w .6 .ensures .0) refl (w .7) (w .10) (w .11 ∙ n))
+    (⊎-elim (λ w. turn-silent f (w .7 .ensures .1) (w .9) (w .10) (ran ofSession f (w .1 .given .1 ∙ ap Run (w .4 .given .1))) (w .7 .ensures .0) refl (w .8) (w .11) (w .12 ∙ n))
     (⊎-elim (λ w. turn-silent f (w .9 .ensures .1) (w .11) (w .12) (ran ofSession f (w .1 .given .1 ∙ ap Run (w .4 .given .1 ∙ ap Change (w .7 .given .1)))) (w .9 .ensures .0) refl (w .10) (w .13) (w .14 ∙ n))
     (⊎-elim (λ w. turn-silent f (w .9 .ensures .1) (w .11) (w .12) (ran ofSession f (w .1 .given .1 ∙ ap Run (w .4 .given .1 ∙ ap Change (w .7 .given .1)))) (w .9 .ensures .0) refl (w .10) (w .13) (w .14 ∙ n))
     (⊎-elim (λ w. turn-silent f (w .9 .ensures .1) (w .11) (w .12) (ran ofSession f (w .1 .given .1 ∙ ap Run (w .4 .given .1 ∙ ap Change (w .7 .given .1)))) (w .9 .ensures .0) refl (w .10) (w .13) (w .14 ∙ n))
@@ -66,16 +66,16 @@ sub-front : tie.Need-sub-front Inv-loop μ-loop
 sub-front c = omega (arith, c .before .before .loop .inv .going .used-fits, c .before .before .loop .inv .going .same-room)
 
 sub-image-in : tie.Need-sub-image-in Inv-loop μ-loop
-sub-image-in c = omega (arith, ran ofSession (at-front (c .before .before .before .before .before .before)) (c .before .before .before .asked .given .1) .head)
+sub-image-in c = omega (arith, ran ofSession (at-front (c .before .before .before .before .before .before .before)) (c .before .before .before .before .asked .given .1) .head)
 
 part-image-in-start : tie.Need-part-image-in-start Inv-loop μ-loop
-part-image-in-start c = omega (arith, ran ofSession (at-front (c .before .before .before .before .before .before)) (c .before .before .before .asked .given .1) .head)
+part-image-in-start c = omega (arith, ran ofSession (at-front (c .before .before .before .before .before .before .before)) (c .before .before .before .before .asked .given .1) .head)
 
 part-image-in-end : tie.Need-part-image-in-end Inv-loop μ-loop
-part-image-in-end c = omega (arith, front-fits ofSession didOf did-same SessionWF (c .before .before .before .before .before .before .before .before .before .loop .inv) (c .before .before .before .before .before .before .before .before .loop-test .taken) (at-front (c .before .before .before .before .before .before)))
+part-image-in-end c = omega (arith, front-fits ofSession didOf did-same SessionWF (c .before .before .before .before .before .before .before .before .before .before .loop .inv) (c .before .before .before .before .before .before .before .before .before .loop-test .taken) (at-front (c .before .before .before .before .before .before .before)))
 
 image-in-requires : tie.Need-image-in-requires Inv-loop μ-loop
-image-in-requires c κs = ran-taking (ran ofSession (at-front (c .before .before .before .before .before .before .before)) (c .before .before .before .before .asked .given .1 ∙ ap Run (c .before .enum-told2 .given .1))) .2
+image-in-requires c κs = ran-taking (ran ofSession (at-front (c .before .before .before .before .before .before .before .before)) (c .before .before .before .before .before .asked .given .1 ∙ ap Run (c .before .before .e .given .1))) .2
 
 read-requires : tie.Need-read-requires Inv-loop μ-loop
 read-requires c κs = c .before .before .before .before .before .before .before .before .before .before .before .before .before .loop .inv .wf .gauge
@@ -87,16 +87,16 @@ sample-requires : tie.Need-sample-requires Inv-loop μ-loop
 sample-requires c κs = c .before .before .before .before .before .before .before .before .before .before .before .before .before .loop .inv .wf .gauge
 
 add-from : tie.Need-add-from Inv-loop μ-loop
-add-from c = omega (arith, ran-taking (ran ofSession (at-front (c .before .before .before .before .before .before .before .before)) (c .before .before .before .before .before .asked .given .1 ∙ ap Run (c .before .before .e2 .given .1))) .1 .near)
+add-from c = omega (arith, ran-taking (ran ofSession (at-front (c .before .before .before .before .before .before .before .before)) (c .before .before .before .before .before .asked .given .1 ∙ ap Run (c .before .before .e3 .given .1))) .1 .near)
 
 sub-transact : tie.Need-sub-transact Inv-loop μ-loop
 sub-transact c =
-    let x = ran ofSession (at-front (c .before .before .before .before .before .before .before .before)) (c .before .before .before .before .before .asked .given .1 ∙ ap Run (c .before .before .e2 .given .1)) in
+    let x = ran ofSession (at-front (c .before .before .before .before .before .before .before .before)) (c .before .before .before .before .before .asked .given .1 ∙ ap Run (c .before .before .e3 .given .1)) in
     omega (arith, master-starts ofSession x (ran-taking x .1))
 
 part-transact-start : tie.Need-part-transact-start Inv-loop μ-loop
 part-transact-start c =
-    let x = ran ofSession (at-front (c .before .before .before .before .before .before .before .before)) (c .before .before .before .before .before .asked .given .1 ∙ ap Run (c .before .before .e2 .given .1)) in
+    let x = ran ofSession (at-front (c .before .before .before .before .before .before .before .before)) (c .before .before .before .before .before .asked .given .1 ∙ ap Run (c .before .before .e3 .given .1)) in
     omega (arith, master-starts ofSession x (ran-taking x .1))
 
 part-transact-end : tie.Need-part-transact-end Inv-loop μ-loop
@@ -114,11 +114,11 @@ part-transact-end-2 c = omega (arith, c .before .before .before .before .before 
 transact-requires : tie.Need-transact-requires Inv-loop μ-loop
 transact-requires c κs =
     let l = c .before .before .before .before .before .before .before .before .before .before .before .before .before .loop in
-    let x = ran ofSession (at-front (c .before .before .before .before .before .before .before .before .before .before)) (c .before .before .before .before .before .before .before .asked .given .1 ∙ ap Run (c .before .before .before .before .e2 .given .1)) in
+    let x = ran ofSession (at-front (c .before .before .before .before .before .before .before .before .before .before)) (c .before .before .before .before .before .before .before .asked .given .1 ∙ ap Run (c .before .before .before .before .e3 .given .1)) in
     (l .inv .wf .gauge, omega (arith, x .held, room-left (l .room) (l .used)))
 
 add-used : tie.Need-add-used Inv-loop μ-loop
-add-used c = omega (arith, ran ofSession (at-front (c .before .before .before .before .before .before .before .before .before .before .before .before .before .before)) (c .before .before .before .before .before .before .before .before .before .before .before .asked .given .1 ∙ ap Run (c .before .before .before .before .before .before .before .before .e2 .given .1)) .held, c .before .before .before .before .before .before .before .before .before .before .before .before .before .before .before .before .before .loop .inv .going .used-fits, c .before .before .before .before .before .before .before .before .before .before .before .before .before .before .before .before .before .loop .inv .going .same-room, c .before .before .before .before .before .before .before .before .before .before .before .before .before .before .before .before .before .before .before .before .before .before .before .good .1 .0)
+add-used c = omega (arith, ran ofSession (at-front (c .before .before .before .before .before .before .before .before .before .before .before .before .before .before)) (c .before .before .before .before .before .before .before .before .before .before .before .asked .given .1 ∙ ap Run (c .before .before .before .before .before .before .before .before .e3 .given .1)) .held, c .before .before .before .before .before .before .before .before .before .before .before .before .before .before .before .before .before .loop .inv .going .used-fits, c .before .before .before .before .before .before .before .before .before .before .before .before .before .before .before .before .before .loop .inv .going .same-room, c .before .before .before .before .before .before .before .before .before .before .before .before .before .before .before .before .before .before .before .before .before .before .before .good .1 .0)
 
 mul-answers : tie.Need-mul-answers Inv-loop μ-loop
 mul-answers c = omega (arith, c .before .before .before .before .before .loop .inv .going .slots (c .before .before .before .before .loop-test .taken), c .before .before .before .before .before .loop .inv .going .at-fits, c .before .before .before .before .before .before .before .before .before .before .before .pre .0)

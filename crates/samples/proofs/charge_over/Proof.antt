@@ -13,8 +13,9 @@ returns c =
     let c5 = c4 .before in
     let c6 = c5 .before in
     let c8 = c6 .before .before in
-    let c10 = c8 .before .before in
-    simp (c .and-not2 .ensures, c1 .or .ensures, c2 .aging-over .ensures, c3 .age-over .ensures, c4 .and-not .ensures, c5 .and .ensures, c6 .drops-over .ensures, c8 .less .ensures, c10 .count-over2 .ensures, c10 .before .count-over .ensures)
+    let c9 = c8 .before in
+    let c10 = c9 .before in
+    simp (c .and-not2 .ensures, c1 .or .ensures, c2 .aging-over .ensures, c3 .age-over .ensures, c4 .and-not .ensures, c5 .and .ensures, c6 .drops-over .ensures, c8 .fall .ensures, c9 .count-over2 .ensures, c10 .count-over .ensures)
 
 pub charge-over-spec : {M : Type 1} → statement M
-charge-over-spec = tie.close (tie.spec (λ c κs. search needs) (λ c κs. search needs) (λ c. search needs) (λ c. search needs) (λ c κs. search needs) (λ c. search needs) (λ c. search needs) (λ c κs. search needs) (λ c κs. search needs) (λ c κs. search needs) (λ c κs. search needs) (λ c κs. search needs) (λ c κs. search needs) (λ c κs. search needs) returns)
+charge-over-spec = tie.close (tie.spec (λ c κs. search needs) (λ c κs. search needs) (λ c κs. search needs) (λ c. search needs) (λ c κs. search needs) (λ c κs. search needs) (λ c κs. search needs) (λ c κs. search needs) (λ c κs. search needs) (λ c κs. search needs) (λ c κs. search needs) returns)

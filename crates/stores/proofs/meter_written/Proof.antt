@@ -1,29 +1,32 @@
 use denote.Ref.{now}
-use Rattle.stores.specs.Stores.{meterWrittenOf}
+use Rattle.stores.specs.Stores.{cyclesWrittenOf, meterWrittenOf}
 use Rattle.stores.proofs.Kept.{written-above}
 use borrow.Author.Needs.{needs}
 use Rattle.stores.proofs.meter_written.Statement.{statement}
 use Rattle.stores.proofs.meter_written.Tie as tie
 
 returns : tie.Need-returns
-unfolding meterWrittenOf
+unfolding meterWrittenOf cyclesWrittenOf
 returns c =
-    let aging = c .before .before in
-    let acr = aging .before in
-    let cells = acr .before .before in
-    let w = cells .before .before .pre .0 in (
-      simp (c .before .porf-written .ensures, aging .as-written .ensures .0, acr .acr-written .ensures .0, cells .cells-written .ensures),
-      record { charge = aging .as-written .ensures .1; average = w .average; full = w .full; volt = w .volt; temp = w .temp },
+    let c1 = c .before in
+    let c2 = c1 .before in
+    let c3 = c2 .before in
+    let c4 = c3 .before in
+    let c6 = c4 .before .before in
+    let c8 = c6 .before .before in
+    let w = c8 .pre .0 in (
+      simp (c1 .porf-written .ensures, c2 .as-written .ensures .0, c3 .acr-written .ensures .0, c4 .cycles-written .ensures, c6 .cells-written .ensures),
+      record { charge = c2 .as-written .ensures .1; average = w .average; full = w .full; volt = w .volt; temp = w .temp },
     )
 
 returns-2 : tie.Need-returns-2
 returns-2 c =
-    let cells = c .before in
-    let start = cells .before .before in
-    let w = start .pre .0 in (
-      rw (written-above (start .args .m) (start .args .a) (now (start .args .bytes)) (c .if1 .left)) (simp (cells .cells-written .ensures)),
+    let c1 = c .before in
+    let c3 = c1 .before .before in
+    let w = c3 .pre .0 in (
+      rw (written-above (c3 .args .m) (c3 .args .a) (now (c3 .args .bytes)) (c .if1 .left)) (simp (c1 .cells-written .ensures)),
       record { charge = w .charge; average = w .average; full = w .full; volt = w .volt; temp = w .temp },
     )
 
 pub meter-written-spec : {M : Type 1} → statement M
-meter-written-spec = tie.close (tie.spec (λ c κs. search needs) (λ c κs. search needs) (λ c κs. search needs) (λ c κs. search needs) returns returns-2)
+meter-written-spec = tie.close (tie.spec (λ c κs. search needs) (λ c κs. search needs) (λ c κs. search needs) (λ c κs. search needs) (λ c κs. search needs) returns returns-2)

@@ -63,7 +63,7 @@ turned c =
     let n = c .before .code .ensures in
     let slot = c .before .before .before .before .before .slot .ensures .0 in
     ⊎-elim (λ w. turn-idle f (g .wf) (w .1 .given .1) (w .3) (w .2) (w .4) (w .5 ∙ n))
-    (⊎-elim (λ w. turn-image f (g .wf) (ran ofTray f (w .1 .given .1 ∙ ap Run (w .4 .given .1))) (w .5 .ensures .0) (w .7 .ensures .1) (w .7 .ensures .0) (w .12) (w .11) (w .13) (w .14 ∙ n))
+    (⊎-elim (λ w. turn-image f (g .wf) (ran ofTray f (w .1 .given .1 ∙ ap Run (w .4 .given .1))) (w .6 .ensures .0) (w .8 .ensures .1) (w .8 .ensures .0) (w .13) (w .12) (w .14) (w .15 ∙ n))
     (⊎-elim (λ w. turn-meter f (g .wf) (ran ofTray f (w .1 .given .1 ∙ ap Run (w .4 .given .1 ∙ ap Change (w .7 .given .1)))) slot _ (reading-by _ _) _ (w .10 .ensures .1) (w .10 .ensures .0) (w .12) (w .11) (w .13) (w .14 ∙ n))
     (⊎-elim (λ w. turn-meter f (g .wf) (ran ofTray f (w .1 .given .1 ∙ ap Run (w .4 .given .1 ∙ ap Change (w .7 .given .1)))) slot _ (conversion-by _) _ (w .10 .ensures .1) (w .10 .ensures .0) (w .12) (w .11) (w .13) (w .14 ∙ n))
     (⊎-elim (λ w. turn-meter f (g .wf) (ran ofTray f (w .1 .given .1 ∙ ap Run (w .4 .given .1 ∙ ap Change (w .7 .given .1)))) slot _ (sample-by _ _) _ (w .10 .ensures .1) (w .10 .ensures .0) (w .12) (w .11) (w .13) (w .14 ∙ n))
@@ -118,11 +118,11 @@ mul-front c = omega (arith, c .before .before .slot .ensures .1)
 element-copy-out-front : tie.Need-element-copy-out-front Inv-loop μ-loop
 element-copy-out-front c = c .before .before .slot .ensures .1
 
-mul-t54 : tie.Need-mul-t54 Inv-loop μ-loop
-mul-t54 c = omega (arith, c .before .before .slot .ensures .1)
+mul-t55 : tie.Need-mul-t55 Inv-loop μ-loop
+mul-t55 c = omega (arith, c .before .before .slot .ensures .1)
 
-element-copy-out-t57 : tie.Need-element-copy-out-t57 Inv-loop μ-loop
-element-copy-out-t57 c = c .before .before .slot .ensures .1
+element-copy-out-t58 : tie.Need-element-copy-out-t58 Inv-loop μ-loop
+element-copy-out-t58 c = c .before .before .slot .ensures .1
 
 sub-front : tie.Need-sub-front Inv-loop μ-loop
 sub-front c = omega (arith, c .before .before .before .before .before .loop .inv .going .used-fits, c .before .before .before .before .before .loop .inv .going .same-room)
@@ -146,37 +146,37 @@ wide-requires : tie.Need-wide-requires Inv-loop μ-loop
 wide-requires c κs = search needs
 
 sub-image-in : tie.Need-sub-image-in Inv-loop μ-loop
-sub-image-in c = omega (arith, ran ofTray (at-front (c .before .before .before .before .before .before .before)) (c .before .before .before .before .asked .given .1) .head)
+sub-image-in c = omega (arith, ran ofTray (at-front (c .before .before .before .before .before .before .before .before)) (c .before .before .before .before .before .asked .given .1) .head)
 
 part-image-in-start : tie.Need-part-image-in-start Inv-loop μ-loop
-part-image-in-start c = omega (arith, ran ofTray (at-front (c .before .before .before .before .before .before .before)) (c .before .before .before .before .asked .given .1) .head)
+part-image-in-start c = omega (arith, ran ofTray (at-front (c .before .before .before .before .before .before .before .before)) (c .before .before .before .before .before .asked .given .1) .head)
 
 part-image-in-end : tie.Need-part-image-in-end Inv-loop μ-loop
-part-image-in-end c = omega (arith, front-fits ofTray trayDid did-same TrayWF (c .before .before .before .before .before .before .before .before .before .before .before .before .before .loop .inv) (c .before .before .before .before .before .before .before .before .before .before .before .before .loop-test .taken) (at-front (c .before .before .before .before .before .before .before)))
+part-image-in-end c = omega (arith, front-fits ofTray trayDid did-same TrayWF (c .before .before .before .before .before .before .before .before .before .before .before .before .before .before .loop .inv) (c .before .before .before .before .before .before .before .before .before .before .before .before .before .loop-test .taken) (at-front (c .before .before .before .before .before .before .before .before)))
 
 image-in-requires : tie.Need-image-in-requires Inv-loop μ-loop
-image-in-requires c κs = ran-taking (ran ofTray (at-front (c .before .before .before .before .before .before .before .before)) (c .before .before .before .before .before .asked .given .1 ∙ ap Run (c .before .before .enum-told2 .given .1))) .2
+image-in-requires c κs = ran-taking (ran ofTray (at-front (c .before .before .before .before .before .before .before .before .before)) (c .before .before .before .before .before .before .asked .given .1 ∙ ap Run (c .before .before .before .e .given .1))) .2
 
 mul-common : tie.Need-mul-common Inv-loop μ-loop
 mul-common c = search needs
 
 element-set-from-common : tie.Need-element-set-from-common Inv-loop μ-loop
-element-set-from-common c = omega (arith, c .before .before .before .before .before .wide .ensures .0, ran-taking (ran ofTray (at-front (c .before .before .before .before .before .before .before .before .before .before .before .before)) (c .before .before .before .before .before .before .before .before .before .asked .given .1 ∙ ap Run (c .before .before .before .before .before .before .enum-told2 .given .1))) .1)
+element-set-from-common c = omega (arith, c .before .before .before .before .before .wide .ensures .0, ran-taking (ran ofTray (at-front (c .before .before .before .before .before .before .before .before .before .before .before .before .before)) (c .before .before .before .before .before .before .before .before .before .before .asked .given .1 ∙ ap Run (c .before .before .before .before .before .before .before .e .given .1))) .1)
 
 mul-label : tie.Need-mul-label Inv-loop μ-loop
 mul-label c = search needs
 
 element-set-from-label : tie.Need-element-set-from-label Inv-loop μ-loop
-element-set-from-label c = omega (arith, c .before .before .before .before .before .wide .ensures .0, ran-taking (ran ofTray (at-front (c .before .before .before .before .before .before .before .before .before .before .before .before)) (c .before .before .before .before .before .before .before .before .before .asked .given .1 ∙ ap Run (c .before .before .before .before .before .before .enum-told2 .given .1))) .1)
+element-set-from-label c = omega (arith, c .before .before .before .before .before .wide .ensures .0, ran-taking (ran ofTray (at-front (c .before .before .before .before .before .before .before .before .before .before .before .before .before)) (c .before .before .before .before .before .before .before .before .before .before .asked .given .1 ∙ ap Run (c .before .before .before .before .before .before .before .e .given .1))) .1)
 
 mul-meter : tie.Need-mul-meter Inv-loop μ-loop
 mul-meter c = search needs
 
 element-set-from-meter : tie.Need-element-set-from-meter Inv-loop μ-loop
-element-set-from-meter c = omega (arith, c .before .before .before .before .before .wide .ensures .0, ran-taking (ran ofTray (at-front (c .before .before .before .before .before .before .before .before .before .before .before .before)) (c .before .before .before .before .before .before .before .before .before .asked .given .1 ∙ ap Run (c .before .before .before .before .before .before .enum-told2 .given .1))) .1)
+element-set-from-meter c = omega (arith, c .before .before .before .before .before .wide .ensures .0, ran-taking (ran ofTray (at-front (c .before .before .before .before .before .before .before .before .before .before .before .before .before)) (c .before .before .before .before .before .before .before .before .before .before .asked .given .1 ∙ ap Run (c .before .before .before .before .before .before .before .e .given .1))) .1)
 
 add-tray : tie.Need-add-tray Inv-loop μ-loop
-add-tray c = omega (arith, ran-taking (ran ofTray (at-front (c .before .before .before .before .before .before .before .before .before .before .before .before)) (c .before .before .before .before .before .before .before .before .before .asked .given .1 ∙ ap Run (c .before .before .before .before .before .before .enum-told2 .given .1))) .1)
+add-tray c = omega (arith, ran-taking (ran ofTray (at-front (c .before .before .before .before .before .before .before .before .before .before .before .before .before)) (c .before .before .before .before .before .before .before .before .before .before .asked .given .1 ∙ ap Run (c .before .before .before .before .before .before .before .e .given .1))) .1)
 
 enum-known-e : tie.Need-enum-known-e Inv-loop μ-loop
 enum-known-e c = search needs
@@ -235,8 +235,8 @@ mul-next-3 c = omega (arith, c .before .before .before .before .before .before .
 element-set-from-next-3 : tie.Need-element-set-from-next-3 Inv-loop μ-loop
 element-set-from-next-3 c = c .before .before .before .before .before .before .before .before .before .before .before .before .before .before .before .slot .ensures .1
 
-enum-told-3 : tie.Need-enum-told-3 Inv-loop μ-loop
-enum-told-3 c = search needs
+enum-known-e-3 : tie.Need-enum-known-e-3 Inv-loop μ-loop
+enum-known-e-3 c = search needs
 
 mul-k : tie.Need-mul-k Inv-loop μ-loop
 mul-k c = omega (arith, c .before .before .before .before .before .before .before .before .before .before .before .before .slot .ensures .1)
@@ -275,16 +275,16 @@ cast-from : tie.Need-cast-from Inv-loop μ-loop
 cast-from c = search needs
 
 add-from : tie.Need-add-from Inv-loop μ-loop
-add-from c = omega (arith, ran-taking (ran ofTray (at-front (c .before .before .before .before .before .before .before .before)) (c .before .before .before .before .before .asked .given .1 ∙ ap Run (c .before .before .e2 .given .1))) .1 .near)
+add-from c = omega (arith, ran-taking (ran ofTray (at-front (c .before .before .before .before .before .before .before .before)) (c .before .before .before .before .before .asked .given .1 ∙ ap Run (c .before .before .e3 .given .1))) .1 .near)
 
 sub-transacted : tie.Need-sub-transacted Inv-loop μ-loop
 sub-transacted c =
-    let x = ran ofTray (at-front (c .before .before .before .before .before .before .before .before)) (c .before .before .before .before .before .asked .given .1 ∙ ap Run (c .before .before .e2 .given .1)) in
+    let x = ran ofTray (at-front (c .before .before .before .before .before .before .before .before)) (c .before .before .before .before .before .asked .given .1 ∙ ap Run (c .before .before .e3 .given .1)) in
     omega (arith, master-starts ofTray x (ran-taking x .1))
 
 part-transacted-start : tie.Need-part-transacted-start Inv-loop μ-loop
 part-transacted-start c =
-    let x = ran ofTray (at-front (c .before .before .before .before .before .before .before .before)) (c .before .before .before .before .before .asked .given .1 ∙ ap Run (c .before .before .e2 .given .1)) in
+    let x = ran ofTray (at-front (c .before .before .before .before .before .before .before .before)) (c .before .before .before .before .before .asked .given .1 ∙ ap Run (c .before .before .e3 .given .1)) in
     omega (arith, master-starts ofTray x (ran-taking x .1))
 
 part-transacted-end : tie.Need-part-transacted-end Inv-loop μ-loop
@@ -301,7 +301,7 @@ part-transacted-end-2 c = omega (arith, c .before .before .before .before .befor
 
 transacted-requires : tie.Need-transacted-requires Inv-loop μ-loop
 transacted-requires c κs =
-    let x = ran ofTray (at-front (c .before .before .before .before .before .before .before .before .before .before)) (c .before .before .before .before .before .before .before .asked .given .1 ∙ ap Run (c .before .before .before .before .e2 .given .1)) in
+    let x = ran ofTray (at-front (c .before .before .before .before .before .before .before .before .before .before)) (c .before .before .before .before .before .before .before .asked .given .1 ∙ ap Run (c .before .before .before .before .e3 .given .1)) in
     (c .before .before .before .before .before .before .before .before .before .before .before .before .before .before .before .before .loop .inv .wf, (ran-taking x .1 .few, omega (arith, x .held, room-left (c .before .before .before .before .before .before .before .before .before .before .before .before .before .before .before .before .loop .room) (c .before .before .before .before .before .before .before .before .before .before .before .before .before .before .before .before .loop .used))))
 
 cast-used : tie.Need-cast-used Inv-loop μ-loop
@@ -309,7 +309,7 @@ cast-used c = search needs
 
 add-used : tie.Need-add-used Inv-loop μ-loop
 add-used c =
-    let x = ran ofTray (at-front (c .before .before .before .before .before .before .before .before .before .before .before .before .before .before)) (c .before .before .before .before .before .before .before .before .before .before .before .asked .given .1 ∙ ap Run (c .before .before .before .before .before .before .before .before .e2 .given .1)) in
+    let x = ran ofTray (at-front (c .before .before .before .before .before .before .before .before .before .before .before .before .before .before)) (c .before .before .before .before .before .before .before .before .before .before .before .asked .given .1 ∙ ap Run (c .before .before .before .before .before .before .before .before .e3 .given .1)) in
     omega (arith, x .held, c .before .before .before .before .before .before .before .before .before .before .before .before .before .before .before .before .before .before .before .before .loop .inv .going .used-fits, c .before .before .before .before .before .before .before .before .before .before .before .before .before .before .before .before .before .before .before .before .loop .inv .going .same-room, c .before .before .before .before .before .before .before .before .before .before .before .before .before .before .before .before .before .before .before .before .before .before .before .before .before .good .1 .0)
 
 code-requires-2 : tie.Need-code-requires-2 Inv-loop μ-loop
@@ -363,14 +363,14 @@ run-all-spec =
     known-requires
     mul-front
     element-copy-out-front
-    mul-t54
-    element-copy-out-t57
+    mul-t55
+    element-copy-out-t58
     sub-front
     front-requires
     code-requires
     enum-told
     enum-known-asked
-    enum-told-2
+    enum-known-e
     wide-requires
     sub-image-in
     part-image-in-start
@@ -383,7 +383,7 @@ run-all-spec =
     mul-meter
     element-set-from-meter
     add-tray
-    enum-known-e
+    enum-known-e-2
     enum-known-c
     mul-m
     element-copy-out-m
@@ -402,7 +402,7 @@ run-all-spec =
     sample-requires
     mul-next-3
     element-set-from-next-3
-    enum-told-3
+    enum-told-2
     mul-k
     element-copy-out-k
     mul-m-4
@@ -413,7 +413,7 @@ run-all-spec =
     element-set-from-label-2
     mul-next-4
     element-set-from-next-4
-    enum-known-e-2
+    enum-known-e-3
     cast-from
     add-from
     sub-transacted

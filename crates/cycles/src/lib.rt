@@ -1,0 +1,37 @@
+// The cycle counter of the DS2775 profile.
+use profile::Profile;
+ghost use mathlib.Core.Path.{_≡_};
+ghost use Rattle.cycles.specs.Cycles.{stepsOf, restOf, cycledOf};
+
+// The counter, and how far ACR fell since its last step.
+pub struct Cycles {
+    pub count: u8,
+    pub rest: u32,
+}
+
+// What is left of so far a fall, once each step is taken off.
+fn rest(full40: u16, fallen: u64) -> u32
+    ensures { λ r. ⌜ r ≡ restOf full40 fallen ⌝ }
+{
+    if full40 == 0 {
+        return 0;
+    }
+    (fallen % (2 * (full40 as u64))) as u32
+}
+
+impl Cycles {
+    // A conversion in which ACR fell so far.
+    pub fn cycled(self, f: Profile, full40: u16, fall: u32) -> Cycles
+        ensures { λ r. ⌜ r ≡ cycledOf f full40 self fall ⌝ }
+    {
+        if !profile::counts(f) {
+            return self;
+        }
+        let fallen = (self.rest as u64) + (fall as u64);
+        let steps = numbers::quotient(fallen, 2 * (full40 as u64));
+        Cycles {
+            count: numbers::at_most(255, (self.count as u64) + steps) as u8,
+            rest: rest(full40, fallen),
+        }
+    }
+}
