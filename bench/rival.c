@@ -396,7 +396,7 @@ static void write_registers(Gauge *g, Write w)
 {
     byte *m = g->memory;
     const byte *status = written_at(w, STATUS), *acr_high = written_at(w, ACR), *acr_low = written_at(w, ACR + 1);
-    const byte *as = written_at(w, AS), *cycles = written_at(w, CYCLES), *locks = written_at(w, LOCKS);
+    const byte *cycles = written_at(w, CYCLES), *locks = written_at(w, LOCKS);
     if (status && (*status & PORF) == 0)
         m[STATUS] &= (byte)~PORF;
     if (acr_high && acr_low) {
@@ -404,8 +404,6 @@ static void write_registers(Gauge *g, Write w)
         m[STATUS] &= (byte)~LEARNF;
         g->acr_written = true;
     }
-    if (as)
-        m[AS] = as_from(*as);
     if (cycles && g->ds2775 && (m[LOCKS] & BL1) == 0)
         m[CYCLES] = *cycles;
     if (locks)

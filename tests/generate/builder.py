@@ -185,7 +185,8 @@ class Session:
         """The nearest charge that ACR can hold."""
         self.write(0x10, min(0xFFFF, max(0, value)).to_bytes(2, "big"))
 
-    def write_as(self, value):
+    def guess_as(self, value):
+        """A write at 14h, as hosts have tried it: it is dropped."""
         self.write(0x14, bytes([value]))
 
     def finish(self):

@@ -251,6 +251,9 @@ static void saw_full(const Gauge *g)
     SAW(learns && learnt >= 63 && learnt <= 128, "full: AS learnt");
     SAW(learns && learnt < 63, "full: AS learnt, moved up to 63");
     SAW(learns && learnt > 128, "full: AS learnt, moved down to 128");
+    SAW(learns && learnt == 128, "full: AS learnt, 128");
+    SAW(learns && learnt > g->as && learnt <= 128, "full: AS learnt, higher than it was");
+    SAW(learns && learnt < g->as && learnt >= 63, "full: AS learnt, lower than it was");
     int64_t aged = g->full * (!learns ? g->as : learnt < 63 ? 63 : learnt > 128 ? 128 : learnt) / 128 * full_40;
     SAW(aged % 16384 != 0, "full: ACR rounded up");
     SAW(aged > 0 && aged % 16384 == 0, "full: ACR exact");
@@ -297,6 +300,8 @@ static void saw_conversion(const Gauge *was, const Gauge *is, int32_t raw)
     SAW(count > 268435455, "conversion: the count clamped to 2^28 - 1");
 
     SAW(step > 0 && is->age_counter < was->age_counter && is->as < was->as, "ageing: AS falls");
+    SAW(step > 0 && was->as == 128 && is->as == 127, "ageing: AS falls from 128");
+    SAW(step > 0 && was->as == 64 && is->as == 63, "ageing: AS falls to 63");
     SAW(step > 0 && is->age_counter < was->age_counter && was->as == 63, "ageing: AS stays at 63 and the step is taken off");
     SAW(step > 0 && is->age_counter < was->age_counter && was->acr <= is->acr, "ageing: a step though ACR does not fall");
     SAW(step > 0 && is->age_counter >= step, "ageing: the counter is above the step after it, AC was lowered");
@@ -692,6 +697,10 @@ static void saw_reading(const Gauge *was, const Gauge *is, int32_t voltage, int3
         saw_below(was, is, (int32_t)(is->ae * full_40 / 16384));
     SAW(is->voltage == edge, "reading: VOLT at 4 x VAE");
 
+    SAW(n > 0 && d > 0 && is->as == 128, "results: with AS 128");
+    SAW(n > 0 && d > 0 && is->as == 63, "results: with AS 63");
+    SAW(n > 0 && d > 0 && is->as > 63 && is->as < 128, "results: with an AS between");
+    SAW(n > 0 && d > 0 && (int64_t)is->full * is->as % 128 != 0, "results: with an AF that is rounded");
     SAW(d > 0 && 100 * n / d > 100, "results: RARC clamped to 100");
     SAW(standby_d > 0 && 100 * standby_n / standby_d > 100, "results: RSRC clamped to 100");
     SAW(n < 0, "results: N below 0");
@@ -719,7 +728,7 @@ static void saw_reading(const Gauge *was, const Gauge *is, int32_t voltage, int3
 
 static void saw_write_at(const Gauge *was, int32_t at, int32_t value, bool held)
 {
-    bool read_only = (at >= 0x02 && at <= 0x0F) || (at >= 0x12 && at <= 0x1B && at != 0x14);
+    bool read_only = (at >= 0x02 && at <= 0x0F) || (at >= 0x12 && at <= 0x1B);
     writes_of[at]++;
     SAW(at == 0x01 && (value & 0x02) == 0 && was->porf, "write: PORF cleared");
     SAW(at == 0x01 && (value & 0x02) != 0 && !was->porf, "write: PORF not set");
@@ -727,9 +736,13 @@ static void saw_write_at(const Gauge *was, int32_t at, int32_t value, bool held)
     SAW(at == 0x11 && held && was->fraction > 0, "write: ACR, a fraction is lost");
     SAW(at == 0x11 && held && was->learnf, "write: ACR, LEARNF cleared");
     SAW(at == 0x11 && !held, "write: 11h without 10h");
-    SAW(at == 0x14 && value < 63, "write: AS moved up to 63");
-    SAW(at == 0x14 && value > 128, "write: AS moved down to 128");
-    SAW(at == 0x14 && value >= 63 && value <= 128, "write: AS as it is");
+    SAW(at == 0x14 && value < 63, "write: 14h dropped, a byte below 63");
+    SAW(at == 0x14 && value > 128, "write: 14h dropped, a byte above 128");
+    SAW(at == 0x14 && value >= 63 && value <= 128 && value != was->as, "write: 14h dropped, another AS");
+    SAW(at == 0x14 && held && value != was->as, "write: 14h dropped, and ACR set by the same write");
+    SAW(at == 0x14 && was->learnf, "write: 14h dropped while LEARNF is 1");
+    SAW(at == 0x14 && was->ds2775, "write: 14h dropped, of a camera pack");
+    SAW(at == 0x14 && was->bl1, "write: 14h dropped while block 1 is locked");
     SAW(at == 0x1F && (value & 0x40) != 0, "write: LOCK set");
     SAW(at == 0x1F && (value & 0x40) == 0 && was->lock, "write: LOCK cleared");
     SAW(read_only, "write: dropped, read-only");

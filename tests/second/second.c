@@ -517,8 +517,6 @@ static void write_from(Gauge *g, int32_t address, const byte *data, int32_t coun
             g->learnf = false;
             g->acr_written = true;
         }
-        if (at == 0x14)
-            g->as = moved_into_as_range(value);
         if (at == 0x1E && g->ds2775 && !g->bl1)
             g->cycles = value; /* W12.7 */
         if (at == 0x1F)

@@ -1,16 +1,17 @@
 -- What the definitions keep: a charge is well-formed after steps 1 to 5, and bounds of AF and of a share.
-use mathlib.Core.Path.{_≡_, ap}
-use mathlib.Core.Bool.{Bool, true}
+use mathlib.Core.Path.{_≡_, refl, ap}
+use mathlib.Core.Bool.{Bool, true, false}
 use Prim.Native.Nat.{ℕ, _+_, _*_, _^_, _≤_, _<_}
 use native.Mathlib.Omega.{arith}
-use lib.Dec.{eqb, ltb}
-use borrow.Author.Tests.{ltb-true, eqb-false}
+use lib.Dec.{eqb, ltb, leb}
+use borrow.Author.Tests.{ltb-true, ltb-false, eqb-false, le-leb}
+use Rattle.numbers.specs.Choice.{butNot}
 use Rattle.numbers.proofs.Bounds.{times, picked}
 use Rattle.params.specs.declared.Counting.{Counting}
 use Rattle.profile.specs.declared.Profile.{Profile}
 use Rattle.charge.specs.declared.Charge.{Charge}
 use Rattle.charge.specs.declared.Age.{Age}
-use Rattle.charge.specs.Charge.{ChargeWF, setOf, withAs, markedOf, blankedOf, grownOf, addedOf, fallOf, agedOf, newAge, countedOf, agedFullOf, shareOf, shareUpOf}
+use Rattle.charge.specs.Charge.{ChargeWF, setOf, withAs, markedOf, blankedOf, grownOf, addedOf, fallOf, agedOf, newCount, newAge, countedOf, agedFullOf, shareOf, shareUpOf}
 
 pub set-wf : (g : Charge) (acr : ℕ) (learnf : Bool) → acr ≤ 65535 → ChargeWF g → ChargeWF (setOf g acr learnf)
 set-wf g acr learnf h w = record { count = omega arith; age = w .age; low = w .low; high = w .high }
@@ -41,12 +42,25 @@ aged-wf ac age fall aging p q h low high =
     (λ l. (omega (arith, ltb-true (age + fall) (32 * ac) l), low, high))
     (λ l. (omega (arith, eqb-false ac 0 e), omega arith, omega arith)))
 
+-- AS stays where AC is 0 or the counter is below 32 × AC
+aged-stays : (ac age aging : ℕ) → butNot (leb (32 * ac) age) (eqb ac 0) ≡ false → agedOf ac age aging .aging ≡ aging
+aged-stays ac age aging e =
+    picked (λ (x : Age). x .aging ≡ aging) (eqb ac 0) _ _ (λ z. refl)
+    (λ z. picked (λ (x : Age). x .aging ≡ aging) (ltb age (32 * ac)) _ _ (λ y. refl)
+    (λ y. let low = le-leb (32 * ac) age (ltb-false age (32 * ac) y) in cc))
+
 pub counted-wf : (f : Profile) (p : Counting) (g : Charge) (last c : ℕ) → p .ac ≤ 65535 → ChargeWF g → ChargeWF (countedOf f p g last c)
 unfolding countedOf
 counted-wf f p g last c h w =
     let near = added-near (g .mark) (g .count) (blankedOf f (p .nben) c) (p .ab) (w .count) in
     let aged = aged-wf (p .ac) (g .age) _ (g .aging) h (w .age) (near .1) (w .low) (w .high) in
     record { count = near .0; age = aged .0; low = aged .1; high = aged .2 }
+
+pub counted-stays : (f : Profile) (p : Counting) (g : Charge) (last c : ℕ)
+    → butNot (leb (32 * p .ac) (g .age + fallOf (g .count) (countedOf f p g last c .count))) (eqb (p .ac) 0) ≡ false
+    → countedOf f p g last c .aging ≡ g .aging
+unfolding countedOf
+counted-stays f p g last c e = aged-stays (p .ac) (g .age + fallOf (g .count) (newCount f p g c)) (g .aging) e
 
 -- a conversion that finds the mark adds nothing, and ageing is looked at as ever, with no fall
 module _ (f : Profile) (p : Counting) (g : Charge) (last c : ℕ) (e : g .mark ≡ true) where

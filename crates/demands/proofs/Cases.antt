@@ -69,6 +69,8 @@ cases =
     ∷ (skips 0 0x6c 0x1f (1 ∷ 2 ∷ []), fence)
     ∷ (skips 0 0x6c 0x2f (1 ∷ 2 ∷ []), fence)
     ∷ (skips 0 0x6c 0x10 (1 ∷ 2 ∷ []), gauging)
+    ∷ (skips 0 0x6c 0x10 (1 ∷ 2 ∷ 3 ∷ 4 ∷ 5 ∷ []), gauging)
+    ∷ (skips 0 0x6c 0x14 (1 ∷ []), gauging)
     ∷ (skips 0 0x6c 0xff (1 ∷ 2 ∷ []), gauging)
     ∷ (skips 0 0x6c 0x20 [], gauging)
     -- copy, recall and lock: of block 0, of block 1, of none

@@ -2,3 +2,4 @@ pub mod Gauge
 pub mod Change
 pub mod Act
 pub mod Kept
+pub mod Aging

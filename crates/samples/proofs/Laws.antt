@@ -226,7 +226,7 @@ module _ (a : Average) (any : Bool) (left : ℕ) where
   unfolding reachOf
   reach-some l = picked (λ (x : ℕ). 1 ≤ x) (either any (offsetTurn a)) _ _ (λ e. omega arith) (λ e. l)
 
-neither : (x y : Bool) → either x y ≡ false → (x ≡ false) × (y ≡ false)
+pub neither : (x y : Bool) → either x y ≡ false → (x ≡ false) × (y ≡ false)
 neither true true e = (e, e)
 neither true false e = (e, refl)
 neither false y e = (refl, e)

@@ -18,7 +18,7 @@ use Rattle.meter.specs.declared.Meter.{Meter}
 use Rattle.meter.specs.State.{withCells}
 use Rattle.label.specs.Label.{inLabel, inBlock}
 use Rattle.label.proofs.Kept.{but-none, or-none}
-use Rattle.stores.specs.Stores.{reachesOf, porfWrittenOf, acrWrittenOf, asWrittenOf, lockWrittenOf, cyclesWrittenOf, blockWrittenOf, cellsWrittenOf, meterWrittenOf, blockCopiedOf, blockRecalledOf, meterCopiedOf, meterRecalledOf, meterLockedOf, BlockSized}
+use Rattle.stores.specs.Stores.{reachesOf, porfWrittenOf, acrWrittenOf, lockWrittenOf, cyclesWrittenOf, blockWrittenOf, cellsWrittenOf, meterWrittenOf, blockCopiedOf, blockRecalledOf, meterCopiedOf, meterRecalledOf, meterLockedOf, BlockSized}
 
 module _ (b : Block) (locked : Bool) (a : ℕ) where
   module _ (bytes : List ℕ) where
@@ -87,9 +87,9 @@ missed a bytes x h = rw (lt-leb a x h) refl
 module _ (m : Meter) (a : ℕ) where
   -- bytes from 20h on are for no register: the cells alone may change
   pub written-above : (bytes : List ℕ) → 0x20 ≤ a → meterWrittenOf m a bytes ≡ withCells m (cellsWrittenOf (m .cells) a bytes)
-  unfolding meterWrittenOf porfWrittenOf acrWrittenOf asWrittenOf cyclesWrittenOf
+  unfolding meterWrittenOf porfWrittenOf acrWrittenOf cyclesWrittenOf
   written-above bytes low =
-      rw (missed a bytes 0x01 (omega arith), missed a bytes 0x10 (omega arith), missed a bytes 0x14 (omega arith), missed a bytes 0x1e (omega arith)) refl
+      rw (missed a bytes 0x01 (omega arith), missed a bytes 0x10 (omega arith), missed a bytes 0x1e (omega arith)) refl
 
   -- bytes for 20h..2Fh alone are not for block 1 either
   pub written-elsewhere : (bytes : List ℕ) → 0x20 ≤ a → a + length bytes ≤ 0x30 → meterWrittenOf m a bytes ≡ m

@@ -17,7 +17,7 @@ use Rattle.meter.specs.State.{withCharge, withFlow, noFlow, poweredOf}
 use Rattle.meter.specs.Convert.{flowedOf, convertOf}
 use Rattle.meter.specs.Read.{drainedOf, shownOf, readOf}
 use Rattle.meter.proofs.Figures.{M, withByte, plus, powered, readAt, Figure, _is_, Hold}
-use Rattle.stores.specs.Stores.{reachesOf, acrWrittenOf, asWrittenOf, blockWrittenOf, meterWrittenOf}
+use Rattle.stores.specs.Stores.{reachesOf, acrWrittenOf, blockWrittenOf, meterWrittenOf}
 
 -- ---- the meters
 
@@ -119,7 +119,7 @@ offsetFigures =
     []
 
 pub offset-figures-hold : Hold offsetFigures
-unfolding laidOf reachesOf acrWrittenOf asWrittenOf blockWrittenOf meterWrittenOf poweredOf countedOf averagedOf foundOf settledOf flowedOf convertOf emptiedOf seenOf drainedOf shownOf readOf
+unfolding laidOf reachesOf acrWrittenOf blockWrittenOf meterWrittenOf poweredOf countedOf averagedOf foundOf settledOf flowedOf convertOf emptiedOf seenOf drainedOf shownOf readOf
 offset-figures-hold = (refl, (refl, (refl, (refl, (refl, (refl, (refl, (refl, (refl, (refl, (refl, (refl, tt))))))))))))
 
 -- ---- a write
@@ -127,17 +127,13 @@ offset-figures-hold = (refl, (refl, (refl, (refl, (refl, (refl, (refl, (refl, (r
 module _ (m : Meter) (a : ℕ) (bytes : List ℕ) where
   -- W7.2. 11h after 10h sets the mark, whatever ACR was
   pub written-mark : both (reachesOf a bytes 0x10) (reachesOf a bytes 0x11) ≡ true → meterWrittenOf m a bytes .charge .mark ≡ true
-  unfolding meterWrittenOf acrWrittenOf asWrittenOf
-  written-mark e =
-      let g = acrWrittenOf (m .charge) a bytes in
-      picked (λ (x : Charge). x .mark ≡ true) (reachesOf a bytes 0x14) _ g (λ h. simp e) (λ h. simp e)
+  unfolding meterWrittenOf acrWrittenOf
+  written-mark e = simp e
 
   -- W7.3. No other write sets or clears it
   pub unwritten-mark : both (reachesOf a bytes 0x10) (reachesOf a bytes 0x11) ≡ false → meterWrittenOf m a bytes .charge .mark ≡ m .charge .mark
-  unfolding meterWrittenOf acrWrittenOf asWrittenOf
-  unwritten-mark e =
-      let g = acrWrittenOf (m .charge) a bytes in
-      picked (λ (x : Charge). x .mark ≡ m .charge .mark) (reachesOf a bytes 0x14) _ g (λ h. simp e) (λ h. simp e)
+  unfolding meterWrittenOf acrWrittenOf
+  unwritten-mark e = simp e
 
   -- W7.11. No write restarts the count of conversions
   pub written-made : made (meterWrittenOf m a bytes) ≡ made m

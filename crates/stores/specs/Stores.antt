@@ -9,7 +9,7 @@ use Rattle.numbers.specs.Choice.{pick, both, either, butNot}
 use Rattle.numbers.specs.Offset.{joinedOf}
 use Rattle.parts.specs.Parts.{laidOf}
 use Rattle.charge.specs.declared.Charge.{Charge}
-use Rattle.charge.specs.Charge.{setOf, withAs, markedOf}
+use Rattle.charge.specs.Charge.{setOf, markedOf}
 use Rattle.profile.specs.Profile.{countsCycles}
 use Rattle.cycles.specs.declared.Cycles.{Cycles}
 use Rattle.reading.specs.declared.Flags.{Flags}
@@ -17,7 +17,7 @@ use Rattle.meter.specs.declared.Block.{Block}
 use Rattle.meter.specs.declared.Locks.{Locks}
 use Rattle.meter.specs.declared.Cells.{Cells}
 use Rattle.meter.specs.declared.Meter.{Meter}
-use Rattle.meter.specs.State.{asIn, withCells, withBlock, withLocks, withFlags}
+use Rattle.meter.specs.State.{withCells, withBlock, withLocks, withFlags}
 use Rattle.label.specs.Label.{inLabel, inBlock}
 
 -- ---- 6Ch: bytes written from the address a upward. A write runs upward and nothing wraps, so that it reaches each address at most once
@@ -43,10 +43,6 @@ acrWrittenOf g a bytes =
     pick (both (reachesOf a bytes 0x10) (reachesOf a bytes 0x11))
     (markedOf (setOf g (joinedOf (byteFor a bytes 0x10) (byteFor a bytes 0x11)) false))
     g
-
--- 14h is moved into 63..128
-unfoldable pub asWrittenOf : Charge → ℕ → List ℕ → Charge
-asWrittenOf g a bytes = pick (reachesOf a bytes 0x14) (withAs g (asIn (byteFor a bytes 0x14))) g
 
 -- 1Fh takes bit 6 (LOCK) only
 unfoldable pub lockWrittenOf : Bool → ℕ → List ℕ → Bool
@@ -75,11 +71,11 @@ cellsWrittenOf c a bytes = record {
 abbrev pub flagsWrittenOf : Flags → ℕ → List ℕ → Flags
 flagsWrittenOf f a bytes = record { porf = porfWrittenOf (f .porf) a bytes; chgtf = f .chgtf; aef = f .aef; sef = f .sef }
 
--- all else is dropped
+-- all else is dropped, a byte at 14h too: no host sets AS
 unfoldable pub meterWrittenOf : Meter → ℕ → List ℕ → Meter
 meterWrittenOf m a bytes = record {
   cells = cellsWrittenOf (m .cells) a bytes;
-  charge = asWrittenOf (acrWrittenOf (m .charge) a bytes) a bytes;
+  charge = acrWrittenOf (m .charge) a bytes;
   cycles = cyclesWrittenOf (m .cycles) (m .cells) a bytes;
   flow = m .flow;
   shown = withFlags (m .shown) (flagsWrittenOf (m .shown .flags) a bytes);

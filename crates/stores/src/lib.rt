@@ -10,7 +10,7 @@ ghost use mathlib.Core.Bool.{true};
 ghost use Prim.Native.Nat.{_<_};
 ghost use Rattle.charge.specs.Charge.{ChargeWF};
 ghost use Rattle.meter.specs.State.{MeterWF};
-ghost use Rattle.stores.specs.Stores.{reachesOf, byteFor, porfWrittenOf, acrWrittenOf, asWrittenOf, lockWrittenOf, cyclesWrittenOf, blockWrittenOf, cellsWrittenOf, meterWrittenOf, blockCopiedOf, blockRecalledOf, reblockedOf, meterCopiedOf, meterRecalledOf, locksLockedOf, meterLockedOf};
+ghost use Rattle.stores.specs.Stores.{reachesOf, byteFor, porfWrittenOf, acrWrittenOf, lockWrittenOf, cyclesWrittenOf, blockWrittenOf, cellsWrittenOf, meterWrittenOf, blockCopiedOf, blockRecalledOf, reblockedOf, meterCopiedOf, meterRecalledOf, locksLockedOf, meterLockedOf};
 
 // ---- 6Ch: bytes written from the address a upward
 
@@ -52,20 +52,6 @@ fn acr_written(mut g: Charge, a: usize, bytes: &[u8]) -> Charge
         let acr = numbers::joined(byte_for(a, bytes, 0x10), byte_for(a, bytes, 0x11));
         g.mark = true;
         return g.set(acr, false);
-    }
-    g
-}
-
-// 14h.
-fn as_written(mut g: Charge, a: usize, bytes: &[u8]) -> Charge
-    requires { ⌜ a < 256 ⌝ }
-    requires { ⌜ ChargeWF g ⌝ }
-    ensures { λ r. ⌜ r ≡ asWrittenOf g a (now (bytes .entry)) ⌝ }
-    ensures kept { λ r. ⌜ ChargeWF r ⌝ }
-{
-    if reaches(a, bytes, 0x14) {
-        let aging = numbers::moved_into(63, 128, byte_for(a, bytes, 0x14) as u64);
-        g.aging = aging;
     }
     g
 }
@@ -132,7 +118,7 @@ pub fn meter_written(mut m: Meter, a: usize, bytes: &[u8]) -> Meter
     m.cells = cells;
     if a < 0x20 {
         m.cycles = cycles_written(m.cycles, cells, a, bytes);
-        let charge = as_written(acr_written(m.charge, a, bytes), a, bytes);
+        let charge = acr_written(m.charge, a, bytes);
         let porf = porf_written(m.shown.flags.porf, a, bytes);
         m.charge = charge;
         m.shown.flags.porf = porf;

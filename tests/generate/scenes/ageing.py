@@ -1,5 +1,6 @@
 """AS that falls, and AC changed on the way."""
 from builder import AB, AC, VAE, Session, profile, some
+from scenes.aimed import learn_as
 from scenes.charge import charge
 from scenes.pack import battery, insert, temperature, voltage_above
 
@@ -11,7 +12,7 @@ def ageing(chance):
     battery(session)
     session.set_parameter(AC, chance.randint(1, 4), 2)
     session.set_parameter(AB, chance.choice([0, 0, 5, 251]))
-    insert(session, saved_acr=chance.randint(200, 3000), saved_as=chance.choice([128, 100, 66, 64, 63]))
+    insert(session, saved_acr=chance.randint(200, 3000), saved_as=some(chance, 128, 100, 66, 64, 63, lambda: chance.randint(63, 128)))
     while session.room_for(2500):
         for _ in range(chance.randint(5, 60)):
             session.current(some(chance, -32768, -4096, lambda: chance.randint(-32768, -1000)))
@@ -20,7 +21,8 @@ def ageing(chance):
              lambda: session.write_acr(chance.randint(100, 3000)),
              lambda: charge(session, chance.randint(50, 300)),
              lambda: session.reading(voltage_above(session, VAE), temperature(chance)),
-             lambda: session.write_as(chance.randint(63, 128)),
+             lambda: learn_as(session, chance.randint(63, 128)),
+             lambda: session.guess_as(chance.randint(63, 128)),
              lambda: None)
         session.registers()
         if chance.random() < 0.5:

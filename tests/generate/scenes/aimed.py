@@ -42,6 +42,29 @@ def at_empty(session):
     session.registers()
 
 
+def learn_as(session, wanted):
+    """AS brought to about this value, by a learn: ACR is E at the empty point, and AS is then E x 128 / Full40 at full."""
+    chance = session.chance
+    before = [(EMPTY_40, session.parameter(EMPTY_40), 1), (FULL_40, session.parameter(FULL_40, 2), 2)]
+    session.change(VAE, chance.randint(1, 200))
+    session.change(IAE, chance.randint(0, 100))
+    session.change(IMIN, chance.randint(2, 255))
+    session.change(EMPTY_40, chance.randint(100, 255))
+    session.change(FULL_40, chance.randint(20000, 30000), 2)
+    above_empty(session)
+    for _ in range(2):
+        session.current(strong(session))
+    below_empty(session)
+    session.change(FULL_40, empty_charge(session) * 128 // wanted, 2)
+    session.sampled(20, 8 - session.run)
+    for _ in range(2):
+        session.reading(1023, hot(chance))
+        session.sampled(20, 8)
+    session.read(0x14, 1)
+    for parameter, value, size in before:
+        session.change(parameter, value, size)
+
+
 @scene(walk=2, aimed=4)
 def learning(session):
     """What may and may not clear LEARNF, and what a learning gauge leaves alone."""
@@ -89,7 +112,7 @@ def learning(session):
              lambda: session.command(RECALL, 0x60),
              lambda: session.command(COPY, 0x7F),
              lambda: session.command(RECALL, 0x20),
-             lambda: session.write_as(chance.randint(60, 130)),
+             lambda: session.guess_as(chance.randint(60, 130)),
              lambda: session.write(0x01, bytes([chance.randrange(256)])),
              lambda: session.write(0x1F, b"\x40"),
              session.power_on)
@@ -131,16 +154,16 @@ def learn(session):
 def per_cents(session):
     """Flags and saves at their edges."""
     chance = session.chance
+    if chance.random() < 0.4:
+        learn_as(session, 128)
     ae = 16 * session.parameter(EMPTY_40)
     aims = [some(chance, lambda: (chance.choice([89, 90, 91]), ae), lambda: (chance.choice([4, 5, 6, 7]), ae),
                  lambda: (chance.choice([9, 10, 11, 15, 16, 17]), 0), lambda: (4 * chance.randrange(26), ae),
                  lambda: (chance.randrange(101), ae)) for _ in range(chance.randint(3, 10))]
     if chance.random() < 0.7:
         session.change(FULL_40, chance.randint(1000, 60000), 2)
-    session.write_as(128)
     if chance.random() < 0.5:
         reach_full(session, hot(chance))
-        session.write_as(128)
         aims = [(91, ae), (90, ae), (89, ae)] + aims
     for percent, empty in aims:
         session.write_acr(charge_at(session, percent, empty) + chance.choice([-1, 0, 0, 0, 1]))

@@ -161,7 +161,7 @@ def disturb(session):
     block_0 = chance.randbytes(chance.randint(0, 16))
     some(chance,
          lambda: session.write_acr(chance.randrange(65536)),
-         lambda: session.write_as(chance.randrange(256)),
+         lambda: session.guess_as(chance.randrange(256)),
          lambda: session.write(0x01, bytes([chance.randrange(256)])),
          lambda: session.write(0x20, block_0),
          lambda: session.command(chance.choice([COPY, RECALL]), chance.choice([0x20, 0x60])),

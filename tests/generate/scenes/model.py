@@ -1,5 +1,6 @@
 """The three lines and the results."""
 from builder import FULL_40, VAE, Session, profile, some
+from scenes.aimed import learn_as
 from scenes.pack import battery, start, temperature, voltage_above
 
 
@@ -9,7 +10,7 @@ def model(chance):
     session = Session(chance)
     battery(session)
     start(session, locks=chance.choice([0, 1]))
-    while session.room_for(400):
+    while session.room_for(900):
         kind = chance.random()
         if kind < 0.3:
             session.block_1[:] = chance.randbytes(32)
@@ -23,8 +24,10 @@ def model(chance):
         if chance.random() < 0.7:
             session.write_acr(some(chance, lambda: chance.randrange(65536), lambda: chance.randrange(full_40 + 1),
                                    lambda: chance.randrange(full_40 // 6 + 1)))
-        if chance.random() < 0.4:
-            session.write_as(some(chance, 128, 63, lambda: chance.randrange(256)))
+        if chance.random() < 0.06:
+            learn_as(session, some(chance, 128, 63, lambda: chance.randint(63, 128)))
+        if chance.random() < 0.1:
+            session.guess_as(chance.randrange(256))
         session.reading(some(chance, 1023, lambda: voltage_above(session, VAE), lambda: chance.randrange(1024)),
                         temperature(chance))
         session.registers()

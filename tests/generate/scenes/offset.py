@@ -2,7 +2,7 @@
 from builder import (
     AB, AC, COB, CONTROL, CONVERSION, COPY, EMPTY_40, FULL_40, IAE, IMIN, RECALL, SAMPLE, SESSION_LIMIT, VAE, VCHG, WRITE,
     Session, little, play, profile, scene, some)
-from scenes.aimed import above_empty, at_empty, below_empty, hot, strong
+from scenes.aimed import above_empty, at_empty, below_empty, hot, learn_as, strong
 from scenes.pack import battery, start, temperature, voltage_above
 
 
@@ -69,7 +69,7 @@ def between(session):
          lambda: session.change(AB, chance.randrange(256)),
          lambda: session.change(COB, chance.randrange(256)),
          lambda: session.change(CONTROL, chance.choice([0, 0x80])),
-         lambda: session.write_as(chance.randint(63, 128)),
+         lambda: session.guess_as(chance.randint(63, 128)),
          lambda: session.write(0x20, chance.randbytes(2)),
          lambda: session.command(chance.choice([COPY, RECALL]), 0x20))
 
@@ -224,11 +224,12 @@ def aged_at_it(session):
     """An age counter above the step, or AC = 0, as ACR is written; then AC as it was."""
     chance = session.chance
     session.change(AC, 2000, 2)
+    if chance.random() < 0.3:
+        learn_as(session, 128)
     session.write_acr(60000)
     session.sampled(-32768, 64)
     session.sampled(-32768, chance.choice([5, 64]))
     session.change(AC, chance.choice([0, 0, 1, 3]), 2)
-    session.write_as(128)
     acr_write(session)
     session.current(some(chance, -32768, 0, 5000))
     session.registers()

@@ -1,7 +1,7 @@
 """Samples: ticks and their edges, and what comes along the way of one that stands for many conversions."""
 from builder import (
     AB, AC, CONTROL, COPY, EMPTY_40, FULL_40, IAE, IMIN, RECALL, SESSION_LIMIT, VAE, VCHG, Session, play, profile, scene, some)
-from scenes.aimed import above_empty, at_empty, below_empty, empty_charge, hot, strong
+from scenes.aimed import above_empty, at_empty, below_empty, empty_charge, hot, learn_as, strong
 from scenes.pack import battery, start, temperature, voltage_above
 
 
@@ -134,9 +134,10 @@ def sampled_learning(session):
 def sampled_ageing(session):
     """AS that falls within samples, also where AC is lowered far below the counter, and AC = 0."""
     chance = session.chance
+    if chance.random() < 0.4:
+        learn_as(session, chance.choice([128, 128, 100, 66, 64]))
     session.change(AC, some(chance, 1, 2, 3, lambda: chance.randint(1, 300), lambda: chance.randint(300, 3000)), 2)
     session.write_acr(chance.randint(500, 65535))
-    session.write_as(chance.choice([128, 128, 100, 66, 64]))
     for _ in range(chance.randint(1, 5)):
         session.sampled(some(chance, -32768, lambda: chance.randint(-32768, -1000)), chance.choice([64, 64, 33, 10]))
         session.registers()

@@ -11,12 +11,11 @@ returns c =
     let c1 = c .before in
     let c2 = c1 .before in
     let c3 = c2 .before in
-    let c4 = c3 .before in
-    let c6 = c4 .before .before in
-    let c8 = c6 .before .before in
-    let w = c8 .pre .0 in (
-      simp (c1 .porf-written .ensures, c2 .as-written .ensures .0, c3 .acr-written .ensures .0, c4 .cycles-written .ensures, c6 .cells-written .ensures),
-      record { charge = c2 .as-written .ensures .1; average = w .average; full = w .full; volt = w .volt; temp = w .temp },
+    let c5 = c3 .before .before in
+    let c7 = c5 .before .before in
+    let w = c7 .pre .0 in (
+      simp (c1 .porf-written .ensures, c2 .acr-written .ensures .0, c3 .cycles-written .ensures, c5 .cells-written .ensures),
+      record { charge = c2 .acr-written .ensures .1; average = w .average; full = w .full; volt = w .volt; temp = w .temp },
     )
 
 returns-2 : tie.Need-returns-2
@@ -29,4 +28,4 @@ returns-2 c =
     )
 
 pub meter-written-spec : {M : Type 1} → statement M
-meter-written-spec = tie.close (tie.spec (λ c κs. search needs) (λ c κs. search needs) (λ c κs. search needs) (λ c κs. search needs) (λ c κs. search needs) returns returns-2)
+meter-written-spec = tie.close (tie.spec (λ c κs. search needs) (λ c κs. search needs) (λ c κs. search needs) (λ c κs. search needs) returns returns-2)

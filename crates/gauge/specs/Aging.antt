@@ -1,0 +1,76 @@
+-- Who sets AS: a power-on, ageing and learning, over all events. No write of a host does.
+use mathlib.Core.Path.{_≡_}
+use mathlib.Core.Bool.{Bool, true, false}
+use mathlib.Core.List.{List}
+use Prim.Native.Nat.{ℕ, zero, suc, _+_, _*_}
+use lib.Dec.{ltb, leb, eqb}
+use Rattle.numbers.specs.Choice.{both, either, butNot}
+use Rattle.params.specs.Params.{countingOf, limitsOf, capacityOf}
+use Rattle.charge.specs.declared.Charge.{Charge}
+use Rattle.charge.specs.Charge.{fallOf, countedOf}
+use Rattle.full.specs.Full.{eighth, foundOf}
+use Rattle.ticks.specs.Ticks.{elapsedOf}
+use Rattle.meter.specs.declared.Meter.{Meter}
+use Rattle.meter.specs.State.{asIn}
+use Rattle.meter.specs.Convert.{convertedOf}
+use Rattle.samples.specs.Samples.{sampledOf}
+use Rattle.bus.specs.declared.Transaction.{Transaction}
+use Rattle.events.specs.declared.Change.{Change}
+use Rattle.events.specs.declared.Change.the-variants.{Reading, Conversion, Sample, PowerOn}
+use Rattle.gauge.specs.declared.Gauge.{Gauge}
+use Rattle.gauge.specs.Gauge.{powerOnOf}
+use Rattle.gauge.specs.Change.{changedOf}
+use Rattle.gauge.specs.Act.{actOf}
+
+-- AS
+abbrev pub agingOf : Gauge → ℕ
+agingOf g = g .meter .charge .aging
+
+-- ---- in a conversion of a raw current
+
+-- its c
+abbrev pub currentIn : Meter → ℕ → ℕ
+currentIn m raw = convertedOf (m .flow) raw (countingOf (m .cells .block .shadow) .cob)
+
+-- the charge that full detection finds
+abbrev pub chargeIn : Meter → ℕ → Charge
+chargeIn m raw = countedOf (m .cells .profile) (countingOf (m .cells .block .shadow)) (m .charge) (m .flow .trace .last) (currentIn m raw)
+
+-- ageing: AC is not 0, and with this fall of ACR the counter "is at least 32 × AC"
+abbrev pub agesIn : Meter → ℕ → Bool
+agesIn m raw =
+    let ac = countingOf (m .cells .block .shadow) .ac in
+    butNot (leb (32 * ac) (m .charge .age + fallOf (m .charge .count) (chargeIn m raw .count))) (eqb ac 0)
+
+-- learning: full is found, "if LEARNF and Full40 > 0"
+abbrev pub learnsIn : Meter → ℕ → Bool
+learnsIn m raw =
+    let block = m .cells .block .shadow in
+    both (both (eighth (m .flow .average)) (foundOf (m .flow .average) (m .flow .since) (limitsOf block) (currentIn m raw)))
+    (both (chargeIn m raw .learnf) (ltb 0 (capacityOf block .full40)))
+
+-- ---- in an event
+
+-- in one of n conversions, each in the meter that those before it leave
+abbrev pub setsOver : Meter → ℕ → ℕ → Bool
+setsOver m raw zero = false
+setsOver m raw (suc n) =
+    let before = sampledOf m raw n in
+    either (setsOver m raw n) (either (agesIn before raw) (learnsIn before raw))
+
+-- a conversion is one, a sample as many as ticks have elapsed
+abbrev pub setsAging : Meter → Change → Bool
+setsAging m (Reading volt temp) = false
+setsAging m (Conversion raw) = setsOver m raw 1
+setsAging m (Sample raw tick) = setsOver m raw (elapsedOf (m .flow .tick) tick)
+setsAging m PowerOn = true
+
+-- ---- the law
+
+pub record OwnAging : Type 0 where
+  -- a change that neither is a power-on nor ages nor teaches leaves AS
+  pub changes : (g : Gauge) (c : Change) → setsAging (g .meter) c ≡ false → agingOf (changedOf g c) ≡ agingOf g
+  -- every transaction does, a write that runs over 14h too
+  pub transactions : (g : Gauge) (t : Transaction) (master : List ℕ) → agingOf (actOf g t master) ≡ agingOf g
+  -- "Saved AS is honoured at power-on as before", moved into 63..128
+  pub saved : (g : Gauge) → agingOf (powerOnOf g) ≡ asIn (g .meter .cells .saved .aging)
