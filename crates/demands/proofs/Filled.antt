@@ -27,8 +27,9 @@ use Rattle.runs.specs.Run.{endAfter}
 use Rattle.steps.specs.Steps.{answeredBy}
 use Rattle.slots.specs.declared.Tray.{Tray}
 use Rattle.slots.specs.Tray.{emptyTray, packOf, trayKindOf, slotIn, trayReach, trayEvent, trayTold, ofTray, trayDid}
+use Rattle.demands.specs.History.{hearsOf}
 use Rattle.demands.proofs.Fitted.{fitted-has}
-use Rattle.demands.proofs.Packs.{Eight, stored-pack, stored-eight, hearsOf, acted-eight, acted-pack, acted-count}
+use Rattle.demands.proofs.Packs.{Eight, stored-pack, stored-eight, acted-eight, acted-pack, acted-count}
 use Rattle.demands.proofs.Asked.{Asks, tray-asks, reach-there}
 
 -- The pack in a slot after an event

@@ -1,9 +1,12 @@
 -- The demands speak of the functions themselves: what a caller learns from the contracts of `records::run` and `records::take_out`, as the
 -- check reads them of the code, is what the demands are stated of.
+use Prim.Native.Nat.{ℕ}
 use contract.Lifetimes.{Lfts}
 use denote.Ref.{now}
 use denote.Triple.Entry.{Args, Res}
 use denote.Triple.Clauses.{Lasts, atExit}
+use Rattle.runs.specs.Record.{Rec}
+use Rattle.runs.specs.Run.{Did}
 use Rattle.steps.specs.declared.Session.{Session}
 use Rattle.steps.specs.Step.{didOf}
 use Rattle.records.specs.Run.{emptyOf, resultOf, TakenOut}
@@ -20,6 +23,9 @@ use Rattle.demands.specs.Demand3.{Demand3, TrayDemand3}
 use Rattle.demands.specs.Alone.{Alone}
 use Rattle.demands.specs.Slots.{SlotsAsOld}
 use Rattle.demands.specs.Isolation.{Isolation}
+use Rattle.demands.specs.History.{Pack, ofGauge, ofSlot, HistoryHolds}
+use Rattle.demands.specs.Books.{FromEvents, NoWider, BooksClose}
+use Rattle.demands.specs.Stored.{EepromHolds}
 use Rattle.slots.specs.Tray.{emptyTray, trayDid}
 use Rattle.demands.proofs.Demand1.{demand-1, tray-demand-1}
 use Rattle.demands.proofs.Demand2.{demand-2, tray-demand-2}
@@ -28,6 +34,9 @@ use Rattle.demands.proofs.TrayDemand3.{tray-demand-3}
 use Rattle.demands.proofs.Alone.{alone}
 use Rattle.demands.proofs.Slots.{slots-as-old}
 use Rattle.demands.proofs.Isolation.{isolation}
+use Rattle.demands.proofs.Blind.{from-events}
+use Rattle.demands.proofs.Booked.{no-wider}
+use Rattle.demands.proofs.History.{session-history, session-books, session-eeprom, slot-history, slot-books, slot-eeprom}
 
 module _ (κs : Lfts (run.ended .signature .lifetimes)) (a : Args (run.ended .signature) κs) (r : Res (run.ended .signature) κs) (w : Lasts run.ended κs a) where
   -- what was passed and lent, what came back, and what room and answers hold at the end
@@ -71,3 +80,10 @@ demands = (demand-1, demand-2, demand-3)
 -- and of trays
 pub tray-demands : Demand1 trayMost trayDid emptyTray × TrayDemand2 × TrayDemand3 × SlotsAsOld × Alone × Isolation
 tray-demands = (tray-demand-1, tray-demand-2, tray-demand-3, slots-as-old, alone, isolation)
+
+-- and the charge books and the EEPROM, of a session and of each slot of a tray
+abbrev pub BooksAndEeprom : {S : Type 0} → (S → ℕ → Rec → Did S) → S → Pack S → Type 0
+BooksAndEeprom did start pack = HistoryHolds did start pack × BooksClose did start pack × EepromHolds did start pack
+
+pub books : FromEvents × NoWider × BooksAndEeprom didOf emptyOf ofGauge × ((j : ℕ) → BooksAndEeprom trayDid emptyTray (ofSlot j))
+books = (from-events, no-wider, (session-history, session-books, session-eeprom), λ j. (slot-history j, slot-books j, slot-eeprom j))

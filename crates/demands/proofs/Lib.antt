@@ -32,5 +32,10 @@ pub mod Called
 pub mod Example
 pub mod TrayExample
 pub mod Slow
+pub mod Booked
+pub mod Blind
+pub mod Stored
+pub mod History
+pub mod BooksExample
 pub mod TrayFunctions
 pub mod Mending

@@ -19,6 +19,7 @@ use Rattle.slots.proofs.Laws.{stored-other}
 use Rattle.slots.specs.declared.Found.the-variants.{At, Nowhere}
 use Rattle.slots.specs.Wire.{andBytes}
 use Rattle.slots.specs.Tray.{noGauge, packOf, storedOf, searchFrom, Reach, one, every, actedFirst, wiredFirst, trayActed}
+use Rattle.demands.specs.History.{hearsOf}
 use Rattle.demands.proofs.Choice.{contrary}
 
 -- Eight places, of which the first are packs
@@ -63,11 +64,6 @@ same-tray τ σ h k count closed packs =
     λ i. record { count = count i; closed = closed i; commons = commons i; labels = labels i; meters = meters i }
 
 -- A transaction
-
--- whether a pack hears it, where so many are on the line
-abbrev pub hearsOf : Reach → ℕ → ℕ → Bool
-hearsOf (one i) count j = eqb j i
-hearsOf every count j = ltb j count
 
 -- whom it reaches is there
 abbrev pub There : Reach → ℕ → Type 0

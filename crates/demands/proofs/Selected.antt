@@ -18,7 +18,8 @@ use Rattle.slots.specs.declared.Found.{Found}
 use Rattle.slots.specs.declared.Found.the-variants.{At, Nowhere}
 use Rattle.slots.specs.Tray.{noGauge, packOf, searchOf, reachFound, matchedOf, aimedBy, trayReach}
 use Rattle.demands.specs.Class.{someSelected}
-use Rattle.demands.proofs.Packs.{hearsOf, search-none}
+use Rattle.demands.specs.History.{hearsOf}
+use Rattle.demands.proofs.Packs.{search-none}
 use Rattle.demands.proofs.Asked.{matched-found}
 use Rattle.demands.proofs.Shut.{Owns}
 

@@ -34,11 +34,12 @@ use Rattle.slots.specs.declared.Tray.{Tray}
 use Rattle.slots.specs.Tray.{noGauge, packOf, slotIn, slotTick, Reach, one, every, reachFound, matchedOf, aimedBy, trayReach, trayTold, wiredFirst, trayReply}
 use Rattle.demands.specs.Sections.{Class, labelling, gauging, fence}
 use Rattle.demands.specs.Class.{touchedOf, takenClass, classBy, trayAsked, someSelected}
+use Rattle.demands.specs.History.{hearsOf}
 use Rattle.demands.proofs.Choice.{contrary}
 use Rattle.demands.proofs.Mix.{Swaps}
 use Rattle.demands.proofs.Room.{timedDid}
 use Rattle.demands.proofs.Forms.{after, Form, labelled, metered, label-taken, gauge-taken}
-use Rattle.demands.proofs.Packs.{Eight, stored-pack, stored-eight, same-tray, hearsOf, acted-eight, acted-pack, acted-count, wired-same}
+use Rattle.demands.proofs.Packs.{Eight, stored-pack, stored-eight, same-tray, acted-eight, acted-pack, acted-count, wired-same}
 use Rattle.demands.proofs.Asked.{reach-there}
 use Rattle.demands.proofs.Shut.{ofShut, freeTray, trayStep, trayOut, Owns, step-owns, told-class, Asked, asked-there}
 use Rattle.demands.proofs.Selected.{hears-chosen}

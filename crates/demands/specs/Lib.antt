@@ -9,6 +9,9 @@ pub mod Longer
 pub mod Alone
 pub mod Slots
 pub mod Isolation
+pub mod History
+pub mod Books
+pub mod Stored
 pub mod Programming
 pub mod Slow
 pub mod Mending

@@ -11,7 +11,7 @@ use Rattle.charge.specs.declared.Charge.{Charge}
 use Rattle.charge.specs.Charge.{ChargeWF, acrOf, agedFullOf, shareUpOf}
 use Rattle.charge.proofs.Laws.{set-wf, with-as-wf, aged-full-high, share-up-high}
 use Rattle.full.specs.declared.Average.{Average}
-use Rattle.full.specs.Full.{AverageWF, nextOf, runOf, eighth, averagedOf, learntOf, taughtOf, filledOf, settledOf}
+use Rattle.full.specs.Full.{AverageWF, nextMade, runOf, eighth, averagedOf, learntOf, taughtOf, filledOf, settledOf}
 
 -- ACR at full: AF × Full40 / 16,384 rounded up
 pub filled-acr : (g : Charge) (full full40 : ℕ)
@@ -41,15 +41,15 @@ module _ (g : Charge) (full full40 : ℕ) (w : ChargeWF g) where
   settled-wf found p q = picked ChargeWF found _ _ (λ e. filled-wf p q) (λ e. w)
 
 -- every conversion is counted
-pub averaged-made : (a : Average) (c : ℕ) → averagedOf a c .made ≡ nextOf (a .made)
+pub averaged-made : (a : Average) (c : ℕ) → averagedOf a c .made ≡ nextMade (a .made)
 unfolding averagedOf
-averaged-made a c = picked (λ (x : Average). x .made ≡ nextOf (a .made)) (eighth a) _ _ (λ e. refl) (λ e. refl)
+averaged-made a c = picked (λ (x : Average). x .made ≡ nextMade (a .made)) (eighth a) _ _ (λ e. refl) (λ e. refl)
 
 -- the run of eight, read off that count, goes on by one, and starts anew after the eighth
 pub run-goes-on : (a : Average) (c : ℕ) → runOf (averagedOf a c) ≡ pick (eighth a) 0 (runOf a + 1)
 run-goes-on a c =
     rw (averaged-made a c)
-    (picked (λ (x : ℕ). nextOf (a .made) % 8 ≡ x) (eighth a) 0 (runOf a + 1)
+    (picked (λ (x : ℕ). nextMade (a .made) % 8 ≡ x) (eighth a) 0 (runOf a + 1)
     (λ e. omega (arith, eqb-true (runOf a) 7 e)) (λ e. omega (arith, eqb-false (runOf a) 7 e)))
 
 pub averaged-wf : (a : Average) (c : ℕ) → c ≤ 65535 → AverageWF a → AverageWF (averagedOf a c)

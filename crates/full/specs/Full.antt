@@ -13,8 +13,8 @@ use Rattle.full.specs.declared.Since.{Since}
 -- ---- conversions since power-on, modulo 1,024
 
 -- one more
-abbrev pub nextOf : ℕ → ℕ
-nextOf made = (made + 1) % 1024
+abbrev pub nextMade : ℕ → ℕ
+nextMade made = (made + 1) % 1024
 
 -- "every 1024th conversion measures the offset": the one that comes next
 abbrev pub offsetTurn : Average → Bool
@@ -42,8 +42,8 @@ meanOf a c = (a .sum + c) / 8
 -- the run of eight goes on, or ends with IAVG
 unfoldable pub averagedOf : Average → ℕ → Average
 averagedOf a c =
-    pick (eighth a) (record { made = nextOf (a .made); sum = 0; iavg = meanOf a c; known = true })
-    (record { made = nextOf (a .made); sum = a .sum + c; iavg = a .iavg; known = a .known })
+    pick (eighth a) (record { made = nextMade (a .made); sum = 0; iavg = meanOf a c; known = true })
+    (record { made = nextMade (a .made); sum = a .sum + c; iavg = a .iavg; known = a .known })
 
 -- the readings since the previous IAVG: none yet after an eighth conversion
 unfoldable pub renewedOf : Since → Bool → Since

@@ -2,20 +2,21 @@
 use mathlib.Core.Path.{_≡_, refl, _∙_}
 use mathlib.Core.Bool.{Bool, true, false}
 use mathlib.Core.List.{List}
-use Prim.Native.Nat.{ℕ, zero, suc, _+_, _*_}
-use lib.Dec.{ltb, leb, eqb}
-use Rattle.numbers.specs.Choice.{pick, both, either, butNot}
+use Prim.Native.Nat.{ℕ, zero, suc}
+use lib.Dec.{ltb}
+use Rattle.numbers.specs.Choice.{both, either, butNot}
 use Rattle.numbers.specs.Offset.{joinedOf}
 use Rattle.numbers.proofs.Bounds.{picked}
-use Rattle.params.specs.Params.{countingOf, limitsOf, capacityOf}
+use Rattle.params.specs.Params.{countingOf}
 use Rattle.charge.specs.declared.Charge.{Charge}
-use Rattle.charge.specs.Charge.{acrOf, setOf, markedOf, countedOf}
+use Rattle.charge.specs.Charge.{acrOf, setOf, markedOf}
 use Rattle.charge.proofs.Laws.{counted-stays}
 use Rattle.full.specs.Full.{filledOf, settledOf}
 use Rattle.ticks.specs.Ticks.{elapsedOf}
 use Rattle.meter.specs.declared.Meter.{Meter}
 use Rattle.meter.specs.State.{poweredOf}
 use Rattle.meter.specs.Convert.{flowedOf, convertOf}
+use Rattle.meter.specs.Corrections.{currentIn, chargeIn}
 use Rattle.meter.specs.Read.{readOf, drainedOf, shownOf}
 use Rattle.reading.specs.Reading.{emptiedOf}
 use Rattle.samples.specs.Samples.{sampledOf, sampleOf}
@@ -26,7 +27,7 @@ use Rattle.events.specs.declared.Change.the-variants.{Reading, Conversion, Samp
 use Rattle.gauge.specs.declared.Gauge.{Gauge}
 use Rattle.gauge.specs.Gauge.{conversionOf, samplingOf, readingOf, powerOnOf, writtenOf, copiedOf, recalledOf, lockedOf}
 use Rattle.gauge.specs.Change.{changedOf}
-use Rattle.gauge.specs.Aging.{agingOf, currentIn, chargeIn, agesIn, learnsIn, setsOver, setsAging, OwnAging}
+use Rattle.gauge.specs.Aging.{agingOf, agesIn, learnsIn, setsOver, setsAging, OwnAging}
 use Rattle.gauge.proofs.Kept.{acted}
 
 -- ---- a conversion

@@ -5,14 +5,12 @@ use mathlib.Core.List.{List}
 use Prim.Native.Nat.{ℕ, zero, suc, _+_, _*_}
 use lib.Dec.{ltb, leb, eqb}
 use Rattle.numbers.specs.Choice.{both, either, butNot}
-use Rattle.params.specs.Params.{countingOf, limitsOf, capacityOf}
-use Rattle.charge.specs.declared.Charge.{Charge}
-use Rattle.charge.specs.Charge.{fallOf, countedOf}
-use Rattle.full.specs.Full.{eighth, foundOf}
+use Rattle.params.specs.Params.{countingOf, capacityOf}
+use Rattle.charge.specs.Charge.{fallOf}
 use Rattle.ticks.specs.Ticks.{elapsedOf}
 use Rattle.meter.specs.declared.Meter.{Meter}
 use Rattle.meter.specs.State.{asIn}
-use Rattle.meter.specs.Convert.{convertedOf}
+use Rattle.meter.specs.Corrections.{chargeIn, correctsFull}
 use Rattle.samples.specs.Samples.{sampledOf}
 use Rattle.bus.specs.declared.Transaction.{Transaction}
 use Rattle.events.specs.declared.Change.{Change}
@@ -28,14 +26,6 @@ agingOf g = g .meter .charge .aging
 
 -- ---- in a conversion of a raw current
 
--- its c
-abbrev pub currentIn : Meter → ℕ → ℕ
-currentIn m raw = convertedOf (m .flow) raw (countingOf (m .cells .block .shadow) .cob)
-
--- the charge that full detection finds
-abbrev pub chargeIn : Meter → ℕ → Charge
-chargeIn m raw = countedOf (m .cells .profile) (countingOf (m .cells .block .shadow)) (m .charge) (m .flow .trace .last) (currentIn m raw)
-
 -- ageing: AC is not 0, and with this fall of ACR the counter "is at least 32 × AC"
 abbrev pub agesIn : Meter → ℕ → Bool
 agesIn m raw =
@@ -44,10 +34,7 @@ agesIn m raw =
 
 -- learning: full is found, "if LEARNF and Full40 > 0"
 abbrev pub learnsIn : Meter → ℕ → Bool
-learnsIn m raw =
-    let block = m .cells .block .shadow in
-    both (both (eighth (m .flow .average)) (foundOf (m .flow .average) (m .flow .since) (limitsOf block) (currentIn m raw)))
-    (both (chargeIn m raw .learnf) (ltb 0 (capacityOf block .full40)))
+learnsIn m raw = both (correctsFull m raw) (both (chargeIn m raw .learnf) (ltb 0 (capacityOf (m .cells .block .shadow) .full40)))
 
 -- ---- in an event
 

@@ -5,3 +5,4 @@ pub mod Unique
 pub mod Hundred
 pub mod OffsetConversion
 pub mod CycleCounter
+pub mod Corrections

@@ -25,7 +25,7 @@ use Rattle.profile.specs.declared.Profile.the-variants.{Ds2781, Ds2775}
 use Rattle.profile.specs.Profile.{edgeOf}
 use Rattle.charge.specs.Charge.{acrOf, currentOf, negative, turnedOf, blankedOf, grownOf, newCount, fallOf}
 use Rattle.full.specs.declared.Average.{Average}
-use Rattle.full.specs.Full.{nextOf, runOf, averagedOf, tapersOf}
+use Rattle.full.specs.Full.{nextMade, runOf, averagedOf, tapersOf}
 use Rattle.model.specs.Model.{slopeOf, forty, slopesOver, slopesTo, fullLineOf}
 use Rattle.reading.specs.Reading.{voltOf, tempOf, degreesOf, drainsOf, leftOf, usableOf, percentOf, amountOf}
 use Rattle.meter.specs.Signed.{minus, orZero, atMostZ, atLeastZ, currentZ, negativeZ, turnedZ, blankedZ, grownZ, addedZ, fallZ, sumZ, meanZ, tapersZ, voltZ, tempZ, degreesZ, slopeZ, slopesOverZ, slopesZ, fullLineZ, averagedOver, drainsZ, leftZ, usableZ, percentZ, amountZ}
@@ -116,7 +116,7 @@ iavg-is c [] a h =
     let e : a .sum + c ≡ a .sum + (c + 0) = omega arith in
     simp (eq-eqb (runOf a) 7 (omega arith)) (ap (λ (x : ℕ). x / 8) e)
 iavg-is c (d ∷ ds) a h =
-    let next : Average = record { made = nextOf (a .made); sum = a .sum + c; iavg = a .iavg; known = a .known } in
+    let next : Average = record { made = nextMade (a .made); sum = a .sum + c; iavg = a .iavg; known = a .known } in
     let e : averagedOf a c ≡ next = simp (ne-eqb (runOf a) 7 (λ s. omega arith)) in
     let sums : a .sum + c + total (d ∷ ds) ≡ a .sum + total (c ∷ d ∷ ds) = omega arith in
     ap (λ (b : Average). averagedOver b (d ∷ ds) .iavg) e ∙ iavg-is d ds next (omega arith) ∙ ap (λ (x : ℕ). x / 8) sums

@@ -12,7 +12,7 @@ use Rattle.numbers.proofs.Bounds.{picked}
 use Rattle.params.specs.Params.{countingOf}
 use Rattle.charge.specs.declared.Charge.{Charge}
 use Rattle.charge.specs.Charge.{acrOf, setOf, currentOf, countedOf}
-use Rattle.full.specs.Full.{nextOf, filledOf, settledOf}
+use Rattle.full.specs.Full.{nextMade, filledOf, settledOf}
 use Rattle.full.proofs.Laws.{averaged-made}
 use Rattle.reading.specs.Reading.{emptiedOf}
 use Rattle.meter.specs.declared.Cells.{Cells}
@@ -31,7 +31,7 @@ shows m = m .flow .trace .last
 -- ---- the count of conversions
 
 -- each conversion counts one
-pub convert-made : (m : Meter) (raw : ℕ) → made (convertOf m raw) ≡ nextOf (made m)
+pub convert-made : (m : Meter) (raw : ℕ) → made (convertOf m raw) ≡ nextMade (made m)
 unfolding convertOf flowedOf
 convert-made m raw = averaged-made (m .flow .average) _
 

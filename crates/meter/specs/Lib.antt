@@ -2,3 +2,4 @@ pub mod State
 pub mod Convert
 pub mod Read
 pub mod Signed
+pub mod Corrections

@@ -15,7 +15,7 @@ use Rattle.charge.specs.declared.Trace.{Trace}
 use Rattle.charge.specs.Charge.{tracedOf}
 use Rattle.full.specs.declared.Average.{Average}
 use Rattle.full.specs.declared.Since.{Since}
-use Rattle.full.specs.Full.{AverageWF, nextOf, runOf, eighth, averagedOf, renewedOf, foundOf, taperingOf}
+use Rattle.full.specs.Full.{AverageWF, nextMade, runOf, eighth, averagedOf, renewedOf, foundOf, taperingOf}
 use Rattle.meter.specs.declared.Flow.{Flow}
 use Rattle.samples.specs.Stretch.{traceOver, endsOver, seventhOf, meanOver, averageOver, foundOver, Quiet}
 use Rattle.samples.proofs.Numbers.{reached}
@@ -41,7 +41,7 @@ module _ (a : Average) (s : Since) (c k : ℕ) where
   abbrev made : ℕ → ℕ
   made n = (a .made + n) % 1024
 
-  one-more : nextOf (made k) ≡ made (suc k)
+  one-more : nextMade (made k) ≡ made (suc k)
   one-more = omega arith
 
   -- what a conversion makes of average and readings

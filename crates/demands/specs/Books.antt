@@ -1,0 +1,211 @@
+-- THE CHARGE BOOKS CLOSE, request [14] of document 02.
+--
+-- "Over any run of accepted events with no power-on, no ACR write, no full or empty correction and no clamp at either end, the final count (ACR ×
+-- 4,096 + fraction) less the first equals the sum, over the conversions in the history, of what each counted plus AB as it stood then; the
+-- conversions that add nothing are those [7] names. The sum is defined from events and shadow bytes, not from the count."
+--
+-- Stated of any two moments of any run and of any pack that it holds. History.antt says what the pack went through between them.
+use mathlib.Core.Path.{_≡_}
+use mathlib.Core.Bool.{Bool, true, false, not}
+use mathlib.Core.List.{List, [], _∷_, _++_}
+use Prim.Native.Nat.{ℕ, zero, suc, _+_, _-_, _*_, _%_, _^_}
+use lib.Dec.{eqb}
+use lib.IntN.{ℤ, pos, _+ℤ_, _-ℤ_}
+use lib.Signed.{leZ}
+use lib.ListN.{drop, replicate}
+use Rattle.numbers.specs.Choice.{pick, both}
+use Rattle.numbers.specs.Offset.{value, clampZ, joinedOf}
+use Rattle.profile.specs.declared.Profile.{Profile}
+use Rattle.ticks.specs.declared.Tick.{Tick}
+use Rattle.ticks.specs.Ticks.{tickOf, elapsedOf}
+use Rattle.params.specs.Params.{nbenOf, countingOf, capacityOf}
+use Rattle.charge.specs.Charge.{acrOf, fractionOf, setOf, markedOf}
+use Rattle.full.specs.Full.{filledOf}
+use Rattle.meter.specs.declared.Meter.{Meter}
+use Rattle.meter.specs.Convert.{convertOf}
+use Rattle.meter.specs.Read.{readOf}
+use Rattle.meter.specs.Corrections.{chargeIn, correctsFull, correctsEmpty, emptiedIn}
+use Rattle.meter.specs.Signed.{currentZ, blankedZ}
+use Rattle.stores.specs.Stores.{reachesOf, byteFor}
+use Rattle.bus.specs.declared.Command.{Command}
+use Rattle.bus.specs.declared.Command.the-variants.{Read, Write, Copy, Recall, Lock, Nothing}
+use Rattle.bus.specs.declared.Transaction.{Transaction}
+use Rattle.replies.specs.Reply.{selectedOf}
+use Rattle.gauge.specs.declared.Gauge.{Gauge}
+use Rattle.gauge.specs.Act.{actOf}
+use Rattle.events.specs.declared.Change.the-variants.{Reading, Conversion, Sample, PowerOn}
+use Rattle.runs.specs.Record.{Rec}
+use Rattle.runs.specs.Run.{Did}
+use Rattle.demands.specs.Call.{Call, Within, Stopped}
+use Rattle.demands.specs.History.{Happening, imaged, changed, transacted, happened, Pack, heardSince, leftBy}
+
+-- ---- "the conversions in the history": each conversion, and each of a sample's n
+
+-- what happened, and the shadow bytes of block 1 as they stood then
+pub record Entry : Type 0 where
+  pub what : Happening
+  pub shadow : List ℕ
+
+-- a conversion of a raw current, which is kept as z + 2^31
+pub record Converts : Type 0 where
+  pub raw : ℕ
+  pub shadow : List ℕ
+
+-- by the tick that is remembered
+abbrev pub conversionsBy : Tick → List ℕ → Happening → List Converts
+conversionsBy last shadow (imaged f p) = []
+conversionsBy last shadow (changed (Reading volt temp)) = []
+conversionsBy last shadow (changed (Conversion raw)) = record { raw = raw; shadow = shadow } ∷ []
+conversionsBy last shadow (changed (Sample raw tick)) = replicate (elapsedOf last tick) (record { raw = raw; shadow = shadow })
+conversionsBy last shadow (changed PowerOn) = []
+conversionsBy last shadow (transacted t master) = []
+
+abbrev pub tickAfter : Tick → Happening → Tick
+tickAfter last (imaged f p) = last
+tickAfter last (changed (Reading volt temp)) = last
+tickAfter last (changed (Conversion raw)) = last
+tickAfter last (changed (Sample raw tick)) = tickOf tick
+tickAfter last (changed PowerOn) = last
+tickAfter last (transacted t master) = last
+
+abbrev pub conversionsIn : Tick → List Entry → List Converts
+conversionsIn last [] = []
+conversionsIn last (e ∷ es) = conversionsBy last (e .shadow) (e .what) ++ conversionsIn (tickAfter last (e .what)) es
+
+-- ---- "the sum .. of what each counted plus AB as it stood then": signed numbers, from the raw currents and the shadow bytes alone
+
+-- what a conversion takes of those before it: the previous c, how many there were since power-on, modulo 1,024, and the mark after an ACR write; and
+-- of its pack the profile. It is that of a run with no ACR write and no power-on, so a conversion alone changes it
+pub record Ledger : Type 0 where
+  pub profile : Profile
+  pub last : ℤ
+  pub made : ℕ
+  pub mark : Bool
+
+module _ (k : Ledger) (x : Converts) where
+  -- c = raw + COB, clamped; on the 1024th the previous c
+  abbrev pub bookedC : ℤ
+  bookedC = pick (eqb (k .made) 1023) (k .last) (currentZ (value 31 (x .raw)) (value 7 (countingOf (x .shadow) .cob)))
+
+  -- what it counts after blanking, plus AB. "The first conversion after an ACR write .. adds nothing to the count, AB included."
+  abbrev pub booked : ℤ
+  booked = pick (k .mark) (pos 0) (blankedZ (k .profile) (nbenOf (x .shadow)) bookedC +ℤ value 7 (countingOf (x .shadow) .ab))
+
+  abbrev pub ledgerAfter : Ledger
+  ledgerAfter = record { profile = k .profile; last = bookedC; made = (k .made + 1) % 1024; mark = false }
+
+abbrev pub bookedSum : Ledger → List Converts → ℤ
+bookedSum k [] = pos 0
+bookedSum k (x ∷ xs) = booked k x +ℤ bookedSum (ledgerAfter k x) xs
+
+-- ---- what is taken of the gauge: the shadow bytes before each event, and where the run starts
+
+abbrev pub entriesOf : Gauge → List Happening → List Entry
+entriesOf g [] = []
+entriesOf g (h ∷ hs) = record { what = h; shadow = g .meter .cells .block .shadow } ∷ entriesOf (happened g h) hs
+
+-- the previous c is kept as z + 2^15
+abbrev pub ledgerOf : Meter → Ledger
+ledgerOf m = record { profile = m .cells .profile; last = value 15 (m .flow .trace .last); made = m .flow .average .made; mark = m .charge .mark }
+
+abbrev pub sumOver : Gauge → List Happening → ℤ
+sumOver g hs = bookedSum (ledgerOf (g .meter)) (conversionsIn (g .meter .flow .tick) (entriesOf g hs))
+
+-- "defined from events and shadow bytes, not from the count": it is the same for the same gauge with any other count
+abbrev pub recounted : Gauge → ℕ → Gauge
+recounted g n =
+    let m = g .meter in
+    let c = m .charge in
+    record {
+      common = g .common;
+      label = g .label;
+      meter = record {
+        cells = m .cells;
+        charge = record { count = n; age = c .age; aging = c .aging; learnf = c .learnf; mark = c .mark };
+        cycles = m .cycles;
+        flow = m .flow;
+        shown = m .shown;
+      };
+    }
+
+abbrev pub FromEvents : Type 0
+FromEvents = (g : Gauge) (n : ℕ) (hs : List Happening) → sumOver (recounted g n) hs ≡ sumOver g hs
+
+-- "ACR × 4,096 + fraction"
+abbrev pub countIn : Meter → ℤ
+countIn m = pos (acrOf (m .charge .count) * 4096 + fractionOf (m .charge .count))
+
+-- ---- where the books are not kept
+
+-- "no clamp at either end": what the count would come to stays in 0..2^28 - 1
+abbrev pub unclamped : ℤ → Bool
+unclamped z = both (leZ (pos 0) z) (leZ z (pos (2 ^ 28 - 1)))
+
+abbrev pub convertsNow : Meter → ℕ → Converts
+convertsNow m raw = record { raw = raw; shadow = m .cells .block .shadow }
+
+-- "no full .. correction", of each of so many conversions
+abbrev pub steady : Meter → ℕ → ℕ → Bool
+steady m raw zero = true
+steady m raw (suc n) =
+    both (not (correctsFull m raw)) (both (unclamped (countIn m +ℤ booked (ledgerOf m) (convertsNow m raw))) (steady (convertOf m raw) raw n))
+
+-- "no ACR write": the pack is selected, and a write runs over 10h and 11h
+abbrev pub isWrite : Command → Bool
+isWrite Read = false
+isWrite Write = true
+isWrite Copy = false
+isWrite Recall = false
+isWrite Lock = false
+isWrite Nothing = false
+
+abbrev pub writesAcr : Gauge → Transaction → List ℕ → Bool
+writesAcr g t master =
+    let bytes = drop (t .from) master in
+    both (selectedOf (g .common .address) t master) (both (isWrite (t .command)) (both (reachesOf (t .address) bytes 0x10) (reachesOf (t .address) bytes 0x11)))
+
+abbrev pub acrWritten : Transaction → List ℕ → ℕ
+acrWritten t master = let bytes = drop (t .from) master in joinedOf (byteFor (t .address) bytes 0x10) (byteFor (t .address) bytes 0x11)
+
+abbrev pub keepsBooks : Gauge → Happening → Bool
+keepsBooks g (imaged f p) = false
+keepsBooks g (changed (Reading volt temp)) = not (correctsEmpty (g .meter) volt temp)
+keepsBooks g (changed (Conversion raw)) = steady (g .meter) raw 1
+keepsBooks g (changed (Sample raw tick)) = steady (g .meter) raw (elapsedOf (g .meter .flow .tick) tick)
+keepsBooks g (changed PowerOn) = false
+keepsBooks g (transacted t master) = not (writesAcr g t master)
+
+abbrev pub BooksKept : Gauge → List Happening → Type 0
+BooksKept g [] = Unit
+BooksKept g (h ∷ hs) = (keepsBooks g h ≡ true) × BooksKept (happened g h) hs
+
+-- ---- and where they are not, there is a reason: each of these sets ACR, or clamps
+
+pub record NoWider : Type 0 where
+  -- step 6 fills the charge that steps 1 to 5 leave
+  pub full : (m : Meter) (raw : ℕ) → correctsFull m raw ≡ true
+      → convertOf m raw .charge ≡ filledOf (chargeIn m raw) (m .shown .model .full) (capacityOf (m .cells .block .shadow) .full40)
+  -- ACR is E
+  pub empty : (m : Meter) (volt temp : ℕ) → correctsEmpty m volt temp ≡ true → readOf m volt temp .charge ≡ emptiedIn m volt temp
+  -- ACR is what was written, and the next conversion will find the mark
+  pub written : (g : Gauge) (t : Transaction) (master : List ℕ) → writesAcr g t master ≡ true
+      → actOf g t master .meter .charge ≡ markedOf (setOf (g .meter .charge) (acrWritten t master) false)
+  pub clamped : (z : ℤ) → unclamped z ≡ false → clampZ (pos 0) (pos (2 ^ 28 - 1)) z ≡ z → ⊥
+
+-- ---- the theorem
+
+module _ {S : Type 0} (did : S → ℕ → Rec → Did S) (start : S) (pack : Pack S) where
+  -- of the run b, stopped earlier, as a, after n records
+  abbrev pub BooksClose : Type 0
+  BooksClose = (n : ℕ) (a b : Call S) → Within did start b → Stopped did start n b a → BooksKept (leftBy pack a) (heardSince pack did n a b)
+      → countIn (leftBy pack b .meter) -ℤ countIn (leftBy pack a .meter) ≡ sumOver (leftBy pack a) (heardSince pack did n a b)
+
+  -- and it speaks of something: there are such moments with a sum that is not 0
+  pub record BooksMet : Type 0 where
+    pub taken : ℕ
+    pub first : Call S
+    pub second : Call S
+    pub run : Within did start second
+    pub stopped : Stopped did start taken second first
+    pub kept : BooksKept (leftBy pack first) (heardSince pack did taken first second)
+    pub sum : sumOver (leftBy pack first) (heardSince pack did taken first second) ≡ pos 0 → ⊥
