@@ -1,14 +1,17 @@
 -- What the definitions keep: a charge is well-formed after steps 1 to 5, and bounds of AF and of a share.
-use mathlib.Core.Path.{_≡_, refl, ap}
+use mathlib.Core.Path.{_≡_, refl, sym, ap, _∙_}
 use mathlib.Core.Bool.{Bool, true, false}
-use Prim.Native.Nat.{ℕ, _+_, _*_, _^_, _≤_, _<_}
+use Prim.Native.Nat.{ℕ, _+_, _-_, _*_, _^_, _≤_, _<_}
 use native.Mathlib.Omega.{arith}
 use lib.Dec.{eqb, ltb, leb}
-use borrow.Author.Tests.{ltb-true, ltb-false, eqb-false, le-leb}
-use Rattle.numbers.specs.Choice.{butNot}
+use borrow.Author.Tests.{ltb-true, ltb-false, eqb-false, lt-ltb, le-ltb, lt-leb, le-leb}
+use Rattle.numbers.specs.Offset.{zeroAt}
+use Rattle.numbers.specs.Choice.{pick, both, either, butNot}
 use Rattle.numbers.proofs.Bounds.{times, picked}
+use Rattle.numbers.proofs.Offset.{order}
 use Rattle.params.specs.declared.Counting.{Counting}
 use Rattle.profile.specs.declared.Profile.{Profile}
+use Rattle.profile.specs.Profile.{edgeOf}
 use Rattle.charge.specs.declared.Charge.{Charge}
 use Rattle.charge.specs.declared.Age.{Age}
 use Rattle.charge.specs.Charge.{ChargeWF, setOf, withAs, markedOf, blankedOf, grownOf, addedOf, fallOf, agedOf, newCount, newAge, countedOf, agedFullOf, shareOf, shareUpOf}
@@ -92,3 +95,49 @@ share-up-least x full40 acr h = omega arith
 
 pub share-up-high : (x full40 : ℕ) → x ≤ 16384 → shareUpOf x full40 ≤ full40
 share-up-high x full40 p = share-up-least x full40 full40 (times x full40 16384 full40 p (omega arith))
+
+either-way : (t : Bool) {a b : ℕ} → a ≡ b → pick t a b ≡ b
+either-way true e = e
+either-way false e = refl
+
+not-both : (t : Bool) → both t false ≡ false
+not-both true = refl
+not-both false = refl
+
+-- step 2 as one range: from where blanking ends below 0, or from 0 without NBEN, up to 63; in it 0 counts as 0 anyway
+module _ (edge c : ℕ) (near : edge ≤ 17) where
+  abbrev within : Bool → Bool
+  within nben = both (leb (pick nben (zeroAt 15 + 1 - edge) (zeroAt 15)) c) (ltb c (zeroAt 15 + 64))
+
+  abbrev blank : Bool → Bool
+  blank nben = either (both (ltb (zeroAt 15) c) (ltb c (zeroAt 15 + 64))) (both nben (both (ltb (zeroAt 15 - edge) c) (ltb c (zeroAt 15))))
+
+  abbrev InRange : Bool → Type 0
+  InRange nben = pick (within nben) (zeroAt 15) c ≡ pick (blank nben) (zeroAt 15) c
+
+  below : (nben : Bool) → c < zeroAt 15 → InRange nben
+  below true h =
+      order (zeroAt 15 - edge) c _
+      (λ k. simp (lt-ltb c (zeroAt 15 + 64) (omega arith), le-ltb (zeroAt 15) c (omega arith), lt-ltb c (zeroAt 15) h, lt-ltb (zeroAt 15 - edge) c k, le-leb (zeroAt 15 + 1 - edge) c (omega arith)))
+      (λ k. simp (le-ltb (zeroAt 15) c (omega arith), le-ltb (zeroAt 15 - edge) c k, lt-leb (zeroAt 15 + 1 - edge) c (omega arith)))
+  below false h = simp (le-ltb (zeroAt 15) c (omega arith), lt-leb (zeroAt 15) c h)
+
+  above : (nben : Bool) → zeroAt 15 < c → InRange nben
+  above nben h =
+      let reached = le-leb (pick nben (zeroAt 15 + 1 - edge) (zeroAt 15)) c (picked (λ (x : ℕ). x ≤ c) nben _ _ (λ d. omega arith) (λ d. omega arith)) in
+      order c (zeroAt 15 + 64) _
+      (λ k. simp (reached, lt-ltb (zeroAt 15) c h, lt-ltb c (zeroAt 15 + 64) k))
+      (λ k. simp (reached, le-ltb c (zeroAt 15 + 64) k, lt-ltb (zeroAt 15 - edge) c (omega arith), le-ltb c (zeroAt 15) (omega arith), lt-ltb (zeroAt 15) c h, not-both nben))
+
+  in-range : (nben : Bool) → InRange nben
+  in-range nben =
+      order c (zeroAt 15) _ (below nben)
+      (λ h. order (zeroAt 15) c _ (above nben) (λ k. either-way (within nben) (omega arith) ∙ sym (either-way (blank nben) (omega arith))))
+
+edge-near : (f : Profile) → edgeOf f ≤ 17
+edge-near Profile.Ds2781 = omega arith
+edge-near Profile.Ds2775 = omega arith
+
+pub blanked-in-range : (f : Profile) (nben : Bool) (c : ℕ) →
+    pick (both (leb (pick nben (zeroAt 15 + 1 - edgeOf f) (zeroAt 15)) c) (ltb c (zeroAt 15 + 64))) (zeroAt 15) c ≡ blankedOf f nben c
+blanked-in-range f nben c = in-range (edgeOf f) c (edge-near f) nben

@@ -17,10 +17,10 @@ pub struct Charge {
 
 // CURRENT and the c before it, and whether there is one, and two.
 pub struct Trace {
-    pub last: u16,
-    pub before: u16,
-    pub any: bool,
     pub two: bool,
+    pub before: u16,
+    pub last: u16,
+    pub any: bool,
 }
 
 // The age counter and AS.
@@ -43,9 +43,8 @@ pub fn blanked(f: Profile, nben: bool, c: u16) -> u16
     ensures { λ r. ⌜ r ≡ blankedOf f nben c ⌝ }
 {
     let zero = numbers::ZERO15;
-    let small = numbers::and(zero < c, c < zero + 64);
-    let slight = numbers::and(nben, numbers::and(zero - profile::edge(f) < c, c < zero));
-    numbers::choose16(numbers::or(small, slight), zero, c)
+    let lowest = numbers::choose16(nben, zero + 1 - profile::edge(f), zero);
+    numbers::choose16(numbers::and(lowest <= c, c < zero + 64), zero, c)
 }
 
 // Step 3.

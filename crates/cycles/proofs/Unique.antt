@@ -1,7 +1,7 @@
 -- The contracts of this crate's public functions leave no choice.
 use mathlib.Core.Path.{refl, sym, _∙_}
 use Rattle.once.specs.Once.{Once}
-use Rattle.cycles.proofs.Cycles.cycled
+use Rattle.cycles.proofs.Cycles.advanced
 
-pub cycled-once : Once cycled.ended cycled.Reads.Pre cycled.Reads.Learnt
-cycled-once κs a r r′ w w′ p h h′ = (h ∙ sym h′, refl)
+pub advanced-once : Once advanced.ended advanced.Reads.Pre advanced.Reads.Learnt
+advanced-once κs a r r′ w w′ p h h′ = (h ∙ sym h′, refl)

@@ -1,7 +1,7 @@
 // The cycle counter of the DS2775 profile.
-use profile::Profile;
 ghost use mathlib.Core.Path.{_≡_};
-ghost use Rattle.cycles.specs.Cycles.{stepsOf, restOf, cycledOf};
+ghost use Prim.Native.Nat.{_+_};
+ghost use Rattle.cycles.specs.Cycles.{stepsOf, restOf, advancedOf};
 
 // The counter, and how far ACR fell since its last step.
 pub struct Cycles {
@@ -20,13 +20,10 @@ fn rest(full40: u16, fallen: u64) -> u32
 }
 
 impl Cycles {
-    // A conversion in which ACR fell so far.
-    pub fn cycled(self, f: Profile, full40: u16, fall: u32) -> Cycles
-        ensures { λ r. ⌜ r ≡ cycledOf f full40 self fall ⌝ }
+    // A conversion of a pack that counts cycles, in which ACR fell so far.
+    pub fn advanced(self, full40: u16, fall: u32) -> Cycles
+        ensures { λ r. ⌜ r ≡ advancedOf full40 (self .count) (self .rest + fall) ⌝ }
     {
-        if !profile::counts(f) {
-            return self;
-        }
         let fallen = (self.rest as u64) + (fall as u64);
         let steps = numbers::quotient(fallen, 2 * (full40 as u64));
         Cycles {

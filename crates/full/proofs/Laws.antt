@@ -1,6 +1,6 @@
 -- What the definitions keep: bounds of what they give; charge and average are well-formed after step 6.
 use mathlib.Core.Path.{_≡_, refl}
-use mathlib.Core.Bool.{Bool}
+use mathlib.Core.Bool.{Bool, true}
 use Prim.Native.Nat.{ℕ, _+_, _%_, _≤_}
 use native.Mathlib.Omega.{arith}
 use lib.Dec.{ltb}
@@ -36,9 +36,9 @@ module _ (g : Charge) (full full40 : ℕ) (w : ChargeWF g) where
   unfolding filledOf
   filled-wf p q = set-wf _ _ _ (filled-high p q) (with-as-wf g _ taught-low taught-high w)
 
-  pub settled-wf : (found : Bool) → full ≤ 16384 → full40 ≤ 65535 → ChargeWF (settledOf g found full full40)
+  pub settled-wf : (found : Bool) → full ≤ 16384 → (found ≡ true → full40 ≤ 65535) → ChargeWF (settledOf g found full full40)
   unfolding settledOf
-  settled-wf found p q = picked ChargeWF found _ _ (λ e. filled-wf p q) (λ e. w)
+  settled-wf found p q = picked ChargeWF found _ _ (λ e. filled-wf p (q e)) (λ e. w)
 
 -- every conversion is counted
 pub averaged-made : (a : Average) (c : ℕ) → averagedOf a c .made ≡ nextMade (a .made)

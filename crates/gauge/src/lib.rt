@@ -12,8 +12,8 @@ ghost use Rattle.gauge.specs.Gauge.{GaugeWF, conversionOf, samplingOf, r
 ghost use Rattle.gauge.specs.Act.{ranOf, actOf, replyOf};
 
 pub struct Gauge {
-    pub common: Common,
     pub label: Label,
+    pub common: Common,
     pub meter: Meter,
 }
 

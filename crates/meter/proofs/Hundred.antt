@@ -3,7 +3,7 @@
 use mathlib.Core.Path.{_≡_, refl, ap, _∙_}
 use mathlib.Core.Bool.{Bool, true, false}
 use Prim.Native.Nat.{ℕ, _-_, _*_, _/_, _≤_, _<_}
-use native.Mathlib.Nat.{le-div-iff-mul-le, div-zero, mul-comm, mul-sub}
+use native.Mathlib.Nat.{mul-comm, mul-sub}
 use native.Mathlib.Omega.{arith}
 use Rattle.numbers.specs.Choice.{both}
 use Rattle.params.specs.declared.Capacity.{Capacity}
@@ -15,6 +15,7 @@ use Rattle.full.specs.Full.{eighth, foundOf, filledOf, settledOf}
 use Rattle.full.proofs.Laws.{filled-acr}
 use Rattle.model.specs.declared.Model.{Model}
 use Rattle.reading.specs.declared.Seen.{Seen}
+use Rattle.reading.proofs.Laws.{percent-full, percent-none}
 use Rattle.reading.specs.Reading.{leftOf, usableOf, percentOf, resultsOf, ratedOf, flaggedOf, seenOf}
 use Rattle.meter.specs.declared.Meter.{Meter}
 use Rattle.meter.specs.Convert.{convertedOf, flowedOf, convertOf}
@@ -27,16 +28,6 @@ usable-left : (acr af ae full40 : ℕ) → af * full40 ≤ 16384 * acr → usabl
 unfolding usableOf leftOf
 usable-left acr af ae full40 h =
     omega (arith, mul-comm (af - ae) full40 ∙ mul-sub full40 af ae, mul-comm full40 af, mul-comm full40 ae)
-
-percent-full : (n d : ℕ) → 0 < d → d ≤ n → percentOf n d ≡ 100
-unfolding percentOf
-percent-full n d some h =
-    let q : 100 ≤ 100 * n / d = le-div-iff-mul-le some .1 (omega arith) in
-    omega arith
-
-percent-none : (n : ℕ) → percentOf n 0 ≡ 0
-unfolding percentOf
-percent-none n = rw (div-zero (100 * n)) refl
 
 -- ---- the results, where ACR, AS, FULL and Full40 are as full left them
 

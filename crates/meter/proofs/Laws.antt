@@ -1,10 +1,17 @@
 -- What the definitions keep: a meter is well-formed after each event.
-use Prim.Native.Nat.{ℕ, _≤_}
+use mathlib.Core.Path.{_≡_, refl}
+use mathlib.Core.Bool.{true, false}
+use Prim.Native.Nat.{ℕ, _+_, _≤_}
 use native.Mathlib.Omega.{arith}
+use Rattle.numbers.proofs.Bounds.{both-true}
 use Rattle.params.specs.declared.Limits.{Limits}
 use Rattle.charge.specs.declared.Charge.{Charge}
-use Rattle.charge.specs.Charge.{ChargeWF}
+use Rattle.charge.specs.Charge.{ChargeWF, fallOf}
 use Rattle.charge.proofs.Laws.{share-high}
+use Rattle.profile.specs.Profile.{countsCycles}
+use Rattle.cycles.specs.declared.Cycles.{Cycles}
+use Rattle.cycles.specs.Cycles.{advancedOf, cycledOf}
+use Rattle.full.specs.Full.{eighth}
 use Rattle.full.proofs.Laws.{settled-wf, averaged-wf}
 use Rattle.reading.specs.declared.Results.{Results}
 use Rattle.reading.specs.declared.Seen.{Seen}
@@ -12,19 +19,30 @@ use Rattle.reading.specs.Reading.{SeenWF, pointOf}
 use Rattle.reading.proofs.Laws.{emptied-wf}
 use Rattle.meter.specs.declared.Cells.{Cells}
 use Rattle.meter.specs.declared.Meter.{Meter}
-use Rattle.meter.specs.State.{MeterWF, poweredOf}
+use Rattle.meter.specs.State.{MeterWF, withCharge, withCycles, poweredOf}
 use Rattle.meter.specs.Convert.{chargedOf, flowedOf}
 use Rattle.meter.specs.Read.{drainedOf, shownOf}
 
-pub charged-wf : (m : Meter) (full40 : ℕ) (g : Charge) → ChargeWF g → MeterWF m → MeterWF (chargedOf m full40 g)
-charged-wf m full40 g h w = record { charge = h; average = w .average; full = w .full; volt = w .volt; temp = w .temp }
+pub charged-wf : (m : Meter) (g : Charge) (y : Cycles) → ChargeWF g → MeterWF m → MeterWF (withCycles (withCharge m g) y)
+charged-wf m g y h w = record { charge = h; average = w .average; full = w .full; volt = w .volt; temp = w .temp }
 
 -- ---- conversion
 
-pub flowed-wf : (m : Meter) (p : Limits) (full40 c : ℕ) → full40 ≤ 65535 → c ≤ 65535 → MeterWF m → MeterWF (flowedOf m p full40 c)
+-- the cycle counter advances where the profile has one, and stays where it has none
+pub charged-counts : (m : Meter) (full40 : ℕ) (g : Charge) → countsCycles (m .cells .profile) ≡ true
+    → withCycles (withCharge m g) (advancedOf full40 (m .cycles .count) (m .cycles .rest + fallOf (m .charge .count) (g .count))) ≡ chargedOf m full40 g
+unfolding cycledOf
+charged-counts m full40 g e = rw e refl
+
+pub charged-stays : (m : Meter) (full40 : ℕ) (g : Charge) → countsCycles (m .cells .profile) ≡ false → withCharge m g ≡ chargedOf m full40 g
+unfolding cycledOf
+charged-stays m full40 g e = rw e refl
+
+pub flowed-wf : (m : Meter) (p : Limits) (full40 c : ℕ) → (eighth (m .flow .average) ≡ true → full40 ≤ 65535) → c ≤ 65535 → MeterWF m →
+    MeterWF (flowedOf m p full40 c)
 unfolding flowedOf
 flowed-wf m p full40 c q h w = record {
-  charge = settled-wf (m .charge) (m .shown .model .full) full40 (w .charge) _ (w .full) q;
+  charge = settled-wf (m .charge) (m .shown .model .full) full40 (w .charge) _ (w .full) (λ e. q (both-true _ _ e .0));
   average = averaged-wf (m .flow .average) c h (w .average);
   full = w .full;
   volt = w .volt;

@@ -17,10 +17,11 @@ use reading::Saved;
 use reading::Seen;
 use ticks::Tick;
 ghost use mathlib.Core.Path.{_≡_};
+ghost use Rattle.params.specs.Params.{limitsOf, capacityOf};
 ghost use Rattle.charge.specs.Charge.{ChargeWF};
 ghost use Rattle.reading.specs.Reading.{SeenWF};
 ghost use Rattle.meter.specs.State.{MeterWF, poweredOf, restartedOf};
-ghost use Rattle.meter.specs.Convert.{convertedOf, flowedOf, convertOf};
+ghost use Rattle.meter.specs.Convert.{convertedOf, flowedOf, chargedOf, convertOf};
 ghost use Rattle.meter.specs.Read.{drainedOf, shownOf, readOf};
 
 // Block 1.
@@ -37,8 +38,8 @@ pub struct Locks {
 
 // What writes, copy, recall, lock and the save change, and the profile, which nothing changes.
 pub struct Cells {
-    pub profile: Profile,
     pub saved: Saved,
+    pub profile: Profile,
     pub locks: Locks,
     pub block: Block,
 }
@@ -46,8 +47,8 @@ pub struct Cells {
 // The flow of currents: the last two, how many and the run of eight, the readings since it began, and the tick of the last sample.
 pub struct Flow {
     pub trace: Trace,
-    pub average: Average,
     pub since: Since,
+    pub average: Average,
     pub tick: Tick,
 }
 
@@ -62,8 +63,8 @@ pub struct Shown {
 pub struct Meter {
     pub cells: Cells,
     pub charge: Charge,
-    pub cycles: Cycles,
     pub flow: Flow,
+    pub cycles: Cycles,
     pub shown: Shown,
 }
 
@@ -81,17 +82,19 @@ impl Flow {
 }
 
 impl Meter {
-    // Step 6 of a conversion, and CURRENT.
-    fn flowed(mut self, p: Limits, full40: u16, c: u16) -> Meter
+    // Step 6 of a conversion, and CURRENT. What full asks of the block is taken at an eighth conversion only.
+    fn flowed(mut self, c: u16) -> Meter
         requires { ⌜ MeterWF self ⌝ }
-        ensures { λ r. ⌜ r ≡ flowedOf self p full40 c ⌝ }
+        ensures { λ r. ⌜ r ≡ flowedOf self (limitsOf (self .cells .block .shadow)) (capacityOf (self .cells .block .shadow) .full40) c ⌝ }
         ensures kept { λ r. ⌜ MeterWF r ⌝ }
     {
         let mut flow = self.flow;
         flow.trace = flow.trace.traced(c);
         if flow.average.made % 8 == 7 {
+            let p = Limits::of(&self.cells.block.shadow);
+            let full = Capacity::of(&self.cells.block.shadow);
             let found = flow.average.found(flow.since, p, c);
-            self.charge = full::settled(self.charge, found, self.shown.model.full, full40);
+            self.charge = full::settled(self.charge, found, self.shown.model.full, full.full40);
             let chgtf = numbers::or(found, self.shown.flags.chgtf);
             self.shown.flags.chgtf = chgtf;
             flow.since.any = false;
@@ -102,23 +105,38 @@ impl Meter {
         self
     }
 
+    // The charge that steps 1 to 5 leave, and the cycle counter, which counts the same fall of ACR as ageing.
+    pub fn charged(mut self, g: Charge) -> Meter
+        requires { ⌜ MeterWF self ⌝ }
+        requires { ⌜ ChargeWF g ⌝ }
+        ensures { λ r. ⌜ r ≡ chargedOf self (capacityOf (self .cells .block .shadow) .full40) g ⌝ }
+        ensures kept { λ r. ⌜ MeterWF r ⌝ }
+    {
+        let cells = self.cells;
+        let f = cells.profile;
+        let fall = charge::fall(self.charge.count, g.count);
+        self.charge = g;
+        if profile::counts(f) {
+            let full = Capacity::of(&self.cells.block.shadow);
+            let cycles = self.cycles.advanced(full.full40, fall);
+            self.cycles.count = cycles.count;
+            self.cycles.rest = cycles.rest;
+        }
+        self
+    }
+
     // A conversion of any signed 32-bit raw current, which comes as z + 2^31.
-    pub fn convert(mut self, raw: u32) -> Meter
+    pub fn convert(self, raw: u32) -> Meter
         requires { ⌜ MeterWF self ⌝ }
         ensures { λ r. ⌜ r ≡ convertOf self raw ⌝ }
         ensures kept { λ r. ⌜ MeterWF r ⌝ }
     {
         let p = Counting::of(&self.cells.block.shadow);
-        let limits = Limits::of(&self.cells.block.shadow);
-        let full = Capacity::of(&self.cells.block.shadow);
         let c = self.flow.converted(raw, p.cob);
         let cells = self.cells;
         let f = cells.profile;
         let charge = self.charge.counted(f, p, self.flow.trace.last, c);
-        let fall = charge::fall(self.charge.count, charge.count);
-        self.charge = charge;
-        self.cycles = self.cycles.cycled(f, full.full40, fall);
-        self.flowed(limits, full.full40, c)
+        self.charged(charge).flowed(c)
     }
 
     // Step 3.

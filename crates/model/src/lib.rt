@@ -3,7 +3,7 @@ use params::Breaks;
 use params::Curves;
 use params::Slopes;
 ghost use mathlib.Core.Path.{_≡_};
-ghost use Prim.Native.Nat.{_*_, _≤_};
+ghost use Prim.Native.Nat.{_*_, _^_, _≤_, _<_};
 ghost use Rattle.numbers.specs.Offset.{movedInto};
 ghost use Rattle.model.specs.Model.{fullLineOf, emptyLineOf, linesOf};
 ghost use Rattle.model.specs.Product.{segmentsOf, weighedOf};
@@ -49,30 +49,32 @@ fn segments(b: Breaks, t: u16) -> Degrees
 }
 
 // Step 2: the slopes over a segment's degrees.
-fn stretch(degrees: u8, slope: u8) -> u32
+fn stretch(degrees: u8, slope: u32) -> u64
     ensures { λ r. ⌜ r ≡ degrees * slope ⌝ }
-    ensures small { λ r. ⌜ r ≤ 65025 ⌝ }
+    ensures small { λ r. ⌜ r < 2 ^ 40 ⌝ }
 {
-    (degrees as u32) * (slope as u32)
+    (degrees as u64) * (slope as u64)
 }
 
 // Step 2: the slopes of a line going down, each as often as its segment has degrees.
-fn weighed(n: Degrees, s: Slopes) -> u32
+fn weighed(n: Degrees, s: Slopes) -> u64
     ensures { λ r. ⌜ r ≡ weighedOf n s ⌝ }
+    ensures small { λ r. ⌜ r < 2 ^ 42 ⌝ }
 {
     stretch(n.s4, s.s4) + stretch(n.s3, s.s3) + stretch(n.s2, s.s2) + stretch(n.s1, s.s1)
 }
 
-fn full_line(slopes: u32) -> u16
+fn full_line(slopes: u64) -> u16
     ensures { λ r. ⌜ r ≡ fullLineOf slopes ⌝ }
 {
-    numbers::at_least(8192, numbers::less(16384, slopes as u64)) as u16
+    numbers::at_least(8192, numbers::less(16384, slopes)) as u16
 }
 
-fn empty_line(start: u8, slopes: u32) -> u16
+fn empty_line(start: u8, slopes: u64) -> u16
+    requires { ⌜ slopes < 2 ^ 42 ⌝ }
     ensures { λ r. ⌜ r ≡ emptyLineOf start slopes ⌝ }
 {
-    let line = 16 * (start as u64) + (slopes as u64);
+    let line = 16 * (start as u64) + slopes;
     numbers::at_most(8191, line) as u16
 }
 

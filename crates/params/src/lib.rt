@@ -30,12 +30,12 @@ pub struct Breaks {
     pub b12: u8,
 }
 
-// The slopes of a line, by segment.
+// The slopes of a line, by segment. (As four bytes they would be passed as one number, out of which each is shifted.)
 pub struct Slopes {
-    pub s4: u8,
-    pub s3: u8,
-    pub s2: u8,
-    pub s1: u8,
+    pub s4: u32,
+    pub s3: u32,
+    pub s2: u32,
+    pub s1: u32,
 }
 
 // The breakpoints, byte 68h, and the slopes of the three lines.
@@ -102,16 +102,22 @@ impl Breaks {
     }
 }
 
+fn wide(x: u8) -> u32
+    ensures { λ r. ⌜ r ≡ x ⌝ }
+{
+    x as u32
+}
+
 impl Slopes {
     fn of(b: &[u8; 32], at: usize) -> Slopes
         requires { ⌜ at ≤ 28 ⌝ }
         ensures { λ r. ⌜ r ≡ slopesOf (now (b .entry)) (0x60 + at) ⌝ }
     {
         Slopes {
-            s4: b[at],
-            s3: b[at + 1],
-            s2: b[at + 2],
-            s1: b[at + 3],
+            s4: wide(b[at]),
+            s3: wide(b[at + 1]),
+            s2: wide(b[at + 2]),
+            s1: wide(b[at + 3]),
         }
     }
 }

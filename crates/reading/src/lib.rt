@@ -132,7 +132,11 @@ fn usable(af: u16, empty: u16, full40: u16) -> u32
 fn percent(n: u32, d: u32) -> u8
     ensures { λ r. ⌜ r ≡ percentOf n d ⌝ }
 {
-    numbers::at_most(100, numbers::quotient(100 * (n as u64), d as u64)) as u8
+    if n < d {
+        (100 * (n as u64) / (d as u64)) as u8
+    } else {
+        numbers::choose8(d == 0, 0, 100)
+    }
 }
 
 fn amount(n: u32, rsnsp: u8) -> u16

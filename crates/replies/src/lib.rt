@@ -158,10 +158,11 @@ fn register_reply(k: Common, m: Meter, a: usize, room: &mut [u8])
     ensures { λ _. ⌜ now (room .exit) ≡ listed (λ i. getD (registersOf k m) (a + i) 0) 0 (length (now (room .entry))) ⌝ }
 {
     let p = map::register(k, m, a - a % 2);
-    let mut i = 0;
-    while i < room.len() {
-        room[i] = half(p, a + i);
-        i += 1;
+    if 0 < room.len() {
+        room[0] = half(p, a);
+        if 1 < room.len() {
+            room[1] = half(p, a + 1);
+        }
     }
 }
 

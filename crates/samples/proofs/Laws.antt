@@ -191,7 +191,7 @@ module _ (m : Meter) (raw : ℕ) (w : MeterWF m) where
 pub flowed-over-wf : (m : Meter) (p : Limits) (full40 c k : ℕ) → full40 ≤ 65535 → c ≤ 65535 → MeterWF m → MeterWF (flowedOver m p full40 c k)
 unfolding flowedOver flowOver
 flowed-over-wf m p full40 c k q h w = record {
-  charge = settled-wf (m .charge) (m .shown .model .full) full40 (w .charge) _ (w .full) q;
+  charge = settled-wf (m .charge) (m .shown .model .full) full40 (w .charge) _ (w .full) (λ e. q);
   average = average-wf (m .flow .average) c k h (w .average);
   full = w .full;
   volt = w .volt;

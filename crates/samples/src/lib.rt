@@ -166,7 +166,7 @@ fn flowed_over(mut m: Meter, p: Limits, full40: u16, c: u16, k: u16) -> Meter
     m
 }
 
-fn stretch(mut m: Meter, raw: u32, k: u16) -> Meter
+fn stretch(m: Meter, raw: u32, k: u16) -> Meter
     requires { ⌜ MeterWF m ⌝ }
     requires { ⌜ 1 ≤ k ⌝ }
     ensures { λ r. ⌜ r ≡ stretchedOf m raw k ⌝ }
@@ -183,10 +183,7 @@ fn stretch(mut m: Meter, raw: u32, k: u16) -> Meter
     let cells = m.cells;
     let f = cells.profile;
     let charge = charge_over(f, p, m.charge, m.flow.trace.last, c, k);
-    let fall = charge::fall(m.charge.count, charge.count);
-    m.charge = charge;
-    m.cycles = m.cycles.cycled(f, full.full40, fall);
-    flowed_over(m, limits, full.full40, c, k)
+    flowed_over(m.charged(charge), limits, full.full40, c, k)
 }
 
 // How many of the conversions that are left a stretch takes: up to the end of the run of eight, where full may be found or a 1024th is made,

@@ -1,0 +1,21 @@
+use Prim.Native.Nat.{_+_, _*_}
+use native.Mathlib.Nat.{div-le-self}
+use native.Mathlib.Omega.{arith}
+use borrow.Author.Needs.{needs}
+use Rattle.cycles.proofs.Cycles.advanced.Statement.{statement}
+use Rattle.cycles.proofs.Cycles.advanced.Tie as tie
+
+add-at-most : tie.Need-add-at-most
+add-at-most c =
+    let c1 = c .before in
+    let c3 = c1 .before .before in
+    omega (arith, c1 .quotient .ensures, div-le-self (c3 .args .self .rest + c3 .args .fall) (2 * c3 .args .full40))
+
+returns : tie.Need-returns
+returns c =
+    let c1 = c .before in
+    let c3 = c1 .before .before in
+    simp (c .rest .ensures, c1 .at-most .ensures, c3 .quotient .ensures)
+
+pub advanced-spec : {M : Type 1} → statement M
+advanced-spec = tie.close (tie.spec (λ c. search needs) (λ c. search needs) (λ c. search needs) (λ c κs. search needs) (λ c. search needs) add-at-most (λ c κs. search needs) (λ c. search needs) (λ c κs. search needs) returns)
