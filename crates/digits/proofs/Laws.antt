@@ -1,14 +1,16 @@
 -- How pieces of text are joined, and what follows of the digits' definitions.
 use mathlib.Core.Path.{_≡_, refl, sym, ap, _∙_}
+use mathlib.Core.Bool.{Bool, true, false}
 use mathlib.Core.List.{List, [], _∷_, _++_}
 use Prim.Native.Nat.{ℕ, _+_, _-_, _*_, _/_, _%_, _≤_, _<_}
 use native.Mathlib.Nat.{add-zero}
 use native.Mathlib.Numerals.{add-one}
 use native.Mathlib.Omega.{arith}
-use borrow.Author.Tests.{lt-ltb}
+use borrow.Author.Tests.{lt-ltb, le-ltb}
 use lib.Dec.{ltb}
 use lib.ListN.{length, getD, take, drop, length-append, length-drop, take-append-drop}
 use lib.Seq.{take-suc, take-all, length-take-le}
+use Rattle.numbers.specs.Choice.{pick}
 use Rattle.numbers.proofs.Bounds.{picked}
 use Rattle.parts.specs.Parts.{put, part}
 use Rattle.parts.proofs.Laws.{put-length, put-next, part-rest}
@@ -37,6 +39,11 @@ pub wider : {m n i j : ℕ} {xs l l′ : List ℕ} → Writing m xs l i j l′ �
 wider w h = record { onward = w .onward; written = w .written; within = omega (arith, w .within) }
 
 -- ---- bytes in hex
+
+-- a letter is so much more than a decimal digit would be
+pub lettered : (t : Bool) (d : ℕ) → 48 + d + pick t 0 39 ≡ pick t (48 + d) (87 + d)
+lettered true d = omega arith
+lettered false d = omega arith
 
 pub hex-append : (letter : ℕ) (xs ys : List ℕ) → hexText letter (xs ++ ys) ≡ hexText letter xs ++ hexText letter ys
 hex-append letter [] ys = refl
@@ -101,15 +108,23 @@ module _ (n : ℕ) where
       let e : 48 ≡ digitOf (n + 1) = omega arith in
       λ i. (48 + a i) ∷ (48 + b i) ∷ (48 + c i) ∷ d i ∷ e i ∷ []
 
-  -- a number of one digit
-  pub single : n < 10 → (48 + n) ∷ [] ≡ decimalText n
-  unfolding shownText decimalText
-  single h =
-      let a : n < 10000 = omega arith in
-      let b : n < 1000 = omega arith in
-      let c : n < 100 = omega arith in
-      let e : n ≡ n % 10 = omega arith in
-      simp (lt-ltb n 10000 a, lt-ltb n 1000 b, lt-ltb n 100 c, lt-ltb n 10 h) (ap (λ (k : ℕ). (48 + k) ∷ []) e)
+-- ---- the digits that are shown
+
+module _ (n place : ℕ) where
+  pub left-out : n < place → placeText place n ≡ []
+  unfolding shownText
+  left-out h = rw (lt-ltb n place h)
+
+  pub shown : place ≤ n → placeText place n ≡ digitOf (n / place) ∷ []
+  unfolding shownText
+  shown h = rw (le-ltb n place h)
+
+-- a number of one digit
+pub single : (n : ℕ) → n < 10 → (48 + n) ∷ [] ≡ decimalText n
+unfolding decimalText
+single n h =
+    let e : n ≡ n % 10 = omega arith in
+    rw (left-out n 10000 (omega arith), left-out n 1000 (omega arith), left-out n 100 (omega arith), left-out n 10 h) (ap (λ (k : ℕ). (48 + k) ∷ []) e)
 
 -- ---- a bound that the bytes themselves give
 
@@ -120,10 +135,6 @@ narrow {xs = xs} w h = record { onward = w .onward; written = w .written; within
 shown-few : (place n digit : ℕ) → length (shownText place n digit) ≤ 1
 unfolding shownText
 shown-few place n digit = picked (λ (xs : List ℕ). length xs ≤ 1) (ltb n place) [] (digit ∷ []) (λ e. omega arith) (λ e. omega arith)
-
-left-out : (n place : ℕ) → n < place → placeText place n ≡ []
-unfolding shownText
-left-out n place h = rw (lt-ltb n place h)
 
 -- a number below a thousand has three digits at most
 pub three : (n : ℕ) → n < 1000 → length (decimalText n) ≤ 3

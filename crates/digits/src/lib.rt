@@ -3,7 +3,7 @@ ghost use mathlib.Core.Path.{_≡_};
 ghost use mathlib.Core.List.{[], _∷_};
 ghost use Prim.Native.Nat.{_+_, _*_, _≤_, _<_};
 ghost use lib.ListN.{length};
-ghost use Rattle.digits.specs.Digits.{hexOf, lower, upper, pairText, hexText, pairsOf, entryText, hexDigit, hexValue, pairValue, hexDigits, placesOf, shownText, decimalText, Writing};
+ghost use Rattle.digits.specs.Digits.{hexOf, lower, upper, pairText, hexText, pairsOf, entryText, hexDigit, hexValue, pairValue, hexDigits, placesOf, decimalText, Writing};
 
 // ---- bytes
 
@@ -43,12 +43,12 @@ pub fn put_entry(table: &[u8; 512], b: u8, out: &mut [u8], at: usize) -> usize
     put_byte(table[i + 1], out, next)
 }
 
-// A digit in lower case.
+// A digit in lower case. What the letters add is chosen, and not the digit: of that the compiler makes less for eight at a time.
 pub fn hex(d: u8) -> u8
     requires { ⌜ d < 16 ⌝ }
     ensures { λ r. ⌜ r ≡ hexOf lower d ⌝ }
 {
-    if d < 10 { b'0' + d } else { b'a' - 10 + d }
+    b'0' + d + numbers::choose8(d < 10, 0, b'a' - 10 - b'0')
 }
 
 fn put_pair(b: u8, out: &mut [u8], at: usize) -> usize
@@ -88,12 +88,15 @@ fn put_few(table: &[u8; 512], few: &[u8], out: &mut [u8], at: usize) -> usize
     next
 }
 
-// Bytes in lower case: by eights, and what is left.
+// Bytes in lower case: by eights where there are as many, and what is left.
 pub fn put_hex(table: &[u8; 512], bytes: &[u8], out: &mut [u8], at: usize) -> usize
     requires { ⌜ now table ≡ pairsOf lower ⌝ }
     requires { ⌜ at + 2 * length (now bytes) ≤ length (now out) ⌝ }
     ensures { λ r. ⌜ Writing (2 * length (now (bytes .entry))) (hexText lower (now (bytes .entry))) (now (out .entry)) at r (now (out .exit)) ⌝ }
 {
+    if bytes.len() < 8 {
+        return put_few(table, bytes, out, at);
+    }
     let eights = bytes.len() / 8 * 8;
     let next = put_many(&bytes[..eights], out, at);
     put_few(table, &bytes[eights..], out, next)
@@ -205,28 +208,26 @@ pub fn count_up(n: usize, five: &mut [u8; 5])
     *five = next;
 }
 
-// The digit of n that stands at a place, unless it is a leading zero.
-fn put_shown(place: usize, n: usize, digit: u8, out: &mut [u8], at: usize) -> usize
-    requires { ⌜ at < length (now out) ⌝ }
-    ensures { λ r. ⌜ Writing 1 (shownText place n digit) (now (out .entry)) at r (now (out .exit)) ⌝ }
-{
-    if n < place {
-        return at;
-    }
-    put_byte(digit, out, at)
-}
-
-// A number whose five digits are at hand.
+// A number whose five digits are at hand: those from its first one on. How many they are is asked first, so that each stands at a known distance.
 pub fn put_places(five: &[u8; 5], n: usize, out: &mut [u8], at: usize) -> usize
     requires { ⌜ now five ≡ placesOf n ⌝ }
     requires { ⌜ at + 5 ≤ length (now out) ⌝ }
     ensures { λ r. ⌜ Writing 5 (decimalText n) (now (out .entry)) at r (now (out .exit)) ⌝ }
 {
-    let a = put_shown(10000, n, five[0], out, at);
-    let b = put_shown(1000, n, five[1], out, a);
-    let c = put_shown(100, n, five[2], out, b);
-    let d = put_shown(10, n, five[3], out, c);
-    put_byte(five[4], out, d)
+    let all = &five[..];
+    if 10000 <= n {
+        return put_bytes(all, out, at);
+    }
+    if 1000 <= n {
+        return put_bytes(&all[1..], out, at);
+    }
+    if 100 <= n {
+        return put_bytes(&all[2..], out, at);
+    }
+    if 10 <= n {
+        return put_bytes(&all[3..], out, at);
+    }
+    put_bytes(&all[4..], out, at)
 }
 
 pub fn put_decimal(n: usize, out: &mut [u8], at: usize) -> usize

@@ -1,17 +1,21 @@
 -- `digits::hex` meets its contract.
-use borrow.Author.Tests.{lt-ltb, le-ltb}
+use Prim.Native.Nat.{ℕ, _≤_}
+use native.Mathlib.Omega.{arith}
+use lib.Dec.{ltb}
+use Rattle.numbers.proofs.Bounds.{picked}
 use Rattle.digits.specs.Digits.{hexOf}
+use Rattle.digits.proofs.Laws.{lettered}
 use borrow.Author.Needs.{needs}
 use Rattle.digits.proofs.hex.Statement.{statement}
 use Rattle.digits.proofs.hex.Tie as tie
 
+add-result-2 : tie.Need-add-result-2
+add-result-2 c = omega (arith, c .choose8 .ensures, picked (λ (k : ℕ). k ≤ 39) (ltb (c .before .args .d) 10) 0 39 (λ e. omega arith) (λ e. omega arith))
+
 returns : tie.Need-returns
 unfolding hexOf
-returns c = simp (lt-ltb _ _ (c .if1 .taken))
-
-returns-2 : tie.Need-returns-2
-unfolding hexOf
-returns-2 c = simp (le-ltb _ _ (c .if1 .left))
+returns c = rw (c .choose8 .ensures) (lettered (ltb (c .before .args .d) 10) (c .before .args .d))
 
 pub hex-spec : {M : Type 1} → statement M
-hex-spec = tie.close (tie.spec (λ c. search needs) (λ c. search needs) (λ c. search needs) returns returns-2)
+hex-spec =
+    tie.close (tie.spec (λ c. search needs) (λ c. search needs) (λ c. search needs) (λ c κs. search needs) add-result-2 returns)

@@ -1,6 +1,7 @@
--- `digits::put_places` meets its contract, by joining its pieces.
+-- `digits::put_places` meets its contract: the digits from the first place on that the number reaches.
+use native.Mathlib.Omega.{arith}
 use Rattle.digits.specs.Digits.{decimalText}
-use Rattle.digits.proofs.Laws.{then}
+use Rattle.digits.proofs.Laws.{wider, left-out, shown}
 use borrow.Author.Needs.{needs}
 use Rattle.digits.proofs.put_places.Statement.{statement}
 use Rattle.digits.proofs.put_places.Tie as tie
@@ -8,22 +9,61 @@ use Rattle.digits.proofs.put_places.Tie as tie
 returns : tie.Need-returns
 unfolding decimalText
 returns c =
-    let digits = c .before .before .before .before .before .before .before .before .before .before .before .before .before .before .before .before .before .before .before .before .before .before .before .before .before .before .pre .0 in
-    then (rw digits at (c .before .before .before .before .before .before .before .before .before .before .before .before .before .before .before .before .before .before .before .before .before .before .put-shown .ensures)) (then (rw digits at (c .before .before .before .before .before .before .before .before .before .before .before .before .before .before .before .before .before .put-shown2 .ensures)) (then (rw digits at (c .before .before .before .before .before .before .before .before .before .before .before .before .put-shown3 .ensures)) (then (rw digits at (c .before .before .before .before .before .before .before .put-shown4 .ensures)) (rw digits at (c .before .before .put-byte .ensures)))))
+    let n = c .before .before .before .before .before .before .before .args .n in
+    rw (shown n 10000 (omega arith), shown n 1000 (omega arith), shown n 100 (omega arith), shown n 10 (omega arith)) (wider (rw (c .before .before .before .before .before .before .before .pre .0) at (c .before .before .put-bytes .ensures)) (omega arith))
+
+returns-2 : tie.Need-returns-2
+unfolding decimalText
+returns-2 c =
+    let n = c .before .before .before .before .before .before .before .before .before .args .n in
+    rw (left-out n 10000 (omega arith), shown n 1000 (omega arith), shown n 100 (omega arith), shown n 10 (omega arith)) (wider (rw (c .before .before .before .before .before .before .before .before .before .pre .0) at (c .before .before .put-bytes2 .ensures)) (omega arith))
+
+returns-3 : tie.Need-returns-3
+unfolding decimalText
+returns-3 c =
+    let n = c .before .before .before .before .before .before .before .before .before .before .args .n in
+    rw (left-out n 10000 (omega arith), left-out n 1000 (omega arith), shown n 100 (omega arith), shown n 10 (omega arith)) (wider (rw (c .before .before .before .before .before .before .before .before .before .before .pre .0) at (c .before .before .put-bytes3 .ensures)) (omega arith))
+
+returns-4 : tie.Need-returns-4
+unfolding decimalText
+returns-4 c =
+    let n = c .before .before .before .before .before .before .before .before .before .before .before .args .n in
+    rw (left-out n 10000 (omega arith), left-out n 1000 (omega arith), left-out n 100 (omega arith), shown n 10 (omega arith)) (wider (rw (c .before .before .before .before .before .before .before .before .before .before .before .pre .0) at (c .before .before .put-bytes4 .ensures)) (omega arith))
+
+returns-5 : tie.Need-returns-5
+unfolding decimalText
+returns-5 c =
+    let n = c .before .before .before .before .before .before .before .before .before .before .before .args .n in
+    rw (left-out n 10000 (omega arith), left-out n 1000 (omega arith), left-out n 100 (omega arith), left-out n 10 (omega arith)) (wider (rw (c .before .before .before .before .before .before .before .before .before .before .before .pre .0) at (c .before .before .put-bytes5 .ensures)) (omega arith))
 
 pub put-places-spec : {M : Type 1} → statement M
 put-places-spec =
     tie.close
     (tie.spec
+    (λ c κs. search needs)
+    (λ c. search needs)
+    returns
+    (λ c. search needs)
+    (λ c. search needs)
     (λ c. search needs)
     (λ c κs. search needs)
     (λ c. search needs)
-    (λ c κs. search needs)
+    returns-2
+    (λ c. search needs)
+    (λ c. search needs)
     (λ c. search needs)
     (λ c κs. search needs)
     (λ c. search needs)
-    (λ c κs. search needs)
+    returns-3
+    (λ c. search needs)
+    (λ c. search needs)
     (λ c. search needs)
     (λ c κs. search needs)
     (λ c. search needs)
-    returns)
+    returns-4
+    (λ c. search needs)
+    (λ c. search needs)
+    (λ c. search needs)
+    (λ c κs. search needs)
+    (λ c. search needs)
+    returns-5)
