@@ -1,12 +1,12 @@
 -- The contracts of this crate's public functions leave no choice.
 use mathlib.Core.Path.{sym, _∙_}
 use Rattle.once.specs.Once.{Once}
-use Rattle.line.proofs.put_start
+use Rattle.line.proofs.put_fields
 use Rattle.line.proofs.put_bare_end
 use Rattle.line.proofs.put_end
 
-pub put-start-once : Once put_start.ended put_start.Reads.Pre put_start.Reads.Learnt
-put-start-once κs a r r′ w w′ p h h′ = (h .onward ∙ sym (h′ .onward), λ i. (tt, (tt, (tt, (tt, (tt, ((h .written ∙ sym (h′ .written)) i, (tt, tt))))))))
+pub put-fields-once : Once put_fields.ended put_fields.Reads.Pre put_fields.Reads.Learnt
+put-fields-once κs a r r′ w w′ p h h′ = (h .onward ∙ sym (h′ .onward), λ i. (tt, (tt, (tt, ((h .written ∙ sym (h′ .written)) i, (tt, tt))))))
 
 pub put-bare-end-once : Once put_bare_end.ended put_bare_end.Reads.Pre put_bare_end.Reads.Learnt
 put-bare-end-once κs a r r′ w w′ p h h′ = (h .onward ∙ sym (h′ .onward), λ i. ((h .written ∙ sym (h′ .written)) i, (tt, tt)))

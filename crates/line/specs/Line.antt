@@ -27,9 +27,13 @@ replyText reply = pick (eqb (length reply) 0) (dash ∷ []) (hexText lower reply
 
 -- ---- the line
 
+-- kind and answer, with one space before, between and behind them
+abbrev pub fieldsText : ℕ → ℕ → List ℕ
+fieldsText kind answer = space ∷ (kindText kind answer ++ (space ∷ (decimalText answer ++ (space ∷ []))))
+
 -- number, kind and answer, with one space behind each
 unfoldable pub startText : ℕ → ℕ → ℕ → List ℕ
-startText number kind answer = decimalText number ++ (space ∷ (kindText kind answer ++ (space ∷ (decimalText answer ++ (space ∷ [])))))
+startText number kind answer = decimalText number ++ fieldsText kind answer
 
 -- the reply, and the end of the line
 unfoldable pub endText : List ℕ → List ℕ

@@ -1,10 +1,10 @@
-// One line of the text, as bytes in a lent buffer, in two parts: up to the reply, and from there on.
+// What stands behind the number in a line of the text, as bytes in a lent buffer, in two parts: up to the reply, and from there on.
 ghost use mathlib.Core.Path.{_≡_};
 ghost use mathlib.Core.List.{[]};
 ghost use Prim.Native.Nat.{_+_, _*_, _≤_, _<_};
 ghost use lib.ListN.{length};
-ghost use Rattle.digits.specs.Digits.{lower, pairsOf, placesOf, Writing};
-ghost use Rattle.line.specs.Line.{kindText, startText, endText};
+ghost use Rattle.digits.specs.Digits.{lower, pairsOf, Writing};
+ghost use Rattle.line.specs.Line.{kindText, fieldsText, endText};
 
 fn put_kind(table: &[u8; 512], kind: usize, answer: usize, out: &mut [u8], at: usize) -> usize
     requires { ⌜ now table ≡ pairsOf lower ⌝ }
@@ -19,29 +19,19 @@ fn put_kind(table: &[u8; 512], kind: usize, answer: usize, out: &mut [u8], at: u
     digits::put_entry(table, (kind % 256) as u8, out, next)
 }
 
-// What stands before the reply. The digits of the number, and the table for the kind's, are the caller's: it keeps them from line to line.
-pub fn put_start(
-    table: &[u8; 512],
-    five: &[u8; 5],
-    number: usize,
-    kind: usize,
-    answer: usize,
-    out: &mut [u8],
-    at: usize,
-) -> usize
+// What stands between the number and the reply. The table for the kind's digits is the caller's: it keeps it from line to line.
+pub fn put_fields(table: &[u8; 512], kind: usize, answer: usize, out: &mut [u8], at: usize) -> usize
     requires { ⌜ now table ≡ pairsOf lower ⌝ }
-    requires { ⌜ now five ≡ placesOf number ⌝ }
     requires { ⌜ kind < 65536 ⌝ }
     requires { ⌜ answer < 256 ⌝ }
-    requires { ⌜ at + 17 ≤ length (now out) ⌝ }
-    ensures { λ r. ⌜ Writing 15 (startText number kind answer) (now (out .entry)) at r (now (out .exit)) ⌝ }
+    requires { ⌜ at + 12 ≤ length (now out) ⌝ }
+    ensures { λ r. ⌜ Writing 10 (fieldsText kind answer) (now (out .entry)) at r (now (out .exit)) ⌝ }
 {
-    let a = digits::put_places(five, number, out, at);
-    let b = digits::put_byte(b' ', out, a);
-    let c = put_kind(table, kind, answer, out, b);
-    let d = digits::put_byte(b' ', out, c);
-    let e = digits::put_decimal(answer, out, d);
-    digits::put_byte(b' ', out, e)
+    let a = digits::put_byte(b' ', out, at);
+    let b = put_kind(table, kind, answer, out, a);
+    let c = digits::put_byte(b' ', out, b);
+    let d = digits::put_decimal(answer, out, c);
+    digits::put_byte(b' ', out, d)
 }
 
 // The end of a line without a reply.

@@ -2,18 +2,19 @@
 use mathlib.Core.Path.{_≡_, refl, sym, ap, _∙_}
 use mathlib.Core.Bool.{Bool, true, false}
 use mathlib.Core.List.{List, [], _∷_}
-use Prim.Native.Nat.{ℕ, _+_, _-_, _*_, _≤_, _<_, min}
+use Prim.Native.Nat.{ℕ, _+_, _-_, _*_, _/_, _≤_, _<_, min}
+use native.Mathlib.Nat.{add-zero}
 use native.Mathlib.Numerals.{add-one}
 use native.Mathlib.Omega.{arith}
 use borrow.Author.Tests.{leb-true, leb-false}
 use lib.Dec.{leb}
-use lib.ListN.{length, getD, take, drop, length-drop, drop-of-length-le}
-use lib.Seq.{drop-cons, drop-drop, take-all}
+use lib.ListN.{length, getD, take, drop, drop-of-length-le}
+use lib.Seq.{drop-cons, drop-drop, take-all, length-take-le}
 use Rattle.parts.specs.Parts.{part}
-use Rattle.parts.proofs.Laws.{part-length}
+use Rattle.parts.proofs.Laws.{part-length, part-rest}
 use Rattle.text.specs.Text.{codeKind, codeAnswer, codeReplied, codesText}
-use Rattle.digits.specs.Digits.{Writing}
-use Rattle.line.specs.Line.{lineText, startText, endText}
+use Rattle.digits.specs.Digits.{decimalText, Writing}
+use Rattle.line.specs.Line.{lineText, fieldsText, startText, endText}
 use Rattle.digits.proofs.Laws.{kept, none, then, wider}
 
 -- i lines are written, with so much of the replies: whatever is written behind them as the rest makes the whole
@@ -48,39 +49,55 @@ start codes replies before at = record {
 }
 
 module _ {codes replies before : List ℕ} {at : ℕ} {room : List ℕ} {next used i : ℕ} (g : Going codes replies before at room next used i) where
+  abbrev rest : List ℕ
+  rest = part (length replies - used) replies used
+
+  rest-length : used + length rest ≡ length replies
+  rest-length = omega (arith, g .served, part-length (length replies - used) replies used (omega (arith, g .served)))
+
+  -- what is left of the room holds a line more, with all that is left of the replies
+  pub roomy : at + (17 * length codes + 2 * length replies) ≤ length before → i < length codes → next + (17 + 2 * length rest) ≤ length room
+  roomy fits h = omega (arith, g .short, g .sized, rest-length)
+
+  -- a part of what is left of the replies lies within them
+  pub served-more : {count : ℕ} → count ≤ length rest → used + count ≤ length replies
+  served-more h = omega (arith, rest-length)
+
   -- the line i + 1, with its part of the replies
-  pub more : {mid after : List ℕ} {start last end : ℕ} → i < length codes → end ≡ used + min (codeReplied (getD codes i 0)) (length replies - used)
-      → Writing 15 (startText (i + 1) (codeKind (getD codes i 0)) (codeAnswer (getD codes i 0))) room next start mid
-      → Writing (2 + 2 * length (part (end - used) replies used)) (endText (part (end - used) replies used)) mid start last after
-      → Going codes replies before at after last end (i + 1)
-  more {mid} {after} {start} {last} {end} h e w₁ w₂ =
-      let w : Writing (17 + 2 * length (part (end - used) replies used)) (lineText (i + 1) (codeKind (getD codes i 0)) (codeAnswer (getD codes i 0)) (part (end - used) replies used)) room next last after
-      = wider (then w₁ w₂) (omega arith) in
+  pub more : {mid low after : List ℕ} {start fields last count : ℕ} → i < length codes → count ≡ min (codeReplied (getD codes i 0)) (length rest)
+      → Writing 5 (decimalText (i + 1)) room next start mid
+      → Writing 10 (fieldsText (codeKind (getD codes i 0)) (codeAnswer (getD codes i 0))) mid start fields low
+      → Writing (2 + 2 * length (take count rest)) (endText (take count rest)) low fields last after
+      → Going codes replies before at after last (used + count) (i + 1)
+  unfolding startText
+  more {after = after} {last = last} {count = count} h e w₁ w₂ w₃ =
       let asked = codeReplied (getD codes i 0) in
-      let n : end - used ≡ min asked (length (drop used replies)) = omega (arith, length-drop used replies) in
-      let fits : end ≤ length replies = omega (arith, g .served) in
-      let behind : used + (end - used) ≡ end = omega arith in
-      let size : length (part (end - used) replies used) ≡ end - used = part-length (end - used) replies used (rw behind fits) in
-      let cut = take-drop-min asked (drop used replies) (end - used) n in
-      let left : drop asked (drop used replies) ≡ drop end replies = sym (cut .1) ∙ drop-drop (end - used) used replies ∙ ap (λ (k : ℕ). drop k replies) behind in
+      let left = drop used replies in
+      let w : Writing (17 + 2 * length (take count left)) (lineText (i + 1) (codeKind (getD codes i 0)) (codeAnswer (getD codes i 0)) (take count left)) room next last after
+      = wider (then (then w₁ w₂) (rw (part-rest replies used) at w₃)) (omega arith) in
+      let n : count ≡ min asked (length left) = rw (part-rest replies used) at e in
+      let size : length (take count left) ≡ count = length-take-le count left (omega arith) in
+      let cut = take-drop-min asked left count n in
+      let behind : drop asked left ≡ drop (used + count) replies = sym (cut .1) ∙ drop-drop count used replies in
       let opened : drop i codes ≡ getD codes i 0 ∷ drop (i + 1) codes = rw (add-one i) (drop-cons codes i 0 h) in
       record {
         within = omega arith;
-        served = fits;
+        served = served-more (omega arith);
         sized = kept w ∙ g .sized;
-        short = omega (arith, g .short, w .within, size, behind);
+        short = omega (arith, g .short, w .within, size);
         whole = λ m l a v.
-            wider (g .whole (17 + 2 * length (part (end - used) replies used) + m) l a (rw (opened, ← cut .0, left) (then w v)))
-            (omega (arith, size, behind));
+            wider (g .whole (17 + 2 * length (take count left) + m) l a (rw (opened, ← cut .0, behind) (then w v)))
+            (omega (arith, size));
       }
 
-  -- the same without a reply
-  pub more-bare : {mid after : List ℕ} {start last : ℕ} → i < length codes → codeReplied (getD codes i 0) ≡ 0
-      → Writing 15 (startText (i + 1) (codeKind (getD codes i 0)) (codeAnswer (getD codes i 0))) room next start mid
-      → Writing 2 (endText []) mid start last after → Going codes replies before at after last used (i + 1)
-  more-bare h none w₁ w₂ =
-      let no : used - used ≡ 0 = omega arith in
-      more h (omega arith) w₁ (rw no (wider w₂ (omega arith)))
+  -- the same without a reply, of a code that shows it
+  pub more-bare : {mid low after : List ℕ} {start fields last : ℕ} → i < length codes → getD codes i 0 < 16777216
+      → Writing 5 (decimalText (i + 1)) room next start mid
+      → Writing 10 (fieldsText (codeKind (getD codes i 0)) (getD codes i 0 / 65536)) mid start fields low
+      → Writing 2 (endText []) low fields last after → Going codes replies before at after last used (i + 1)
+  more-bare h bare w₁ w₂ w₃ =
+      let answer : getD codes i 0 / 65536 ≡ codeAnswer (getD codes i 0) = omega arith in
+      rw (add-zero used) at (more {count = 0} h (omega arith) w₁ (rw answer at w₂) (wider w₃ (omega arith)))
 
   pub ended : length codes ≤ i → Writing (17 * length codes + 2 * length replies) (codesText 1 codes replies) before at next room
   ended h = wider (g .whole 0 next room (rw (drop-of-length-le codes h) (none room next))) (omega (arith, g .within, g .served))

@@ -6,7 +6,8 @@ ghost use lib.ListN.{length};
 ghost use Rattle.digits.specs.Digits.{Writing};
 ghost use Rattle.text.specs.Text.{codesText, headerText, overText, codedText, mostOf, fitsOf, Held, reportOf, Reporting};
 
-// A line's code has its kind, its answer and the length of its reply, which is the next part of the replies.
+// A line's code has its kind, its answer and the length of its reply, which is the next part of the replies. Most codes are below 655360 = 10 * 65536,
+// and have an answer of one digit and no reply: of these nothing more is asked.
 fn put_codes(codes: &[u64], replies: &[u8], out: &mut [u8], at: usize) -> usize
     requires { ⌜ length (now codes) ≤ 99999 ⌝ }
     requires { ⌜ at + (17 * length (now codes) + 2 * length (now replies)) ≤ length (now out) ⌝ }
@@ -20,18 +21,18 @@ fn put_codes(codes: &[u64], replies: &[u8], out: &mut [u8], at: usize) -> usize
     while i < codes.len() {
         let code = codes[i];
         let kind = (code % 65536) as usize;
-        let answer = (code / 65536 % 256) as usize;
-        let asked = code / 16777216;
         i += 1;
-        let start = line::put_start(&table, &five, i, kind, answer, out, next);
+        let start = digits::put_places(&five, i, out, next);
         digits::count_up(i, &mut five);
-        if code < 16777216 {
-            next = line::put_bare_end(out, start);
+        if code < 655360 {
+            let end = line::put_fields(&table, kind, (code / 65536) as usize, out, start);
+            next = line::put_bare_end(out, end);
         } else {
-            let left = (replies.len() - used) as u64;
-            let end = used + numbers::at_most(left, asked) as usize;
-            next = line::put_end(&table, &replies[used..end], out, start);
-            used = end;
+            let rest = &replies[used..];
+            let count = numbers::at_most(rest.len() as u64, code / 16777216) as usize;
+            let end = line::put_fields(&table, kind, (code / 65536 % 256) as usize, out, start);
+            next = line::put_end(&table, &rest[..count], out, end);
+            used += count;
         }
     }
     next

@@ -1,12 +1,14 @@
 -- `text::put_codes` meets its contract, by the laws of its loop.
-use mathlib.Core.Path.{_≡_, ap}
-use Prim.Native.Nat.{ℕ, _+_, _-_}
+use mathlib.Core.Path.{_≡_, sym}
+use Prim.Native.Nat.{_+_, _-_}
 use native.Mathlib.Omega.{arith}
-use lib.ListN.{length, drop, length-take, length-drop}
+use lib.ListN.{length, length-take}
+use lib.Seq.{length-take-le}
+use Rattle.parts.specs.Parts.{part}
 use denote.Ref.{now}
 use Rattle.digits.specs.Digits.{placesOf}
 use Rattle.digits.proofs.Laws.{kept}
-use Rattle.text.proofs.Going.{Going, start, more, more-bare, ended}
+use Rattle.text.proofs.Going.{Going, start, roomy, served-more, more, more-bare, ended}
 use borrow.Author.Needs.{needs}
 use Rattle.text.proofs.put_codes.Statement.{statement}
 use Rattle.text.proofs.put_codes.Tie as tie
@@ -20,35 +22,66 @@ abbrev μ-loop : tie.MeasureT-loop
 loop-holds : tie.Need-loop-holds Inv-loop μ-loop
 loop-holds c = (start (now (c .before .before .before .before .before .args .codes)) (now (c .before .before .before .before .before .args .replies)) (now (c .before .before .before .before .before .args .out)) (c .before .before .before .before .before .args .at), c .places .ensures)
 
-put-start-requires : tie.Need-put-start-requires Inv-loop μ-loop
-put-start-requires c κs = (c .before .before .before .before .before .before .before .lower-pairs .ensures, (c .before .before .before .before .before .loop .inv .1, (omega arith, (omega arith, omega (arith, c .before .before .before .before .before .before .before .before .before .before .before .pre .1, c .before .before .before .before .before .loop .inv .0 .short, c .before .before .before .before .before .loop .inv .0 .sized, c .before .before .before .before .before .loop .inv .0 .served, c .before .before .before .before .loop-test .taken)))))
+put-places-requires : tie.Need-put-places-requires Inv-loop μ-loop
+put-places-requires c κs = (c .before .before .before .before .loop .inv .1, omega (arith, roomy (c .before .before .before .before .loop .inv .0) (c .before .before .before .before .before .before .before .before .before .before .pre .1) (c .before .before .before .loop-test .taken)))
 
 count-up-requires : tie.Need-count-up-requires Inv-loop μ-loop
-count-up-requires c κs = (omega (arith, c .before .before .before .before .before .before .before .before .before .before .before .before .before .before .before .pre .0, c .before .before .before .before .before .before .before .before .loop-test .taken), c .before .before .before .before .before .before .before .before .before .loop .inv .1)
+count-up-requires c κs = (omega (arith, c .before .before .before .before .before .before .before .before .before .before .before .before .before .before .pre .0, c .before .before .before .before .before .before .before .loop-test .taken), c .before .before .before .before .before .before .before .before .loop .inv .1)
+
+put-fields-requires : tie.Need-put-fields-requires Inv-loop μ-loop
+put-fields-requires c κs =
+    let turn = c .before .before .before .before .before .before .before .before .before .before .before in
+    let start = turn .before .before .before .before .before .before .before in
+    let room = roomy (turn .before .loop .inv .0) (start .pre .1) (turn .loop-test .taken) in
+    let put = c .before .before .before .before .before .before .before .put-places .ensures in
+    (c .before .before .before .before .before .before .before .before .before .before .before .before .before .before .lower-pairs .ensures, (omega arith, (omega (arith, c .before .before .if1 .taken), omega (arith, kept put, put .within))))
 
 put-bare-end-requires : tie.Need-put-bare-end-requires Inv-loop μ-loop
-put-bare-end-requires c κs = omega (arith, c .before .before .before .before .before .before .before .before .before .before .before .before .before .before .before .before .before .before .pre .1, c .before .before .before .before .before .before .before .before .before .before .before .before .loop .inv .0 .short, c .before .before .before .before .before .before .before .before .before .before .before .before .loop .inv .0 .sized, c .before .before .before .before .before .before .before .before .before .before .before .before .loop .inv .0 .served, c .before .before .before .before .before .before .before .before .before .before .before .loop-test .taken, c .before .before .before .before .before .before .put-start .ensures .within, kept (c .before .before .before .before .before .before .put-start .ensures))
+put-bare-end-requires c κs =
+    let turn = c .before .before .before .before .before .before .before .before .before .before .before .before .before .before .before in
+    let start = turn .before .before .before .before .before .before .before in
+    let room = roomy (turn .before .loop .inv .0) (start .pre .1) (turn .loop-test .taken) in
+    let put = c .before .before .before .before .before .before .before .before .before .before .before .put-places .ensures in
+    let fields = c .before .before .before .put-fields .ensures in
+    omega (arith, kept put, put .within, kept fields, fields .within)
 
 loop-again : tie.Need-loop-again Inv-loop μ-loop
-loop-again c = (more-bare (c .before .before .before .before .before .before .before .before .before .before .before .before .before .before .before .loop .inv .0) (c .before .before .before .before .before .before .before .before .before .before .before .before .before .before .loop-test .taken) (omega (arith, c .before .before .before .before .if1 .taken)) (c .before .before .before .before .before .before .before .before .before .put-start .ensures) (c .before .before .put-bare-end .ensures), c .before .before .before .before .before .count-up .ensures)
+loop-again c =
+    let turn = c .before .before .before .before .before .before .before .before .before .before .before .before .before .before .before .before .before .before in
+    (more-bare (turn .before .loop .inv .0) (turn .loop-test .taken) (omega (arith, c .before .before .before .before .before .before .before .before .before .if1 .taken)) (c .before .before .before .before .before .before .before .before .before .before .before .before .before .before .put-places .ensures) (c .before .before .before .before .before .before .put-fields .ensures) (c .before .before .put-bare-end .ensures), c .before .before .before .before .before .before .before .before .before .before .count-up .ensures)
+
+put-fields-requires-2 : tie.Need-put-fields-requires-2 Inv-loop μ-loop
+put-fields-requires-2 c κs =
+    let turn = c .before .before .before .before .before .before .before .before .before .before .before .before .before in
+    let start = turn .before .before .before .before .before .before .before in
+    let room = roomy (turn .before .loop .inv .0) (start .pre .1) (turn .loop-test .taken) in
+    let put = c .before .before .before .before .before .before .before .before .before .put-places .ensures in
+    (c .before .before .before .before .before .before .before .before .before .before .before .before .before .before .before .before .lower-pairs .ensures, (omega arith, (omega arith, omega (arith, kept put, put .within))))
+
+slice-aggregate-put-end : tie.Need-slice-aggregate-put-end Inv-loop μ-loop
+slice-aggregate-put-end c = sym (length-take-le (c .before .before .before .before .before .before .before .at-most .result) _ (omega (arith, c .before .before .before .before .before .before .before .at-most .ensures)))
 
 put-end-requires : tie.Need-put-end-requires Inv-loop μ-loop
 put-end-requires c κs =
-    let put = c .before .before .before .before .before .before .before .before .before .put-start .ensures in
-    let turn = c .before .before .before .before .before .before .before .before .before .before .before .before .before .before in
-    let at-loop = turn .before in
-    let start = at-loop .before .before .before .before .before .before in
-    let used = at-loop .loop .used in
-    let going = at-loop .loop .inv .0 in
-    let replies = now (start .args .replies) in
-    let asked = c .before .before .before .at-most .result in
-    (at-loop .before .before .lower-pairs .ensures, omega (arith, length-take (used + asked - used) (drop used replies), length-drop used replies, start .pre .1, going .short, going .sized, going .served, turn .loop-test .taken, put .within, kept put))
+    let turn = c .before .before .before .before .before .before .before .before .before .before .before .before .before .before .before .before .before .before .before in
+    let start = turn .before .before .before .before .before .before .before in
+    let room = roomy (turn .before .loop .inv .0) (start .pre .1) (turn .loop-test .taken) in
+    let put = c .before .before .before .before .before .before .before .before .before .before .before .before .before .before .before .put-places .ensures in
+    let fields = c .before .before .before .before .before .put-fields2 .ensures in
+    let shorter = length-take (c .before .before .before .before .before .before .before .before .at-most .result) (part (length (now (start .args .replies)) - turn .before .loop .used) (now (start .args .replies)) (turn .before .loop .used)) in
+    (c .before .before .before .before .before .before .before .before .before .before .before .before .before .before .before .before .before .before .before .before .before .before .lower-pairs .ensures, omega (arith, kept put, put .within, kept fields, fields .within))
+
+add-used : tie.Need-add-used Inv-loop μ-loop
+add-used c =
+    let turn = c .before .before .before .before .before .before .before .before .before .before .before .before .before .before .before .before .before .before .before .before .before .before in
+    let start = turn .before .before .before .before .before .before .before in
+    let few = served-more (turn .before .loop .inv .0) {count = c .before .before .before .before .before .before .before .before .before .before .before .at-most .result} (omega (arith, c .before .before .before .before .before .before .before .before .before .before .before .at-most .ensures)) in
+    omega (arith, start .good)
 
 loop-again-2 : tie.Need-loop-again-2 Inv-loop μ-loop
 loop-again-2 c =
-    let turn = c .before .before .before .before .before .before .before .before .before .before .before .before .before .before .before .before .before in
-    let used = turn .before .loop .used in
-    (more (turn .before .loop .inv .0) (turn .loop-test .taken) (ap (λ (k : ℕ). used + k) (c .before .before .before .before .before .before .at-most .ensures)) (c .before .before .before .before .before .before .before .before .before .before .before .before .put-start .ensures) (c .before .before .put-end .ensures), c .before .before .before .before .before .before .before .before .count-up .ensures)
+    let turn = c .before .before .before .before .before .before .before .before .before .before .before .before .before .before .before .before .before .before .before .before .before .before in
+    (more (turn .before .loop .inv .0) (turn .loop-test .taken) (c .before .before .before .before .before .before .before .before .before .before .before .at-most .ensures) (c .before .before .before .before .before .before .before .before .before .before .before .before .before .before .before .before .before .before .put-places .ensures) (c .before .before .before .before .before .before .before .before .put-fields2 .ensures) (c .before .before .put-end .ensures), c .before .before .before .before .before .before .before .before .before .before .before .before .before .before .count-up .ensures)
 
 same-length : tie.Need-same-length Inv-loop μ-loop
 same-length c = c .before .loop .inv .0 .sized
@@ -68,18 +101,20 @@ put-codes-spec =
     (λ c. search needs)
     (λ c. search needs)
     (λ c. search needs)
-    put-start-requires
+    put-places-requires
     count-up-requires
+    put-fields-requires
     put-bare-end-requires
     (λ c. search needs)
     loop-again
     (λ c. search needs)
+    (λ c. search needs)
+    (λ c. search needs)
     (λ c κs. search needs)
-    (λ c. search needs)
-    (λ c. search needs)
-    (λ c. search needs)
-    (λ c. search needs)
+    put-fields-requires-2
+    slice-aggregate-put-end
     put-end-requires
+    add-used
     (λ c. search needs)
     loop-again-2
     same-length
