@@ -113,16 +113,18 @@ pub uncounted-kept : Kept Uncounted
 unfolding conversionOf readingOf powerOnOf convertOf flowedOf cycledOf readOf shownOf poweredOf writtenOf copiedOf recalledOf lockedOf meterWrittenOf meterCopiedOf meterRecalledOf meterLockedOf
 uncounted-kept = record {
   change = changed Uncounted (record {
-    conversion = λ g raw h e. (rw e (h e .0), h e .1);
-    tick = λ g tick h. h;
-    reading = λ g volt temp h e. (h e .0, none-saved _ _ _ _ (h e .0) (h e .1));
-    power-on = λ g h e. (h e .1, h e .1);
+    conversion = λ g raw h e. record { count = rw e (h e .count); rest = rw e (h e .rest); saved = h e .saved };
+    tick = λ g tick h e. record { count = h e .count; rest = h e .rest; saved = h e .saved };
+    reading = λ g volt temp h e. record { count = h e .count; rest = h e .rest; saved = none-saved _ _ _ _ (h e .count) (h e .saved) };
+    power-on = λ g h e. record { count = h e .saved; rest = refl; saved = h e .saved };
   });
   act = acted Uncounted (record {
-    written = λ g a bytes h e. (rw (cycles-uncounted (g .meter .cycles) (g .meter .cells) a bytes e) (h e .0), h e .1);
-    copied = λ g a h. h;
-    recalled = λ g a h. h;
-    locked = λ g a h. h;
+    written = λ g a bytes h e.
+        let stays = cycles-uncounted (g .meter .cycles) (g .meter .cells) a bytes e in
+        record { count = rw stays (h e .count); rest = rw stays (h e .rest); saved = h e .saved };
+    copied = λ g a h e. record { count = h e .count; rest = h e .rest; saved = h e .saved };
+    recalled = λ g a h e. record { count = h e .count; rest = h e .rest; saved = h e .saved };
+    locked = λ g a h e. record { count = h e .count; rest = h e .rest; saved = h e .saved };
   });
 }
 

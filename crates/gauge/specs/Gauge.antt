@@ -25,9 +25,14 @@ pub record Sized (g : Gauge) : Type 0 where
   pub label : LabelSized (g .label)
   pub block : BlockSized (g .meter .cells .block)
 
--- and where its profile has no cycle counter, none is counted and none is saved
+-- and where its profile has no cycle counter, none is counted, no fall is carried and none is saved
+pub record NoCycles (m : Meter) : Type 0 where
+  pub count : m .cycles .count ≡ 0
+  pub rest : m .cycles .rest ≡ 0
+  pub saved : m .cells .saved .cycles ≡ 0
+
 abbrev pub Uncounted : Gauge → Type 0
-Uncounted g = countsCycles (g .meter .cells .profile) ≡ false → (g .meter .cycles .count ≡ 0) × (g .meter .cells .saved .cycles ≡ 0)
+Uncounted g = countsCycles (g .meter .cells .profile) ≡ false → NoCycles (g .meter)
 
 -- a gauge with other parts
 abbrev pub withParts : Gauge → Label → Meter → Gauge

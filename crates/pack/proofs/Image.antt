@@ -119,7 +119,7 @@ round-trip g z none =
     let p = image-holds g z in
     let l = bits (g .meter .cells .locks .bl1) (g .common .bl0) in
     let acr : pairAt (bytesOf g) 56 ≡ g .meter .cells .saved .acr = omega (arith, p .byte 0, p .byte 1) in
-    let cell = cell-back (g .meter .cells .profile) (g .meter .cells .saved .cycles) (λ e. none e .1) in
+    let cell = cell-back (g .meter .cells .profile) (g .meter .cells .saved .cycles) (λ e. none e .saved) in
     rw (p .address, p .label, p .block, acr, p .byte 2, p .byte 3, p .byte 4, cell, l .0, l .1) refl
 
 -- and judged by the breakpoints in the EEPROM, where the address is one

@@ -68,7 +68,7 @@ image-sized f p e =
 -- an image of kind 1 has no saved cycle counter
 pub image-uncounted : (f : Profile) (p : List ℕ) → Uncounted (imageOf f p)
 unfolding imageOf poweredOf
-image-uncounted f p e = (rw e refl, rw e refl)
+image-uncounted f p e = record { count = rw e refl; rest = refl; saved = rw e refl }
 
 -- ---- every gauge that is reached
 
