@@ -1,3 +1,4 @@
 pub mod Kept
 pub mod Unique
 pub mod Aging
+pub mod Profiles

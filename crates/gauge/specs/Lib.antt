@@ -3,3 +3,4 @@ pub mod Change
 pub mod Act
 pub mod Kept
 pub mod Aging
+pub mod Profiles

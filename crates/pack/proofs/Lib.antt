@@ -1,3 +1,4 @@
 pub mod Image
 pub mod Reached
 pub mod Unique
+pub mod Profiles

@@ -1,0 +1,150 @@
+-- What both profiles share, proved: blanking's edge and the cycle counter tell them apart, and nothing else does.
+use mathlib.Core.Path.{_≡_, refl, sym, ap, _∙_}
+use mathlib.Core.Bool.{Bool, true, false}
+use mathlib.Core.List.{List}
+use Prim.Native.Nat.{ℕ, zero, suc, _+_, _-_}
+use native.Mathlib.Omega.{arith}
+use lib.Dec.{ltb, eqb}
+use lib.ListN.{getD, drop, set}
+use lib.Seq.{getD-set-other}
+use borrow.Author.Tests.{eqb-false, ltb-true, ltb-false, lt-ltb, le-ltb}
+use Rattle.numbers.specs.Choice.{pick, both}
+use Rattle.numbers.specs.Offset.{zeroAt}
+use Rattle.numbers.proofs.Bounds.{through}
+use Rattle.profile.specs.declared.Profile.{Profile}
+use Rattle.profile.specs.declared.Profile.the-variants.{Ds2781, Ds2775}
+use Rattle.params.specs.declared.Counting.{Counting}
+use Rattle.params.specs.Params.{countingOf}
+use Rattle.charge.specs.declared.Charge.{Charge}
+use Rattle.charge.specs.Charge.{blankedOf, countedOf}
+use Rattle.cycles.specs.Cycles.{cycledOf}
+use Rattle.ticks.specs.Ticks.{elapsedOf}
+use Rattle.reading.specs.Reading.{keptOf}
+use Rattle.meter.specs.declared.Meter.{Meter}
+use Rattle.meter.specs.State.{poweredOf}
+use Rattle.meter.specs.Convert.{flowedOf, convertOf}
+use Rattle.meter.specs.Corrections.{currentIn}
+use Rattle.meter.specs.Read.{readOf, drainedOf, shownOf}
+use Rattle.samples.specs.Samples.{sampledOf, tickedOf, sampleOf}
+use Rattle.samples.proofs.Laws.{neither}
+use Rattle.label.specs.declared.Common.{Common}
+use Rattle.label.specs.declared.Label.{Label}
+use Rattle.map.specs.Registers.{registersOf, meterByte}
+use Rattle.stores.specs.Stores.{meterWrittenOf, meterCopiedOf, meterRecalledOf, meterLockedOf}
+use Rattle.stores.proofs.Kept.{cycles-uncounted}
+use Rattle.bus.specs.declared.Command.{Command}
+use Rattle.bus.specs.declared.Command.the-variants.{Read, Write, Copy, Recall, Lock, Nothing}
+use Rattle.bus.specs.declared.Transaction.{Transaction}
+use Rattle.replies.specs.declared.Source.{Source}
+use Rattle.replies.specs.declared.Source.the-variants.{Address, Bytes, Idle}
+use Rattle.replies.specs.Reply.{selectedOf, readByte, sourceByte, listed}
+use Rattle.replies.proofs.Listed.{listed-length}
+use Rattle.events.specs.declared.Change.{Change}
+use Rattle.events.specs.declared.Change.the-variants.{Reading, Conversion, Sample, PowerOn}
+use Rattle.gauge.specs.declared.Gauge.{Gauge}
+use Rattle.gauge.specs.Gauge.{withMeter, conversionOf, samplingOf, readingOf, powerOnOf, writtenOf, copiedOf, recalledOf, lockedOf}
+use Rattle.gauge.specs.Change.{changedOf}
+use Rattle.gauge.specs.Act.{ranBy, ranOf, actOf, replyOf}
+use Rattle.gauge.specs.Profiles.{baseMeter, baseOf, edgeIn, edgeOver, meetsEdge, fromCounter, OnlyTwo}
+
+-- ---- a conversion
+
+-- below the edge and above it the two blank alike
+passes : (c : ℕ) → eqb c (zeroAt 15 - 16) ≡ false → (x : Bool) → ltb (zeroAt 15 - 16) c ≡ x → ltb (zeroAt 15 - 17) c ≡ x
+passes c e true l = lt-ltb (zeroAt 15 - 17) c (omega (arith, ltb-true))
+passes c e false l = le-ltb (zeroAt 15 - 17) c (omega (arith, ltb-false, eqb-false))
+
+blanked-alike : (f : Profile) (nben : Bool) (c : ℕ) → both nben (eqb c (zeroAt 15 - 16)) ≡ false → blankedOf f nben c ≡ blankedOf Ds2781 nben c
+blanked-alike Ds2781 nben c e = refl
+blanked-alike Ds2775 false c e = refl
+blanked-alike Ds2775 true c e = rw (passes c e (ltb (zeroAt 15 - 16) c) refl) refl
+
+counted-alike : (f : Profile) (p : Counting) (g : Charge) (last c : ℕ) → both (p .nben) (eqb c (zeroAt 15 - 16)) ≡ false
+    → countedOf f p g last c ≡ countedOf Ds2781 p g last c
+unfolding countedOf
+counted-alike f p g last c e = rw (blanked-alike f (p .nben) c e) refl
+
+converted-alike : (m : Meter) (raw : ℕ) → edgeIn m raw ≡ false → baseMeter (convertOf m raw) ≡ convertOf (baseMeter m) raw
+unfolding convertOf flowedOf cycledOf
+converted-alike m raw e =
+    let p = countingOf (m .cells .block .shadow) in
+    rw (counted-alike (m .cells .profile) p (m .charge) (m .flow .trace .last) (currentIn m raw) e) refl
+
+-- ---- conversions, one after the other
+
+sampled-alike : (m : Meter) (raw n : ℕ) → edgeOver m raw n ≡ false → baseMeter (sampledOf m raw n) ≡ sampledOf (baseMeter m) raw n
+unfolding sampledOf
+sampled-alike m raw zero e = refl
+sampled-alike m raw (suc n) e =
+    let z = neither (edgeOver m raw n) _ e in
+    converted-alike (sampledOf m raw n) raw (z .1) ∙ ap (λ (x : Meter). convertOf x raw) (sampled-alike m raw n (z .0))
+
+-- ---- a change
+
+-- whether it is saved or not, no counter is
+none-saved : (save : Bool) → pick save 0 0 ≡ zero
+none-saved true = refl
+none-saved false = refl
+
+changed-alike : (g : Gauge) (c : Change) → meetsEdge (g .meter) c ≡ false → baseOf (changedOf g c) ≡ changedOf (baseOf g) c
+unfolding readingOf readOf drainedOf shownOf keptOf conversionOf samplingOf sampleOf sampledOf powerOnOf poweredOf
+changed-alike g (Reading volt temp) e = rw none-saved refl
+changed-alike g (Conversion raw) e = ap (withMeter g) (sampled-alike (g .meter) raw 1 e)
+changed-alike g (Sample raw tick) e =
+    let n = elapsedOf (g .meter .flow .tick) tick in
+    ap (λ (m : Meter). withMeter g (tickedOf m tick)) (sampled-alike (g .meter) raw n e)
+changed-alike g PowerOn e = refl
+
+-- ---- a transaction
+
+ran-alike : (command : Command) (g : Gauge) (a : ℕ) (bytes : List ℕ) → baseOf (ranBy command g a bytes) ≡ ranBy command (baseOf g) a bytes
+unfolding writtenOf copiedOf recalledOf lockedOf meterWrittenOf meterCopiedOf meterRecalledOf meterLockedOf
+ran-alike Read g a bytes = refl
+ran-alike Write g a bytes = rw (cycles-uncounted (baseMeter (g .meter) .cycles) (baseMeter (g .meter) .cells) a bytes refl) refl
+ran-alike Copy g a bytes = refl
+ran-alike Recall g a bytes = refl
+ran-alike Lock g a bytes = refl
+ran-alike Nothing g a bytes = refl
+
+acted-alike : (g : Gauge) (t : Transaction) (master : List ℕ) → baseOf (actOf g t master) ≡ actOf (baseOf g) t master
+unfolding actOf ranOf
+acted-alike g t master =
+    through baseOf (selectedOf (g .common .address) t master) _ g
+    ∙ ap (λ (h : Gauge). pick (selectedOf (g .common .address) t master) h (baseOf g)) (ran-alike (t .command) g (t .address) (drop (t .from) master))
+
+-- ---- its reply
+
+module _ (k : Common) (l : Label) (m : Meter) where
+  -- the registers differ in one
+  registers-alike : registersOf k (baseMeter m) ≡ set (registersOf k m) 0x1e 0xff
+  unfolding registersOf
+  registers-alike = refl
+
+  read-alike : (a : ℕ) → eqb a 0x1e ≡ false → readByte k l m a ≡ readByte k l (baseMeter m) a
+  unfolding readByte meterByte
+  read-alike a e = rw (registers-alike, getD-set-other (registersOf k m) 0x1e a 0xff 0 (eqb-false _ _ e)) refl
+
+  source-alike : (s : Source) (i : ℕ) → fromCounter s i ≡ false → sourceByte k l m s i ≡ sourceByte k l (baseMeter m) s i
+  unfolding sourceByte
+  source-alike Address i e = refl
+  source-alike (Bytes a) i e = read-alike (a + i) e
+  source-alike Idle i e = refl
+
+listed-alike : (f g : ℕ → ℕ) (i n j : ℕ) → f (i + j) ≡ g (i + j) → getD (listed f i n) j 0 ≡ getD (listed g i n) j 0
+listed-alike f g i zero j e = refl
+listed-alike f g i (suc n) zero e = let z : i + 0 ≡ i = omega arith in rw z at e
+listed-alike f g i (suc n) (suc j) e =
+    let z : i + suc j ≡ i + 1 + j = omega arith in
+    listed-alike f g (i + 1) n j (rw z at e)
+
+pub only-two : OnlyTwo
+unfolding replyOf convertOf flowedOf cycledOf
+only-two = record {
+  changes = changed-alike;
+  edge = λ m raw x. refl;
+  transactions = acted-alike;
+  lengths = λ g t master. listed-length _ 0 (t .count) ∙ sym (listed-length _ 0 (t .count));
+  replies = λ g t master i e.
+      let z : 0 + i ≡ i = omega arith in
+      listed-alike _ _ 0 (t .count) i (rw z (source-alike (g .common) (g .label) (g .meter) _ i e));
+}

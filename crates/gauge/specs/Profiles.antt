@@ -1,0 +1,96 @@
+-- "Only two things differ from 01 here": blanking's edge and the cycle counter. Without the counter every gauge goes on as the DS2781 of
+-- document 01 does, but for a conversion at that edge; and it is answered with the same bytes, but for the one of 1Eh.
+use mathlib.Core.Path.{_≡_}
+use mathlib.Core.Bool.{Bool, false}
+use mathlib.Core.List.{List}
+use Prim.Native.Nat.{ℕ, zero, suc, _+_, _-_}
+use lib.Dec.{eqb}
+use lib.ListN.{length, getD}
+use Rattle.numbers.specs.Choice.{both, either}
+use Rattle.numbers.specs.Offset.{zeroAt}
+use Rattle.profile.specs.declared.Profile.the-variants.{Ds2781}
+use Rattle.params.specs.Params.{countingOf}
+use Rattle.charge.specs.declared.Charge.{Charge}
+use Rattle.ticks.specs.Ticks.{elapsedOf}
+use Rattle.meter.specs.declared.Cells.{Cells}
+use Rattle.meter.specs.declared.Meter.{Meter}
+use Rattle.meter.specs.State.{withCharge}
+use Rattle.meter.specs.Convert.{convertOf}
+use Rattle.meter.specs.Corrections.{currentIn}
+use Rattle.samples.specs.Samples.{sampledOf}
+use Rattle.bus.specs.declared.Transaction.{Transaction}
+use Rattle.replies.specs.declared.Source.{Source}
+use Rattle.replies.specs.declared.Source.the-variants.{Address, Bytes, Idle}
+use Rattle.replies.specs.Reply.{selectedOf, replySourceOf}
+use Rattle.events.specs.declared.Change.{Change}
+use Rattle.events.specs.declared.Change.the-variants.{Reading, Conversion, Sample, PowerOn}
+use Rattle.gauge.specs.declared.Gauge.{Gauge}
+use Rattle.gauge.specs.Gauge.{withMeter}
+use Rattle.gauge.specs.Change.{changedOf}
+use Rattle.gauge.specs.Act.{actOf, replyOf}
+
+-- ---- the base of a gauge: the same as a DS2781, without the counter, its rest and its cell
+
+abbrev pub baseCells : Cells → Cells
+baseCells c = record {
+  profile = Ds2781;
+  block = c .block;
+  locks = c .locks;
+  saved = record { acr = c .saved .acr; aging = c .saved .aging; cycles = 0 };
+}
+
+abbrev pub baseMeter : Meter → Meter
+baseMeter m = record {
+  cells = baseCells (m .cells);
+  charge = m .charge;
+  cycles = record { count = 0; rest = 0 };
+  flow = m .flow;
+  shown = m .shown;
+}
+
+abbrev pub baseOf : Gauge → Gauge
+baseOf g = withMeter g (baseMeter (g .meter))
+
+-- ---- blanking's edge
+
+-- a conversion with NBEN whose c is -16
+abbrev pub edgeIn : Meter → ℕ → Bool
+edgeIn m raw = both (countingOf (m .cells .block .shadow) .nben) (eqb (currentIn m raw) (zeroAt 15 - 16))
+
+-- one of n conversions, each in the meter that those before it leave
+abbrev pub edgeOver : Meter → ℕ → ℕ → Bool
+edgeOver m raw zero = false
+edgeOver m raw (suc n) = either (edgeOver m raw n) (edgeIn (sampledOf m raw n) raw)
+
+-- a conversion is one, a sample as many as ticks have elapsed
+abbrev pub meetsEdge : Meter → Change → Bool
+meetsEdge m (Reading volt temp) = false
+meetsEdge m (Conversion raw) = edgeOver m raw 1
+meetsEdge m (Sample raw tick) = edgeOver m raw (elapsedOf (m .flow .tick) tick)
+meetsEdge m PowerOn = false
+
+-- ---- 1Eh
+
+-- whether the reply's byte i is read there
+abbrev pub fromCounter : Source → ℕ → Bool
+fromCounter Address i = false
+fromCounter (Bytes a) i = eqb (a + i) 0x1e
+fromCounter Idle i = false
+
+abbrev pub readsCounter : Gauge → Transaction → List ℕ → ℕ → Bool
+readsCounter g t master i =
+    fromCounter (replySourceOf (selectedOf (g .common .address) t master) (g .meter .cells .block .shadow) t) i
+
+-- ---- the law
+
+pub record OnlyTwo : Type 0 where
+  -- a change that meets no edge leaves of the base what it leaves of the gauge
+  pub changes : (g : Gauge) (c : Change) → meetsEdge (g .meter) c ≡ false → baseOf (changedOf g c) ≡ changedOf (baseOf g) c
+  -- a conversion at the edge too, but for the charge
+  pub edge : (m : Meter) (raw : ℕ) (x : Charge) → withCharge (baseMeter (convertOf m raw)) x ≡ withCharge (convertOf (baseMeter m) raw) x
+  -- and every transaction
+  pub transactions : (g : Gauge) (t : Transaction) (master : List ℕ) → baseOf (actOf g t master) ≡ actOf (baseOf g) t master
+  -- with as long a reply, and the same bytes in it
+  pub lengths : (g : Gauge) (t : Transaction) (master : List ℕ) → length (replyOf g t master) ≡ length (replyOf (baseOf g) t master)
+  pub replies : (g : Gauge) (t : Transaction) (master : List ℕ) (i : ℕ) → readsCounter g t master i ≡ false
+      → getD (replyOf g t master) i 0 ≡ getD (replyOf (baseOf g) t master) i 0
