@@ -1,3 +1,4 @@
 pub mod Image
 pub mod Reach
 pub mod Profiles
+pub mod Aging

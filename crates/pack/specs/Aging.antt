@@ -1,0 +1,15 @@
+-- Who sets AS, from the image on: "Saved AS is honoured at power-on as before."
+use mathlib.Core.Path.{_≡_}
+use mathlib.Core.List.{List}
+use Prim.Native.Nat.{ℕ}
+use Rattle.profile.specs.declared.Profile.{Profile}
+use Rattle.events.specs.Image.{imageAging}
+use Rattle.meter.specs.State.{asIn}
+use Rattle.gauge.specs.Aging.{agingOf, OwnAging}
+use Rattle.pack.specs.Image.{imageOf}
+
+pub record PackAging : Type 0 where
+  -- accepting an image sets AS from the saved cell, moved into 63..128
+  pub images : (f : Profile) (p : List ℕ) → agingOf (imageOf f p) ≡ asIn (imageAging p)
+  -- and then only what `OwnAging` names
+  pub events : OwnAging
