@@ -28,7 +28,7 @@ use Rattle.full.specs.declared.Average.{Average}
 use Rattle.full.specs.Full.{nextMade, runOf, averagedOf, tapersOf}
 use Rattle.model.specs.Model.{slopeOf, forty, slopesOver, slopesTo, fullLineOf}
 use Rattle.reading.specs.Reading.{voltOf, tempOf, degreesOf, drainsOf, leftOf, usableOf, percentOf, amountOf}
-use Rattle.meter.specs.Signed.{minus, orZero, atMostZ, atLeastZ, currentZ, negativeZ, turnedZ, blankedZ, grownZ, addedZ, fallZ, sumZ, meanZ, tapersZ, voltZ, tempZ, degreesZ, slopeZ, slopesOverZ, slopesZ, fullLineZ, averagedOver, drainsZ, leftZ, usableZ, percentZ, amountZ}
+use Rattle.meter.specs.Signed.{minus, orZero, atMostZ, atLeastZ, currentZ, negativeZ, turnedZ, slightZ, blankedZ, grownZ, addedZ, fallZ, sumZ, meanZ, tapersZ, voltZ, tempZ, degreesZ, slopeZ, slopesOverZ, slopesZ, fullLineZ, averagedOver, drainsZ, leftZ, usableZ, percentZ, amountZ}
 
 -- ---- differences
 
@@ -72,18 +72,17 @@ negative-means c = offset.below-zero 15 c
 pub turned-means : (last c : ℕ) → turnedOf last c ≡ turnedZ (value 15 last) (value 15 c)
 turned-means last c = λ i. both (negative-means c i) (not (negative-means last i))
 
+slight-means : (f : Profile) (c : ℕ) → both (ltb (zeroAt 15 - edgeOf f) c) (ltb c (zeroAt 15)) ≡ slightZ f (value 15 c)
+slight-means Ds2781 c = λ i. both (compared 15 (zeroAt 15 - 16) c i) (compared 15 c (zeroAt 15) i)
+slight-means Ds2775 c = λ i. both (at-most 15 (zeroAt 15 - 16) c i) (compared 15 c (zeroAt 15) i)
+
 pub blanked-means : (f : Profile) (nben : Bool) (c : ℕ) → value 15 (blankedOf f nben c) ≡ blankedZ f nben (value 15 c)
 blanked-means f nben c =
     let small = both (ltb (zeroAt 15) c) (ltb c (zeroAt 15 + 64)) in
     let slight = both nben (both (ltb (zeroAt 15 - edgeOf f) c) (ltb c (zeroAt 15))) in
     through (value 15) (either small slight) (zeroAt 15) c ∙
     (λ i. pick
-    (either (both (compared 15 (zeroAt 15) c i) (compared 15 c (zeroAt 15 + 64) i))
-    (both nben (both (below-edge f c i) (compared 15 c (zeroAt 15) i)))) (pos 0) (value 15 c))
-  where
-    below-edge : (f : Profile) (c : ℕ) → ltb (zeroAt 15 - edgeOf f) c ≡ ltZ (minus (edgeOf f)) (value 15 c)
-    below-edge Ds2781 c = compared 15 (zeroAt 15 - 16) c
-    below-edge Ds2775 c = compared 15 (zeroAt 15 - 17) c
+    (either (both (compared 15 (zeroAt 15) c i) (compared 15 c (zeroAt 15 + 64) i)) (both nben (slight-means f c i))) (pos 0) (value 15 c))
 
 pub grown-means : (count counted ab : ℕ) → pos (grownOf count counted ab) ≡ grownZ (pos count) (value 15 counted) (value 7 ab)
 grown-means count counted ab = offset.grown 15 7 count counted ab (2 ^ 28 - 1)

@@ -10,7 +10,7 @@ use Rattle.numbers.specs.Offset.{value, clampZ, divZ}
 use Rattle.params.specs.declared.Breaks.{Breaks}
 use Rattle.params.specs.declared.Slopes.{Slopes}
 use Rattle.profile.specs.declared.Profile.{Profile}
-use Rattle.profile.specs.Profile.{edgeOf}
+use Rattle.profile.specs.declared.Profile.the-variants.{Ds2781, Ds2775}
 use Rattle.full.specs.declared.Average.{Average}
 use Rattle.full.specs.Full.{averagedOf}
 
@@ -44,10 +44,14 @@ negativeZ c = ltZ c (pos 0)
 abbrev pub turnedZ : ℤ → ℤ → Bool
 turnedZ last c = both (negativeZ c) (not (negativeZ last))
 
--- 0 < c < 64 counts as 0; with NBEN, -16 < c < 0 counts as 0, in the DS2775 profile -17 < c < 0
+-- -16 < c < 0; in the DS2775 profile "-16 counts as 0" too
+abbrev pub slightZ : Profile → ℤ → Bool
+slightZ Ds2781 c = both (ltZ (minus 16) c) (ltZ c (pos 0))
+slightZ Ds2775 c = both (leZ (minus 16) c) (ltZ c (pos 0))
+
+-- 0 < c < 64 counts as 0; with NBEN a slight c does
 abbrev pub blankedZ : Profile → Bool → ℤ → ℤ
-blankedZ f nben c =
-    pick (either (both (ltZ (pos 0) c) (ltZ c (pos 64))) (both nben (both (ltZ (minus (edgeOf f)) c) (ltZ c (pos 0))))) (pos 0) c
+blankedZ f nben c = pick (either (both (ltZ (pos 0) c) (ltZ c (pos 64))) (both nben (slightZ f c))) (pos 0) c
 
 -- the count grows by that plus AB, clamped to 0..2^28 - 1
 abbrev pub grownZ : ℤ → ℤ → ℤ → ℤ
