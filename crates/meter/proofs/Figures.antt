@@ -1,7 +1,7 @@
 -- The cases of "Figures to hold" that document 01 marks with *, in its order, F12 and F13 as request [1] has them: one table, one statement, closed by computation. A row is a
 -- sentence: what the definitions give and, after `is`, what the paper says.
 use mathlib.Core.Path.{_≡_, refl}
-use mathlib.Core.Bool.{true, false}
+use mathlib.Core.Bool.{Bool, true, false}
 use mathlib.Core.List.{List, [], _∷_, map}
 use Prim.Native.Nat.{ℕ, _+_, _-_, _*_}
 use lib.ListN.{set}
@@ -10,6 +10,7 @@ use Rattle.profile.specs.declared.Profile.{Profile}
 use Rattle.profile.specs.declared.Profile.the-variants.{Ds2781, Ds2775}
 use Rattle.cycles.specs.declared.Cycles.{Cycles}
 use Rattle.cycles.specs.Cycles.{cycledOf}
+use Rattle.charge.specs.declared.Charge.{Charge}
 use Rattle.charge.specs.Charge.{acrOf, fractionOf, countedOf, agedFullOf, shareOf, shareUpOf}
 use Rattle.full.specs.Full.{averagedOf, renewedOf, foundOf, learntOf, filledOf, settledOf, loweredOf}
 use Rattle.model.specs.Model.{slopesOver, linesOf}
@@ -152,11 +153,22 @@ fallen = convertOf (powered M 100 128) (minus 1)
 abbrev aged : Meter
 aged = convertOf (withCharge (powered aging 100 128) (record { count = 100 * 4096; age = 31; aging = 128; learnf = false; mark = false })) (minus 1)
 
--- a profile with this Full40 and cycle counter, ACR 100: the counter and its rest after a conversion in which ACR falls by 8
-abbrev cycled : Profile → ℕ → Cycles → List ℕ
-cycled f full40 y =
-    let m = convertOf (withCycles (poweredBy f (withByte (withByte M 0x6a 0) 0x6b full40) 100 128) y) (minus (8 * 4096)) in
+-- ACR 100, with a mark or without
+abbrev hundred : Bool → Charge
+hundred mark = record { count = 100 * 4096; age = 0; aging = 128; learnf = false; mark = mark }
+
+-- a profile with this Full40 and cycle counter: the counter and its rest after a conversion in which ACR falls by 8, or not at all where it
+-- is the first after an ACR write
+abbrev cycledBy : Bool → Profile → ℕ → Cycles → List ℕ
+cycledBy mark f full40 y =
+    let m = convertOf (withCharge (withCycles (poweredBy f (withByte (withByte M 0x6a 0) 0x6b full40) 100 128) y) (hundred mark)) (minus (8 * 4096)) in
     m .cycles .count ∷ m .cycles .rest ∷ []
+
+abbrev cycled : Profile → ℕ → Cycles → List ℕ
+cycled = cycledBy false
+
+abbrev marked : Profile → ℕ → Cycles → List ℕ
+marked = cycledBy true
 
 abbrev at : ℕ → ℕ → Cycles
 at count rest = record { count = count; rest = rest }
@@ -204,10 +216,14 @@ figures =
     (cycled Ds2775 3 (at 254 4) is 255 ∷ 0 ∷ []) ∷
     -- W12.11. With Full40 = 0 the rest is zeroed
     (cycled Ds2775 0 (at 7 11) is 7 ∷ 0 ∷ []) ∷
+    -- and at the first conversion after an ACR write, which adds no fall to it, as it is counted there with Full40 above 0
+    (marked Ds2775 0 (at 7 11) is 7 ∷ 0 ∷ []) ∷
+    (marked Ds2775 3 (at 7 11) is 8 ∷ 5 ∷ []) ∷
+    (marked Ds2775 10 (at 7 11) is 7 ∷ 11 ∷ []) ∷
     -- W12.6. There is none in the DS2781
     (cycled Ds2781 3 (at 0 0) is 0 ∷ 0 ∷ []) ∷
     []
 
 pub figures-hold : Hold figures
 unfolding poweredOf countedOf cycledOf averagedOf renewedOf foundOf learntOf agedFullOf shareOf shareUpOf filledOf settledOf flowedOf convertOf slopesOver linesOf drainingOf pointOf emptiedOf leftOf usableOf percentOf amountOf resultsOf ratedOf flaggedOf keptOf loweredOf seenOf drainedOf shownOf readOf
-figures-hold = (refl, (refl, (refl, (refl, (refl, (refl, (refl, (refl, (refl, (refl, (refl, (refl, (refl, (refl, (refl, (refl, (refl, (refl, (refl, (refl, (refl, (refl, (refl, tt)))))))))))))))))))))))
+figures-hold = (refl, (refl, (refl, (refl, (refl, (refl, (refl, (refl, (refl, (refl, (refl, (refl, (refl, (refl, (refl, (refl, (refl, (refl, (refl, (refl, (refl, (refl, (refl, (refl, (refl, (refl, tt))))))))))))))))))))))))))
