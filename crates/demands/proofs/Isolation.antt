@@ -96,12 +96,12 @@ isolated {k} (there {e = n} {p = p} slot at rest) τ σ near far c h u v e g f =
     isolated rest τ (trayDid σ far (whole n p) .state) near (far - length (trayDid σ far (whole n p) .reply))
     c
     (others-over h (others-sym (x .others))) u (did-eight σ far (whole n p) v) (omega (arith, e, x .reply)) g (f .1)
-isolated (images x {p = p} {q = q} {l = l} {m = m} at address agree rest) τ σ near far c h u v e g f =
-    let y = images-moved h u v p q (c ∙ at) address x near far (agreed l m agree (told (g .0)) (told (f .0))) in
-    isolated rest (trayDid τ near (whole (imageKind x) p) .state) (trayDid σ far (whole (imageKind x) q) .state)
-    (near - length (trayDid τ near (whole (imageKind x) p) .reply)) (far - length (trayDid σ far (whole (imageKind x) q) .reply))
+isolated (images x z {p = p} {q = q} {l = l} {m = m} at address agree rest) τ σ near far c h u v e g f =
+    let y = images-moved h u v p q (c ∙ at) address x z near far (agreed l m agree (told (g .0)) (told (f .0))) in
+    isolated rest (trayDid τ near (whole (imageKind x) p) .state) (trayDid σ far (whole (imageKind z) q) .state)
+    (near - length (trayDid τ near (whole (imageKind x) p) .reply)) (far - length (trayDid σ far (whole (imageKind z) q) .reply))
     (count-after τ near (whole (imageKind x) p) u ∙ counted (whole (imageKind x) p) c (g .0))
-    (y .others) (did-eight τ near (whole (imageKind x) p) u) (did-eight σ far (whole (imageKind x) q) v) (omega (arith, e, y .reply)) (g .1) (f .1)
+    (y .others) (did-eight τ near (whole (imageKind x) p) u) (did-eight σ far (whole (imageKind z) q) v) (omega (arith, e, y .reply)) (g .1) (f .1)
 
 -- Two calls
 
@@ -172,10 +172,10 @@ first-differs (there slot at rest) zero zero h = none
 first-differs (there slot at rest) (suc i) zero h = absurd h
 first-differs (there slot at rest) zero (suc j) h = there slot at (first-differs rest zero j h)
 first-differs (there slot at rest) (suc i) (suc j) h = there slot at (first-differs rest (suc i) j h)
-first-differs (images f at address agree rest) zero zero h = none
-first-differs (images f at address agree rest) zero (suc j) h = absurd h
-first-differs (images f at address agree rest) (suc i) zero h = absurd h
-first-differs (images f at address agree rest) (suc i) (suc j) h = images f at address agree (first-differs rest i j h)
+first-differs (images f g at address agree rest) zero zero h = none
+first-differs (images f g at address agree rest) zero (suc j) h = absurd h
+first-differs (images f g at address agree rest) (suc i) zero h = absurd h
+first-differs (images f g at address agree rest) (suc i) (suc j) h = images f g at address agree (first-differs rest i j h)
 
 twins-stopped : {k : ℕ} {c d : Call Tray} (t : Twins k c d) (i j : ℕ) → Places (t .differs) i j
     → {a e : Call Tray} → Stopped trayDid emptyTray i c a → Stopped trayDid emptyTray j d e → Twins k a e

@@ -253,13 +253,14 @@ module _ {k : ℕ} {τ σ : Tray} (h : Others k τ σ) (u : Eight τ) (v : Eight
   joined-moved (Change c) x few low = absurd few
   joined-moved (Transact t) x few low = absurd few
 
-  -- two images with the same address, where the slot k is filled
-  pub images-moved : (f : Profile) (near far : ℕ) → let n = imageKind f in eqb (trayDid τ near (whole n p) .answer) 0 ≡ eqb (trayDid σ far (whole n q) .answer) 0
-      → Moved k (trayDid τ near (whole n p)) (trayDid σ far (whole n q))
-  images-moved y near far agree = go (outcome τ near (imageKind y) p) (outcome σ far (imageKind y) q)
+  -- two images with the same address, each of either kind, where the slot k is filled
+  pub images-moved : (f h : Profile) (near far : ℕ)
+      → eqb (trayDid τ near (whole (imageKind f) p) .answer) 0 ≡ eqb (trayDid σ far (whole (imageKind h) q) .answer) 0
+      → Moved k (trayDid τ near (whole (imageKind f) p)) (trayDid σ far (whole (imageKind h) q))
+  images-moved y z near far agree = go (outcome τ near (imageKind y) p) (outcome σ far (imageKind z) q)
     where
-      go : Outcome τ near (imageKind y) p → Outcome σ far (imageKind y) q → Moved k (trayDid τ near (whole (imageKind y) p)) (trayDid σ far (whole (imageKind y) q))
-      go (ran e a d) (ran x b f) = rw (d, f) (joined-moved e x (joining y τ p e a) (joining y σ q x b))
+      go : Outcome τ near (imageKind y) p → Outcome σ far (imageKind z) q → Moved k (trayDid τ near (whole (imageKind y) p)) (trayDid σ far (whole (imageKind z) q))
+      go (ran e a d) (ran x b f) = rw (d, f) (joined-moved e x (joining y τ p e a) (joining z σ q x b))
       go (ran e a d) (stayed m low f) =
           never (ap (λ (x : Did Tray). x .answer) d ∙ tray-replying .answer τ p e) (ap (λ (x : Did Tray). x .answer) f) low agree
       go (stayed m low d) (ran x b f) =

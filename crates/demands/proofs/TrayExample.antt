@@ -1,5 +1,5 @@
 -- The theorems on trays speak of something: trays of two packs.
-use mathlib.Core.Path.{_≡_, refl, ap}
+use mathlib.Core.Path.{_≡_, refl, sym, ap}
 use mathlib.Core.List.{List, [], _∷_, _++_, zip, zipWith}
 use Prim.Native.Nat.{ℕ, _≤_}
 use native.Mathlib.Omega.{arith}
@@ -27,7 +27,7 @@ use Rattle.runs.specs.Run.{Line}
 use Rattle.slots.specs.declared.Tray.{Tray}
 use Rattle.slots.specs.Tray.{emptyTray, packOf, searchOf, trayKindOf, matchedOf, trayDid}
 use Rattle.trays.specs.Run.{trayLines, slotOutNumber, slotOutRoom}
-use Rattle.demands.specs.Call.{Call, Within}
+use Rattle.demands.specs.Call.{Call, Within, firstOf, Stopped}
 use Rattle.demands.specs.Sections.{last, more}
 use Rattle.demands.specs.Class.{blockOf, touchedOf, labelsOf, touchedClass}
 use Rattle.demands.specs.Demand2.{SlotCarried, SlotPowersOn}
@@ -44,7 +44,7 @@ abbrev cells : List ℕ
 cells = 100 ∷ 0 ∷ 128 ∷ 0 ∷ []
 
 abbrev zeroth : List ℕ
-zeroth = 0x3d ∷ 1 ∷ 2 ∷ 3 ∷ 4 ∷ 5 ∷ 6 ∷ 0xac ∷ (replicate 48 0 ++ cells)
+zeroth = 0x3d ∷ 1 ∷ 2 ∷ 3 ∷ 4 ∷ 5 ∷ 6 ∷ 0xac ∷ 0x3c ∷ 0x3c ∷ (replicate 46 0 ++ cells)
 
 abbrev relabelled : List ℕ
 relabelled = 0x3d ∷ 1 ∷ 2 ∷ 3 ∷ 4 ∷ 5 ∷ 6 ∷ 0xac ∷ (replicate 16 7 ++ (replicate 32 0 ++ cells))
@@ -70,6 +70,9 @@ measured = 2 ∷ 0x55 ∷ (address ++ (0x69 ∷ 0x0e ∷ []))
 
 abbrev measuring : Rec
 measuring = whole 4 measured
+
+abbrev line : ℕ → ℕ → List ℕ → Line
+line kind answer reply = record { kind = kind; answer = answer; reply = reply }
 
 -- a session of these records, with 4 bytes of reply room
 abbrev call : List Rec → Call Tray
@@ -123,30 +126,63 @@ tray-demand-3-met = record {
 
 -- Two sessions that differ in slot 0
 
+-- first an image without a byte, which is refused, of another kind in the one than in the other
 abbrev longer : List Rec
-longer = whole 1 zeroth ∷ whole 8 first ∷ converting 0 ∷ converting 1 ∷ []
+longer = whole 1 [] ∷ whole 1 zeroth ∷ whole 8 first ∷ converting 0 ∷ converting 1 ∷ []
 
 abbrev shorter : List Rec
-shorter = whole 1 relabelled ∷ whole 8 first ∷ converting 1 ∷ []
+shorter = whole 8 [] ∷ whole 1 relabelled ∷ whole 8 first ∷ converting 1 ∷ []
+
+-- and then the transaction
+abbrev both-measuring : List Rec → List Rec
+both-measuring rs = rs ++ (measuring ∷ [])
+
+stops : (rs : List Rec) → length (packed rs) ≤ 256 → (n : ℕ) (c : Call Tray) → packed rs ≡ firstOf n (c .bytes) → c .room ≡ replicate 4 0 → c .answers ≡ replicate 64 0
+    → Stopped trayDid emptyTray n c (call rs)
+stops rs short n c bytes room answers = record { allowed = call-within rs short .allowed; bytes = bytes; room = sym room; answers = sym answers }
 
 -- THE HYPOTHESES OF ISOLATION CAN BE MET
 pub isolation-met : IsolationMet
-unfolding zip zipWith recOf sizeOf wholeOf trayDid trayKindOf searchOf matchedOf judgedAmong addressedOf orderedOf crc.bitOf crc.eightOf crc.nextOf imageOf
-    askedOf askedAt romBy commandOf conversionOf
+unfolding zip zipWith recOf sizeOf wholeOf trayDid trayKindOf searchOf matchedOf judgedAmong addressedOf orderedOf crc.bitOf crc.eightOf crc.nextOf
+    imageOf poweredOf conversionOf convertOf flowedOf
+    askedOf askedAt romBy commandOf selectedOf ownOf actOf ranOf
+    replyOf sourceByte readByte inLabel meterByte registersOf
 isolation-met = record {
   slot = 0;
   matched = 1;
-  first = call longer;
-  second = call shorter;
+  first = call (both-measuring longer);
+  second = call (both-measuring shorter);
+  one-within = call-within (both-measuring longer) (omega arith);
+  other-within = call-within (both-measuring shorter) (omega arith);
+  form = Short;
+  payload = measured;
+  line = line 4 0 (0xfc ∷ 0x18 ∷ []);
+  before = call longer;
+  after = call (both-measuring longer);
+  taking = record {
+    earlier = 5;
+    later = [];
+    here = refl;
+    before = stops longer (omega arith) 5 (call (both-measuring longer)) refl refl refl;
+    after = stops (both-measuring longer) (omega arith) 6 (call (both-measuring longer)) refl refl refl;
+  };
+  other-line = line 4 0 (0xfc ∷ 0x18 ∷ []);
+  other-before = call shorter;
+  other-after = call (both-measuring shorter);
+  other-taking = record {
+    earlier = 4;
+    later = [];
+    here = refl;
+    before = stops shorter (omega arith) 4 (call (both-measuring shorter)) refl refl refl;
+    after = stops (both-measuring shorter) (omega arith) 5 (call (both-measuring shorter)) refl refl refl;
+  };
   twins = record {
     one = call-within longer (omega arith);
     other = call-within shorter (omega arith);
     room = refl;
-    differs = images Ds2781 refl refl refl (held refl (here refl refl (held refl none)));
+    differs = images Ds2781 Ds2775 refl refl refl (images Ds2781 Ds2781 refl refl refl (held refl (here refl refl (held refl none))));
   };
-  differ = λ e. let z : _≡_ {A = ℕ} 0 7 = ap (λ (g : Gauge). getD (g .label .shadow) 0 0) e in omega arith;
-  form = Short;
-  payload = measured;
+  differ = λ e. let z : _≡_ {A = ℕ} 0x3c 7 = ap (λ (g : Gauge). getD (g .label .shadow) 0 0) e in omega arith;
   reached = refl;
   away = λ e. omega arith;
   done = refl;
@@ -186,12 +222,10 @@ unfolding recOf sizeOf wholeOf trayDid trayKindOf searchOf judgedAmong addressed
     askedOf askedAt romBy commandOf actOf selectedOf ranOf writtenOf labelWrittenOf laidOf inLabel
 skip-changes = refl
 
--- what the first of the two sessions that are mixed differently prints: the label of slot 0 is 00 00 after its power-on and that of slot 1 5A A5, and the reply is the AND of both
-abbrev line : ℕ → ℕ → List ℕ → Line
-line kind answer reply = record { kind = kind; answer = answer; reply = reply }
-
+-- what the first of the two sessions that are mixed differently prints: the label of slot 0 is 3C 3C after its power-on and that of slot 1 5A A5, and
+-- the reply 18 24, the AND of both and neither of them
 pub tray-answers : trayLines (packed (opened ones)) 4
-    ≡ line 1 0 [] ∷ line 8 0 [] ∷ line 4 0 [] ∷ line 19 0 [] ∷ line 21 0 [] ∷ line 4 0 (0x00 ∷ 0x00 ∷ []) ∷ line 4 0 (0xfc ∷ 0x18 ∷ []) ∷ []
+    ≡ line 1 0 [] ∷ line 8 0 [] ∷ line 4 0 [] ∷ line 19 0 [] ∷ line 21 0 [] ∷ line 4 0 (0x18 ∷ 0x24 ∷ []) ∷ line 4 0 (0xfc ∷ 0x18 ∷ []) ∷ []
 unfolding trayLines recOf sizeOf wholeOf trayDid trayKindOf searchOf matchedOf judgedAmong addressedOf orderedOf crc.bitOf crc.eightOf crc.nextOf
     imageOf poweredOf conversionOf convertOf flowedOf powerOnOf
     askedOf askedAt romBy commandOf selectedOf ownOf actOf ranOf writtenOf labelWrittenOf laidOf meterWrittenOf blockWrittenOf

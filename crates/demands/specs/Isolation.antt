@@ -11,7 +11,6 @@ use Rattle.demands.specs.Images.{imageKind, isImage}
 use Rattle.numbers.specs.Choice.{pick, both}
 use Rattle.events.specs.declared.Form.{Form}
 use Rattle.events.specs.Image.{imageAddress}
-use Rattle.events.specs.Record.{limitOf}
 use Rattle.runs.specs.Record.{Rec, whole, kindIn}
 use Rattle.runs.specs.Run.{Line}
 use Rattle.slots.specs.declared.Tray.{Tray}
@@ -41,9 +40,9 @@ pub data Differs (k : ℕ) : ℕ → List (Rec × Line) → List (Rec × Line) �
       → Differs k n ((whole e p, l) ∷ xs) ys
   there : {n e : ℕ} {p : List ℕ} {l : Line} {xs ys : List (Rec × Line)} → slotEvent e ≡ true → slotIn p ≡ k → Differs k n xs ys
       → Differs k n xs ((whole e p, l) ∷ ys)
-  -- two images with the same address, where the slot k is filled
-  images : (f : Profile) {n : ℕ} {p q : List ℕ} {l m : Line} {xs ys : List (Rec × Line)} → n ≡ k → imageAddress p ≡ imageAddress q → Agree l m
-      → Differs k (imagesAfter n (whole (imageKind f) p) l) xs ys → Differs k n ((whole (imageKind f) p, l) ∷ xs) ((whole (imageKind f) q, m) ∷ ys)
+  -- two images with the same address, each of either kind, where the slot k is filled
+  images : (f h : Profile) {n : ℕ} {p q : List ℕ} {l m : Line} {xs ys : List (Rec × Line)} → n ≡ k → imageAddress p ≡ imageAddress q → Agree l m
+      → Differs k (imagesAfter n (whole (imageKind f) p) l) xs ys → Differs k n ((whole (imageKind f) p, l) ∷ xs) ((whole (imageKind h) q, m) ∷ ys)
 
 -- a place in both: i records of the one are before it and j of the other
 abbrev pub Places : {k n : ℕ} {xs ys : List (Rec × Line)} → Differs k n xs ys → ℕ → ℕ → Type 0
@@ -61,10 +60,10 @@ Places (there slot at rest) zero zero = Unit
 Places (there slot at rest) (suc i) zero = ⊥
 Places (there slot at rest) zero (suc j) = Places rest zero j
 Places (there slot at rest) (suc i) (suc j) = Places rest (suc i) j
-Places (images f at address agree rest) zero zero = Unit
-Places (images f at address agree rest) zero (suc j) = ⊥
-Places (images f at address agree rest) (suc i) zero = ⊥
-Places (images f at address agree rest) (suc i) (suc j) = Places rest i j
+Places (images f h at address agree rest) zero zero = Unit
+Places (images f h at address agree rest) zero (suc j) = ⊥
+Places (images f h at address agree rest) (suc i) zero = ⊥
+Places (images f h at address agree rest) (suc i) (suc j) = Places rest i j
 
 -- two calls with reply rooms of one size
 pub record Twins (k : ℕ) (c d : Call Tray) : Type 0 where
@@ -92,16 +91,27 @@ pub record Isolation : Type 0 where
       → Taking trayDid emptyTray c (whole (formKind x) p) l a b → Taking trayDid emptyTray d (whole (formKind x) p) m e f
       → Twins k a e → reachIn (a .ran .state) x p ≡ one j → (j ≡ k → ⊥) → l ≡ m
 
--- and it speaks of something: two such sessions that differ in the slot's pack, and a transaction that is matched to another slot, and done
+-- and it speaks of something: two sessions with a transaction that is matched to another slot, and done; up to it they are two such sessions,
+-- which differ in the slot's pack
 pub record IsolationMet : Type 0 where
   pub slot : ℕ
   pub matched : ℕ
   pub first : Call Tray
   pub second : Call Tray
-  pub twins : Twins slot first second
-  pub differ : packOf (first .ran .state) slot ≡ packOf (second .ran .state) slot → ⊥
+  pub one-within : Within trayDid emptyTray first
+  pub other-within : Within trayDid emptyTray second
   pub form : Form
   pub payload : List ℕ
-  pub reached : reachIn (first .ran .state) form payload ≡ one matched
+  pub line : Line
+  pub before : Call Tray
+  pub after : Call Tray
+  pub taking : Taking trayDid emptyTray first (whole (formKind form) payload) line before after
+  pub other-line : Line
+  pub other-before : Call Tray
+  pub other-after : Call Tray
+  pub other-taking : Taking trayDid emptyTray second (whole (formKind form) payload) other-line other-before other-after
+  pub twins : Twins slot before other-before
+  pub differ : packOf (before .ran .state) slot ≡ packOf (other-before .ran .state) slot → ⊥
+  pub reached : reachIn (before .ran .state) form payload ≡ one matched
   pub away : matched ≡ slot → ⊥
-  pub done : trayDid (first .ran .state) (limitOf form) (whole (formKind form) payload) .answer ≡ 0
+  pub done : line .answer ≡ 0
