@@ -5,7 +5,8 @@ use mathlib.Core.List.{List, [], _∷_, _++_}
 use Prim.Native.Nat.{ℕ, _+_, _≤_}
 use native.Mathlib.Omega.{arith}
 use lib.ListN.{length, getD, take, replicate, length-take}
-use Rattle.profile.specs.declared.Profile.the-variants.{Ds2781}
+use Rattle.profile.specs.declared.Profile.{Profile}
+use Rattle.profile.specs.declared.Profile.the-variants.{Ds2781, Ds2775}
 use Rattle.demands.specs.Images.{imageKind, profileOf}
 use Rattle.crc.specs.Crc as crc
 use Rattle.meter.specs.State.{poweredOf}
@@ -76,6 +77,14 @@ printed = refl
 abbrev image : List ℕ
 image = 0x3d ∷ 1 ∷ 2 ∷ 3 ∷ 4 ∷ 5 ∷ 6 ∷ 0xac ∷ (replicate 48 0 ++ (100 ∷ 0 ∷ 128 ∷ 0 ∷ []))
 
+-- and one of a DS2775, whose counter was saved at 9
+abbrev camera : List ℕ
+camera = 0x32 ∷ 1 ∷ 2 ∷ 3 ∷ 4 ∷ 5 ∷ 7 ∷ 0xb0 ∷ (replicate 48 0 ++ (100 ∷ 0 ∷ 128 ∷ 0 ∷ 9 ∷ []))
+
+abbrev imageFor : Profile → List ℕ
+imageFor Ds2781 = image
+imageFor Ds2775 = camera
+
 -- of the label: 5Ah and A5h written at 20h; block 0 copied; two bytes read at 20h
 abbrev writing : Rec
 writing = whole 4 (0 ∷ 0xcc ∷ 0x6c ∷ 0x20 ∷ 0x5a ∷ 0xa5 ∷ [])
@@ -102,27 +111,32 @@ ones = writing ∷ copying ∷ converting ∷ power-on ∷ reading ∷ convertin
 abbrev others : List Rec
 others = converting ∷ writing ∷ copying ∷ power-on ∷ converting ∷ reading ∷ measuring ∷ []
 
--- a session of the image and then these, run with 4 bytes of reply room
+-- a session of the image of a profile and then these, run with 4 bytes of reply room
+abbrev imaging : Profile → Rec
+imaging f = whole (imageKind f) (imageFor f)
+
+abbrev callFor : Profile → List Rec → Call Session
+callFor f rs = called didOf emptyOf (packed (imaging f ∷ rs)) (replicate 4 0) (replicate 32 0)
+
 abbrev call : List Rec → Call Session
-call rs = called didOf emptyOf (packed (whole 1 image ∷ rs)) (replicate 4 0) (replicate 32 0)
+call = callFor Ds2781
 
-call-within : (rs : List Rec) → length (packed (whole 1 image ∷ rs)) ≤ 128 → Within didOf emptyOf (call rs)
-call-within rs short = called-within didOf emptyOf (packed (whole 1 image ∷ rs)) (replicate 4 0) (replicate 32 0) (omega arith) (omega arith)
+call-within : (f : Profile) (rs : List Rec) → length (packed (imaging f ∷ rs)) ≤ 128 → Within didOf emptyOf (callFor f rs)
+call-within f rs short = called-within didOf emptyOf (packed (imaging f ∷ rs)) (replicate 4 0) (replicate 32 0) (omega arith) (omega arith)
 
-call-starts : (rs : List Rec) → length (packed (whole 1 image ∷ rs)) ≤ 128 → asksAll sessionAsked rs ≤ 4
-    → recsOf (packed (whole 1 image ∷ rs)) ≡ whole 1 image ∷ rs → Starts didOf emptyOf sessionAsked (selectedOf (imageAddress image)) (whole 1 image ∷ []) rs (call rs)
-call-starts rs short asks holds = record {
-  within = call-within rs short;
+call-starts : (f : Profile) (rs : List Rec) → length (packed (imaging f ∷ rs)) ≤ 128 → asksAll sessionAsked rs ≤ 4 → recsOf (packed (imaging f ∷ rs)) ≡ imaging f ∷ rs
+    → Starts didOf emptyOf sessionAsked (selectedOf (imageAddress (imageFor f))) (imaging f ∷ []) rs (callFor f rs)
+call-starts f rs short asks holds = record {
+  within = call-within f rs short;
   first = holds;
   room = asks;
 }
 
 -- THE HYPOTHESIS OF DEMAND 3 CAN BE MET
-pub demand-3-met : Demand3Met
+pub demand-3-met : (f : Profile) → Demand3Met f
 unfolding recOf sizeOf wholeOf takenOf kindOf judgedAmong addressedOf orderedOf crc.bitOf crc.eightOf crc.nextOf
     askedOf askedAt romBy commandOf touchedClass labelsOf touchedOf selectedOf inLabel blockOf
-demand-3-met = record {
-  profile = Ds2781;
+demand-3-met Ds2781 = record {
   image = image;
   ones = ones;
   others = others;
@@ -130,8 +144,8 @@ demand-3-met = record {
   other = call others;
   accepted = refl;
   mixed = record {
-    one = call-starts ones (omega arith) (omega arith) refl;
-    other = call-starts others (omega arith) (omega arith) refl;
+    one = call-starts Ds2781 ones (omega arith) (omega arith) refl;
+    other = call-starts Ds2781 others (omega arith) (omega arith) refl;
     sections =
         more {xs = writing ∷ copying ∷ converting ∷ []} {ys = converting ∷ writing ∷ copying ∷ []}
         (record { one = refl; other = refl; labels = refl; gauges = refl })
@@ -139,6 +153,24 @@ demand-3-met = record {
         (last (record { one = refl; other = refl; labels = refl; gauges = refl }));
   };
   differ = λ e. let z : _≡_ {A = ℕ} 6 4 = ap (λ (l : List ℕ). getD l 64 0) e in omega arith;
+}
+demand-3-met Ds2775 = record {
+  image = camera;
+  ones = ones;
+  others = others;
+  one = callFor Ds2775 ones;
+  other = callFor Ds2775 others;
+  accepted = refl;
+  mixed = record {
+    one = call-starts Ds2775 ones (omega arith) (omega arith) refl;
+    other = call-starts Ds2775 others (omega arith) (omega arith) refl;
+    sections =
+        more {xs = writing ∷ copying ∷ converting ∷ []} {ys = converting ∷ writing ∷ copying ∷ []}
+        (record { one = refl; other = refl; labels = refl; gauges = refl })
+        refl
+        (last (record { one = refl; other = refl; labels = refl; gauges = refl }));
+  };
+  differ = λ e. let z : _≡_ {A = ℕ} 6 4 = ap (λ (l : List ℕ). getD l 65 0) e in omega arith;
 }
 
 -- and their events do something: after the power-on the label that was written and copied is read back, and so is CURRENT
@@ -162,7 +194,7 @@ longer = call (ones ++ (power-on ∷ []))
 pub powers-on : PowersOn (call ones) (longer .ran .state .gauge)
 unfolding recOf sizeOf wholeOf didOf takenOf kindOf judgedAmong addressedOf orderedOf crc.bitOf crc.eightOf crc.nextOf
     askedOf askedAt romBy commandOf replyOf
-powers-on = record { longer = longer; run = call-within (ones ++ (power-on ∷ [])) (omega arith); room = refl; last = refl; leaves = refl }
+powers-on = record { longer = longer; run = call-within Ds2781 (ones ++ (power-on ∷ [])) (omega arith); room = refl; last = refl; leaves = refl }
 
 -- that image has its breakpoints in order; one that is taken out after TBP34 was written below TBP23, and copied, has not, and is refused
 abbrev crossing : List Rec

@@ -76,9 +76,8 @@ Demand3 = (f : Profile) (p : List ℕ) (xs ys : List Rec) (a b : Call Session) �
     → SessionsMixed f p xs ys a b
     → KeptApart didOf emptyOf sessionAsked (selectedOf (imageAddress p)) a b
 
--- and it speaks of something: there are such sessions that differ
-pub record Demand3Met : Type 0 where
-  pub profile : Profile
+-- and it speaks of something: there are such sessions of each profile that differ
+pub record Demand3Met (profile : Profile) : Type 0 where
   pub image : List ℕ
   pub ones : List Rec
   pub others : List Rec
