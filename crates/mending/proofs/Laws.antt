@@ -99,4 +99,4 @@ changes-all olds news i h few e w = wider (rw (take-all i olds h, take-all i new
 pub listed : {m room after : List ℕ} {next : ℕ} (image : List ℕ) → mendingAnswer changesSize image (length room) ≡ Done → m ≡ mendedOf image
     → Writing changesSize (changesFrom 0 image m) room 0 next after → Listing image room (Lines next) after
 unfolding changesOf
-listed image done is w = record { answer = rw done (ap Lines (rw is at (w .onward) ∙ zero-add _)); written = rw done (rw is at (w .written)) }
+listed image done is w = record { number = rw done; answer = rw done (ap Lines (rw is at (w .onward) ∙ zero-add _)); written = rw done (rw is at (w .written)) }

@@ -135,6 +135,11 @@ abbrev pub linesBy : Mended → List ℕ → List ℕ → List ℕ
 linesBy Done image room = put room 0 (changesOf image)
 linesBy (Refused why) image room = room
 
+abbrev pub listedNumber : Listed → ℕ
+listedNumber (listed.Lines n) = 0
+listedNumber (listed.Refused why) = unmendedNumber why
+
 pub record Listing (image room : List ℕ) (said : Listed) (after : List ℕ) : Type 0 where
+  pub number : listedNumber said ≡ mendedNumber (mendingAnswer changesSize image (length room))
   pub answer : said ≡ listedBy (mendingAnswer changesSize image (length room)) image
   pub written : after ≡ linesBy (mendingAnswer changesSize image (length room)) image room

@@ -82,5 +82,6 @@ exportRoom Done pack factory room = exportText (labelOf pack factory) (imageBloc
 exportRoom (Refused w) pack factory room = room
 
 pub record Exporting (pack factory room : List ℕ) (said : Answer) (after : List ℕ) : Type 0 where
+  pub number : answerNumber said ≡ answerNumber (exportAnswer pack factory (length room))
   pub answer : said ≡ exportAnswer pack factory (length room)
   pub written : after ≡ exportRoom (exportAnswer pack factory (length room)) pack factory room

@@ -13,6 +13,7 @@ use Rattle.ihex.specs.Line.{lineFeed, addressIn, dataIn, lineOf}
 use Rattle.transfer.specs.declared.Why.the-variants as why
 use Rattle.transfer.specs.declared.Answer.{Answer}
 use Rattle.transfer.specs.declared.Answer.the-variants.{Done, Refused}
+use Rattle.transfer.specs.Export.{answerNumber}
 
 -- ---- the lines of a text: each goes up to its line feed, and the last one to the end where it has none
 
@@ -88,5 +89,6 @@ importRoom Done ls room = importedOf ls ++ drop importSize room
 importRoom (Refused w) ls room = room
 
 pub record Importing (text room : List ℕ) (said : Answer) (after : List ℕ) : Type 0 where
+  pub number : answerNumber said ≡ answerNumber (importAnswer (linesOf text) (length room))
   pub answer : said ≡ importAnswer (linesOf text) (length room)
   pub written : after ≡ importRoom (importAnswer (linesOf text) (length room)) (linesOf text) room

@@ -23,7 +23,7 @@ returns c = listed _ (sym (c .before .before .before .before .before .before .be
 returns-2 : tie.Need-returns-2
 returns-2 c =
     let found = sym (c .before .before .before .answer .ensures) ∙ c .before .found .given .1 in
-    record { answer = rw found; written = rw found }
+    record { number = rw found; answer = rw found; written = rw found }
 
 pub changes-spec : {M : Type 1} → statement M
 changes-spec =

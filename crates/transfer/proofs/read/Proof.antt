@@ -1,7 +1,8 @@
 -- `transfer::read` meets its contract.
-use mathlib.Core.Path.{sym, _∙_}
+use mathlib.Core.Path.{sym, ap, _∙_}
 use lib.ListN.{length}
 use denote.Ref.{now}
+use Rattle.transfer.specs.Export.{answerNumber}
 use Rattle.transfer.specs.Import.{linesOf}
 use Rattle.transfer.proofs.Lines.{import-fits, import-sized}
 use borrow.Author.Needs.{needs}
@@ -30,12 +31,12 @@ same-length c = search needs
 returns : tie.Need-returns
 returns c =
     let found = sym (c .before .before .before .before .before .before .import-answer .ensures) ∙ c .before .before .before .before .enum-told .given .1 in
-    record { answer = sym found; written = rw found (c .before .before .put-imported .ensures) }
+    record { number = ap answerNumber (sym found); answer = sym found; written = rw found (c .before .before .put-imported .ensures) }
 
 returns-2 : tie.Need-returns-2
 returns-2 c =
     let found = sym (c .before .before .before .import-answer .ensures) ∙ c .before .found .given .1 in
-    record { answer = sym found; written = rw found }
+    record { number = ap answerNumber (sym found); answer = sym found; written = rw found }
 
 pub read-spec : {M : Type 1} → statement M
 read-spec =

@@ -6,7 +6,7 @@ use native.Mathlib.Omega.{arith}
 use lib.ListN.{length, drop}
 use denote.Ref.{now}
 use Rattle.events.specs.Image.{imageBlock}
-use Rattle.transfer.specs.Export.{exportText, exportSize}
+use Rattle.transfer.specs.Export.{answerNumber, exportText, exportSize}
 use Rattle.transfer.proofs.Texts.{granted, pack-sized, label-sized, block-sized}
 use borrow.Author.Needs.{needs}
 use Rattle.transfer.proofs.write.Statement.{statement}
@@ -49,6 +49,7 @@ returns : tie.Need-returns
 returns c =
     let found = sym (c .before .before .before .before .before .before .before .before .export-answer .ensures) ∙ c .before .before .before .before .before .before .enum-told .given .1 in
     record {
+      number = ap answerNumber (sym found);
       answer = sym found;
       written = rw found (c .before .before .put-text .ensures ∙ ap (λ (l : List ℕ). exportText l (imageBlock (now (c .before .before .before .before .before .before .before .before .before .before .before .before .args .pack))) ++ drop exportSize (now (c .before .before .before .before .before .before .before .before .before .before .before .before .args .room))) (c .before .before .before .before .before .label .ensures));
     }
@@ -56,7 +57,7 @@ returns c =
 returns-2 : tie.Need-returns-2
 returns-2 c =
     let found = sym (c .before .before .before .export-answer .ensures) ∙ c .before .found .given .1 in
-    record { answer = sym found; written = rw found }
+    record { number = ap answerNumber (sym found); answer = sym found; written = rw found }
 
 pub write-spec : {M : Type 1} → statement M
 write-spec =
