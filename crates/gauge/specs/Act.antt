@@ -1,5 +1,6 @@
 -- What a transaction does, and the bytes that it is answered with.
 use Prim.Native.Nat.{ℕ}
+use mathlib.Core.Bool.{Bool, true, false}
 use mathlib.Core.List.{List}
 use lib.ListN.{drop}
 use Rattle.numbers.specs.Choice.{pick}
@@ -18,6 +19,15 @@ ranBy Copy g a bytes = copiedOf g a
 ranBy Recall g a bytes = recalledOf g a
 ranBy Lock g a bytes = lockedOf g a
 ranBy Nothing g a bytes = g
+
+-- the commands that can change a gauge
+abbrev pub changesOf : Command → Bool
+changesOf Read = false
+changesOf Write = true
+changesOf Copy = true
+changesOf Recall = true
+changesOf Lock = true
+changesOf Nothing = false
 
 unfoldable pub ranOf : Gauge → Transaction → List ℕ → Gauge
 ranOf g t master = ranBy (t .command) g (t .address) (drop (t .from) master)

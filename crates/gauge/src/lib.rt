@@ -9,7 +9,7 @@ ghost use mathlib.Core.List.{_++_};
 ghost use Prim.Native.Nat.{_≤_, _<_};
 ghost use lib.ListN.{length, drop};
 ghost use Rattle.gauge.specs.Gauge.{GaugeWF, conversionOf, samplingOf, readingOf, powerOnOf, writtenOf, copiedOf, recalledOf, lockedOf};
-ghost use Rattle.gauge.specs.Act.{ranOf, actOf, replyOf};
+ghost use Rattle.gauge.specs.Act.{changesOf, ranOf, actOf, replyOf};
 
 pub struct Gauge {
     pub label: Label,
@@ -66,6 +66,20 @@ impl Gauge {
 }
 
 // ---- what a transaction does
+
+// Whether a command can change a gauge: where it cannot, the gauge is not handed on, which would copy it.
+fn changes(command: Command) -> bool
+    ensures { λ r. ⌜ r ≡ changesOf command ⌝ }
+{
+    match command {
+        Command::Read => false,
+        Command::Write => true,
+        Command::Copy => true,
+        Command::Recall => true,
+        Command::Lock => true,
+        Command::Nothing => false,
+    }
+}
 
 impl Gauge {
     // 6Ch: bytes written from the address a upward.
@@ -153,7 +167,8 @@ impl Gauge {
         let address = self.common.address;
         let chosen = replies::selected(address, t, master);
         replies::replied(self.common, self.label, self.meter, t, chosen, room);
-        if chosen {
+        let command = t.command;
+        if numbers::and(chosen, changes(command)) {
             self = self.ran(t, master);
         }
         self

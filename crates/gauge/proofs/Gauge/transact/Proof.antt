@@ -1,12 +1,16 @@
 use mathlib.Core.Path.{_≡_, refl, sym, _∙_}
-use mathlib.Core.Bool.{Bool}
+use mathlib.Core.Bool.{Bool, true, false}
 use mathlib.Core.List.{List, _++_}
 use lib.ListN.{drop}
 use Prim.Native.Nat.{ℕ}
+use Rattle.numbers.specs.Choice.{pick, both}
+use Rattle.numbers.proofs.Bounds.{both-true}
+use Rattle.bus.specs.declared.Command.{Command}
+use Rattle.bus.specs.declared.Command.the-variants.{Read, Write, Copy, Recall, Lock, Nothing}
 use Rattle.bus.specs.declared.Transaction.{Transaction}
 use Rattle.replies.specs.Reply.{selectedOf, repliedOf}
 use Rattle.gauge.specs.declared.Gauge.{Gauge}
-use Rattle.gauge.specs.Act.{actOf, replyOf}
+use Rattle.gauge.specs.Act.{ranBy, changesOf, ranOf, actOf, replyOf}
 use borrow.Author.Needs.{needs}
 use Rattle.gauge.proofs.Gauge.transact.Statement.{statement}
 use Rattle.gauge.proofs.Gauge.transact.Tie as tie
@@ -19,12 +23,28 @@ replied : (g : Gauge) (t : Transaction) (master room after : List ℕ) (chosen :
 unfolding replyOf
 replied g t master room after chosen e h = rw e at h
 
+-- a gauge that is not selected, or whose command changes nothing, stays
+stays : (g : Gauge) (t : Transaction) (master : List ℕ) → both (selectedOf (g .common .address) t master) (changesOf (t .command)) ≡ false → g ≡ actOf g t master
+unfolding actOf ranOf
+stays g t master = by (selectedOf (g .common .address) t master) (t .command)
+  where
+    by : (chosen : Bool) (x : Command) → both chosen (changesOf x) ≡ false → g ≡ pick chosen (ranBy x g (t .address) (drop (t .from) master)) g
+    by false x e = refl
+    by true Read e = refl
+    by true Write e = cc
+    by true Copy e = cc
+    by true Recall e = cc
+    by true Lock e = cc
+    by true Nothing e = refl
+
 returns : tie.Need-returns
 unfolding actOf
 returns c =
-    let reply = c .before .before .before .before in
-    let selected = reply .before .before in (
-      rw (sym (selected .selected .ensures) ∙ c .before .if1 .taken) (c .ran .ensures .0),
+    let c2 = c .before .before in
+    let reply = c2 .before .before .before .before in
+    let selected = reply .before .before in
+    let chosen = both-true _ _ (sym (c2 .and .ensures) ∙ c .before .if1 .taken) .0 in (
+      rw (sym (selected .selected .ensures) ∙ chosen) (c .ran .ensures .0),
       (
         replied (selected .before .before .before .before .args .self) _ _ _ _ _ (selected .selected .ensures) (reply .replied .ensures),
         c .ran .ensures .1,
@@ -32,17 +52,19 @@ returns c =
     )
 
 returns-2 : tie.Need-returns-2
-unfolding actOf
 returns-2 c =
-    let reply = c .before .before .before in
+    let c1 = c .before in
+    let c2 = c1 .before in
+    let reply = c2 .before .before .before in
     let selected = reply .before .before in
-    let start = selected .before .before .before .before in (
-      rw (sym (selected .selected .ensures) ∙ c .if1 .left) refl,
+    let start = selected .before .before .before .before in
+    let g = start .args .self in (
+      stays g _ _ ((λ i. both (sym (selected .selected .ensures) i) (sym (c2 .changes .ensures) i)) ∙ sym (c1 .and .ensures) ∙ c .if1 .left),
       (
-        replied (start .args .self) _ _ _ _ _ (selected .selected .ensures) (reply .replied .ensures),
+        replied g _ _ _ _ _ (selected .selected .ensures) (reply .replied .ensures),
         start .pre .0,
       ),
     )
 
 pub transact-spec : {M : Type 1} → statement M
-transact-spec = tie.close (tie.spec (λ c κs. search needs) (λ c κs. search needs) (λ c κs. search needs) (λ c. search needs) returns (λ c. search needs) returns-2)
+transact-spec = tie.close (tie.spec (λ c κs. search needs) (λ c κs. search needs) (λ c κs. search needs) (λ c κs. search needs) (λ c κs. search needs) (λ c. search needs) returns (λ c. search needs) returns-2)
