@@ -21,13 +21,13 @@ ranBy Lock g a bytes = lockedOf g a
 ranBy Nothing g a bytes = g
 
 -- the commands that can change a gauge
-abbrev pub changesOf : Command → Bool
-changesOf Read = false
-changesOf Write = true
-changesOf Copy = true
-changesOf Recall = true
-changesOf Lock = true
-changesOf Nothing = false
+abbrev pub canChange : Command → Bool
+canChange Read = false
+canChange Write = true
+canChange Copy = true
+canChange Recall = true
+canChange Lock = true
+canChange Nothing = false
 
 unfoldable pub ranOf : Gauge → Transaction → List ℕ → Gauge
 ranOf g t master = ranBy (t .command) g (t .address) (drop (t .from) master)

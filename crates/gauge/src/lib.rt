@@ -9,7 +9,7 @@ ghost use mathlib.Core.List.{_++_};
 ghost use Prim.Native.Nat.{_≤_, _<_};
 ghost use lib.ListN.{length, drop};
 ghost use Rattle.gauge.specs.Gauge.{GaugeWF, conversionOf, samplingOf, readingOf, powerOnOf, writtenOf, copiedOf, recalledOf, lockedOf};
-ghost use Rattle.gauge.specs.Act.{changesOf, ranOf, actOf, replyOf};
+ghost use Rattle.gauge.specs.Act.{canChange, ranOf, actOf, replyOf};
 
 pub struct Gauge {
     pub label: Label,
@@ -69,7 +69,7 @@ impl Gauge {
 
 // Whether a command can change a gauge: where it cannot, the gauge is not handed on, which would copy it.
 fn changes(command: Command) -> bool
-    ensures { λ r. ⌜ r ≡ changesOf command ⌝ }
+    ensures { λ r. ⌜ r ≡ canChange command ⌝ }
 {
     match command {
         Command::Read => false,

@@ -10,7 +10,7 @@ use Rattle.bus.specs.declared.Command.the-variants.{Read, Write, Copy, Recall, 
 use Rattle.bus.specs.declared.Transaction.{Transaction}
 use Rattle.replies.specs.Reply.{selectedOf, repliedOf}
 use Rattle.gauge.specs.declared.Gauge.{Gauge}
-use Rattle.gauge.specs.Act.{ranBy, changesOf, ranOf, actOf, replyOf}
+use Rattle.gauge.specs.Act.{ranBy, canChange, ranOf, actOf, replyOf}
 use borrow.Author.Needs.{needs}
 use Rattle.gauge.proofs.Gauge.transact.Statement.{statement}
 use Rattle.gauge.proofs.Gauge.transact.Tie as tie
@@ -24,11 +24,11 @@ unfolding replyOf
 replied g t master room after chosen e h = rw e at h
 
 -- a gauge that is not selected, or whose command changes nothing, stays
-stays : (g : Gauge) (t : Transaction) (master : List ℕ) → both (selectedOf (g .common .address) t master) (changesOf (t .command)) ≡ false → g ≡ actOf g t master
+stays : (g : Gauge) (t : Transaction) (master : List ℕ) → both (selectedOf (g .common .address) t master) (canChange (t .command)) ≡ false → g ≡ actOf g t master
 unfolding actOf ranOf
 stays g t master = by (selectedOf (g .common .address) t master) (t .command)
   where
-    by : (chosen : Bool) (x : Command) → both chosen (changesOf x) ≡ false → g ≡ pick chosen (ranBy x g (t .address) (drop (t .from) master)) g
+    by : (chosen : Bool) (x : Command) → both chosen (canChange x) ≡ false → g ≡ pick chosen (ranBy x g (t .address) (drop (t .from) master)) g
     by false x e = refl
     by true Read e = refl
     by true Write e = cc
