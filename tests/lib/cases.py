@@ -41,20 +41,21 @@ def loader(name):
             os.path.join(tools, "lib"), os.path.join(TOP, "target", "bin", name)]
 
 
+PLAIN = {name: value for name, value in os.environ.items() if not name.startswith("QEMU_")}  # as the script's
 ASKED = set()  # (name, how many words) of each program of ours that `./trovimbe` has run: it is proved, built and takes so many
 
 
 def ran(command, **how):
     """subprocess.run, with standard error kept. `./trovimbe NAME WORD ..` is asked once; then the program that it built is started as it does, with
     its status, 1 where something is said on standard error. The script looks at each source, which takes thirty times as long as a run: that it
-    does so, and hands on what it should, tests/cases/command sees."""
+    does so, and hands on what it should, tests/cases/command sees. A source that changes while a case runs is not looked at again."""
     ours = (command[1], len(command)) if command[0] == COMMAND and len(command) > 1 else None
     if ours in ASKED:
-        ended = subprocess.run([*loader(command[1]), *command[2:]], stderr=subprocess.PIPE, check=False, **how)
+        ended = subprocess.run([*loader(command[1]), *command[2:]], stderr=subprocess.PIPE, env=PLAIN, check=False, **how)
         ended.returncode = ended.returncode or int(ended.stderr != b"")
         return ended
     ended = subprocess.run(command, stderr=subprocess.PIPE, check=False, **how)
-    if ours and ended.returncode in (0, 1) and os.path.exists(os.path.join(TOP, "target", "bin", command[1] + ".stamp")):
+    if ours and ended.returncode in (0, 1) and b"it is not run" not in ended.stderr and os.path.exists(os.path.join(TOP, "target", "bin", command[1] + ".stamp")):
         ASKED.add(ours)
     return ended
 

@@ -15,7 +15,7 @@ pub struct Charge {
     pub age: u32,
 }
 
-// CURRENT and the c before it, and whether there is one, and two.
+// CURRENT and the c before it, and whether there is one, and two. (The order of fields: docs/SPEED.md.)
 pub struct Trace {
     pub two: bool,
     pub before: u16,
@@ -38,7 +38,7 @@ pub fn current(raw: u32, cob: u8) -> u16
     numbers::at_most(65535, numbers::less(sum, offset)) as u16
 }
 
-// Step 2.
+// Step 2: what counts as 0 is one range, from the slightest current below 0, or from 0 itself without NBEN, up to 63.
 pub fn blanked(f: Profile, nben: bool, c: u16) -> u16
     ensures { λ r. ⌜ r ≡ blankedOf f nben c ⌝ }
 {

@@ -1,7 +1,7 @@
 // The cycle counter of the DS2775 profile.
 ghost use mathlib.Core.Path.{_≡_};
 ghost use Prim.Native.Nat.{_+_};
-ghost use Rattle.cycles.specs.Cycles.{stepsOf, restOf, advancedOf};
+ghost use Rattle.cycles.specs.Cycles.{restOf, advancedOf};
 
 // The counter, and how far ACR fell since its last step.
 pub struct Cycles {

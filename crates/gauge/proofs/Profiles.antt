@@ -13,6 +13,7 @@ use Rattle.numbers.specs.Offset.{zeroAt}
 use Rattle.numbers.proofs.Bounds.{through}
 use Rattle.profile.specs.declared.Profile.{Profile}
 use Rattle.profile.specs.declared.Profile.the-variants.{Ds2781, Ds2775}
+use Rattle.profile.specs.Profile.{countsCycles}
 use Rattle.params.specs.declared.Counting.{Counting}
 use Rattle.params.specs.Params.{countingOf}
 use Rattle.charge.specs.declared.Charge.{Charge}
@@ -21,7 +22,7 @@ use Rattle.cycles.specs.Cycles.{cycledOf}
 use Rattle.ticks.specs.Ticks.{elapsedOf}
 use Rattle.reading.specs.Reading.{keptOf}
 use Rattle.meter.specs.declared.Meter.{Meter}
-use Rattle.meter.specs.State.{poweredOf}
+use Rattle.meter.specs.State.{withCharge, poweredOf}
 use Rattle.meter.specs.Convert.{flowedOf, convertOf}
 use Rattle.meter.specs.Corrections.{currentIn}
 use Rattle.meter.specs.Read.{readOf, drainedOf, shownOf}
@@ -70,6 +71,10 @@ converted-alike m raw e =
     let p = countingOf (m .cells .block .shadow) in
     rw (counted-alike (m .cells .profile) p (m .charge) (m .flow .trace .last) (currentIn m raw) e) refl
 
+converted-edge : (m : Meter) (raw : ℕ) (x : Charge) → withCharge (baseMeter (convertOf m raw)) x ≡ withCharge (convertOf (baseMeter m) raw) x
+unfolding convertOf flowedOf cycledOf
+converted-edge m raw x = refl
+
 -- ---- conversions, one after the other
 
 sampled-alike : (m : Meter) (raw n : ℕ) → edgeOver m raw n ≡ false → baseMeter (sampledOf m raw n) ≡ sampledOf (baseMeter m) raw n
@@ -78,6 +83,21 @@ sampled-alike m raw zero e = refl
 sampled-alike m raw (suc n) e =
     let z = neither (edgeOver m raw n) _ e in
     converted-alike (sampledOf m raw n) raw (z .1) ∙ ap (λ (x : Meter). convertOf x raw) (sampled-alike m raw n (z .0))
+
+-- at the edge the charge alone differs, on which without a counter nothing else depends
+uncharged : (m : Meter) (raw : ℕ) (x y : Charge) → countsCycles (m .cells .profile) ≡ false
+    → withCharge (convertOf (withCharge m y) raw) x ≡ withCharge (convertOf m raw) x
+unfolding convertOf flowedOf cycledOf
+uncharged m raw x y e = rw e refl
+
+sampled-edge : (m : Meter) (raw n : ℕ) (x : Charge) → withCharge (baseMeter (sampledOf m raw n)) x ≡ withCharge (sampledOf (baseMeter m) raw n) x
+unfolding sampledOf
+sampled-edge m raw zero x = refl
+sampled-edge m raw (suc n) x =
+    let y = sampledOf m raw n .charge in
+    converted-edge (sampledOf m raw n) raw x
+    ∙ ap (λ (z : Meter). withCharge (convertOf z raw) x) (sampled-edge m raw n y)
+    ∙ uncharged (sampledOf (baseMeter m) raw n) raw x y (sym (ap (λ (z : Meter). countsCycles (z .cells .profile)) (sampled-edge m raw n y)))
 
 -- ---- a change
 
@@ -138,10 +158,10 @@ listed-alike f g i (suc n) (suc j) e =
     listed-alike f g (i + 1) n j (rw z at e)
 
 pub only-two : OnlyTwo
-unfolding replyOf convertOf flowedOf cycledOf
+unfolding replyOf
 only-two = record {
   changes = changed-alike;
-  edge = λ m raw x. refl;
+  edge = sampled-edge;
   transactions = acted-alike;
   lengths = λ g t master. listed-length _ 0 (t .count) ∙ sym (listed-length _ 0 (t .count));
   replies = λ g t master i e.

@@ -20,7 +20,7 @@ ranBy Recall g a bytes = recalledOf g a
 ranBy Lock g a bytes = lockedOf g a
 ranBy Nothing g a bytes = g
 
--- the commands that can change a gauge
+-- the commands that can change a gauge: the code hands it to these alone, since with the others `ranBy` leaves it as it is
 abbrev pub canChange : Command → Bool
 canChange Read = false
 canChange Write = true

@@ -15,7 +15,6 @@ use Rattle.ticks.specs.Ticks.{elapsedOf}
 use Rattle.meter.specs.declared.Cells.{Cells}
 use Rattle.meter.specs.declared.Meter.{Meter}
 use Rattle.meter.specs.State.{withCharge}
-use Rattle.meter.specs.Convert.{convertOf}
 use Rattle.meter.specs.Corrections.{currentIn}
 use Rattle.samples.specs.Samples.{sampledOf}
 use Rattle.bus.specs.declared.Transaction.{Transaction}
@@ -86,8 +85,8 @@ readsCounter g t master i =
 pub record OnlyTwo : Type 0 where
   -- a change that meets no edge leaves of the base what it leaves of the gauge
   pub changes : (g : Gauge) (c : Change) → meetsEdge (g .meter) c ≡ false → baseOf (changedOf g c) ≡ changedOf (baseOf g) c
-  -- a conversion at the edge too, but for the charge
-  pub edge : (m : Meter) (raw : ℕ) (x : Charge) → withCharge (baseMeter (convertOf m raw)) x ≡ withCharge (convertOf (baseMeter m) raw) x
+  -- conversions at the edge too, but for the charge
+  pub edge : (m : Meter) (raw n : ℕ) (x : Charge) → withCharge (baseMeter (sampledOf m raw n)) x ≡ withCharge (sampledOf (baseMeter m) raw n) x
   -- and every transaction
   pub transactions : (g : Gauge) (t : Transaction) (master : List ℕ) → baseOf (actOf g t master) ≡ actOf (baseOf g) t master
   -- with as long a reply, and the same bytes in it

@@ -11,6 +11,7 @@ ghost use lib.ListN.{length, drop};
 ghost use Rattle.gauge.specs.Gauge.{GaugeWF, conversionOf, samplingOf, readingOf, powerOnOf, writtenOf, copiedOf, recalledOf, lockedOf};
 ghost use Rattle.gauge.specs.Act.{canChange, ranOf, actOf, replyOf};
 
+// (The order of fields: docs/SPEED.md.)
 pub struct Gauge {
     pub label: Label,
     pub common: Common,

@@ -216,7 +216,7 @@ figures =
     (cycled Ds2775 3 (at 254 4) is 255 ∷ 0 ∷ []) ∷
     -- W12.11. With Full40 = 0 the rest is zeroed
     (cycled Ds2775 0 (at 7 11) is 7 ∷ 0 ∷ []) ∷
-    -- and at the first conversion after an ACR write, which adds no fall to it, as it is counted there with Full40 above 0
+    -- and at the first conversion after an ACR write, which adds no fall to it: zeroed with Full40 = 0, stepped or kept all the same above
     (marked Ds2775 0 (at 7 11) is 7 ∷ 0 ∷ []) ∷
     (marked Ds2775 3 (at 7 11) is 8 ∷ 5 ∷ []) ∷
     (marked Ds2775 10 (at 7 11) is 7 ∷ 11 ∷ []) ∷

@@ -2,7 +2,7 @@
 -- RARC 100 however small Full40 is, and CHGTF stays, if step 3 leaves ACR alone and D > 0. With D ≤ 0 RARC is 0 and CHGTF drops.
 use mathlib.Core.Path.{_≡_, refl, ap, _∙_}
 use mathlib.Core.Bool.{Bool, true, false}
-use Prim.Native.Nat.{ℕ, _-_, _*_, _/_, _≤_, _<_}
+use Prim.Native.Nat.{ℕ, _-_, _*_, _≤_, _<_}
 use native.Mathlib.Nat.{mul-comm, mul-sub}
 use native.Mathlib.Omega.{arith}
 use Rattle.numbers.specs.Choice.{both}

@@ -36,7 +36,7 @@ pub struct Locks {
     pub bl1: bool,
 }
 
-// What writes, copy, recall, lock and the save change, and the profile, which nothing changes.
+// What writes, copy, recall, lock and the save change, and the profile, which nothing changes. (The order of fields, here and below: docs/SPEED.md.)
 pub struct Cells {
     pub saved: Saved,
     pub profile: Profile,

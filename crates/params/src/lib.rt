@@ -102,7 +102,8 @@ impl Breaks {
     }
 }
 
-fn wide(x: u8) -> u32
+// A byte as a number of 32 bits. A cast of an element would ask for its bound.
+fn word(x: u8) -> u32
     ensures { λ r. ⌜ r ≡ x ⌝ }
 {
     x as u32
@@ -114,10 +115,10 @@ impl Slopes {
         ensures { λ r. ⌜ r ≡ slopesOf (now (b .entry)) (0x60 + at) ⌝ }
     {
         Slopes {
-            s4: wide(b[at]),
-            s3: wide(b[at + 1]),
-            s2: wide(b[at + 2]),
-            s1: wide(b[at + 3]),
+            s4: word(b[at]),
+            s3: word(b[at + 1]),
+            s2: word(b[at + 2]),
+            s1: word(b[at + 3]),
         }
     }
 }

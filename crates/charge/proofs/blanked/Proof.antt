@@ -1,4 +1,3 @@
-use mathlib.Core.Path.{_∙_}
 use Rattle.charge.proofs.Laws.{blanked-in-range}
 use borrow.Author.Needs.{needs}
 use Rattle.charge.proofs.blanked.Statement.{statement}
