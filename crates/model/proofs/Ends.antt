@@ -8,6 +8,13 @@ use Rattle.params.specs.declared.Breaks.{Breaks}
 use Rattle.model.specs.Model.{forty}
 use Rattle.model.specs.Product.{segmentsOf}
 
+-- each end is at most 40 degrees, so that a segment has less than 256
+pub lower-still : {a b : ℕ} → a ≤ b → b ≤ forty → a ≤ forty
+lower-still p q = omega arith
+
+pub few : {a : ℕ} (b : ℕ) → a ≤ forty → a - b < 256
+few b h = omega arith
+
 -- ---- one segment: it starts at x and ends at its breakpoint b, or at x where b is above; but it neither starts nor ends below the lowest degree
 
 module _ (b t x low : ℕ) where

@@ -24,27 +24,27 @@ struct Degrees {
 }
 
 // Where a segment that starts at top ends: at its breakpoint b, but at top if b is above it, and no lower than the lowest degree.
-fn end(lowest: u8, top: u8, b: u8) -> u8
+fn end(lowest: u64, top: u64, b: u8) -> u64
     requires { ⌜ lowest ≤ top ⌝ }
     ensures { λ r. ⌜ r ≡ movedInto lowest top b ⌝ }
     ensures inside { λ r. ⌜ (lowest ≤ r) × (r ≤ top) ⌝ }
 {
-    numbers::moved_into(lowest, top, b as u64)
+    numbers::at_least(lowest, numbers::at_most(top, b as u64))
 }
 
 // Step 2: from 40 degrees, which stand as 168, down to t each segment starts where the one before it ends.
 fn segments(b: Breaks, t: u16) -> Degrees
     ensures { λ r. ⌜ r ≡ segmentsOf b t ⌝ }
 {
-    let end1 = numbers::at_most(168, t as u64) as u8;
+    let end1 = numbers::at_most(168, t as u64);
     let end4 = end(end1, 168, b.b34);
     let end3 = end(end1, end4, b.b23);
     let end2 = end(end1, end3, b.b12);
     Degrees {
-        s4: 168 - end4,
-        s3: end4 - end3,
-        s2: end3 - end2,
-        s1: end2 - end1,
+        s4: (168 - end4) as u8,
+        s3: (end4 - end3) as u8,
+        s2: (end3 - end2) as u8,
+        s1: (end2 - end1) as u8,
     }
 }
 

@@ -9,7 +9,7 @@ use native.Mathlib.Numerals.{add-one}
 use native.Mathlib.Omega.{arith}
 use lib.Dec.{eqb, leb}
 use lib.ListN.{length, getD, take, drop, set, length-append, length-take, length-drop, length-set, drop-of-length-le}
-use lib.Seq.{sets-eq, length-sets, drop-cons, drop-length, take-all, take-nil, take-at, drop-at, drop-drop, length-take-le, getD-set-same, getD-set-other, getD-take, getD-drop}
+use lib.Seq.{sets-eq, length-sets, drop-cons, drop-length, take-add, take-all, take-nil, take-at, drop-at, drop-drop, length-take-le, getD-set-same, getD-set-other, getD-take, getD-drop}
 use borrow.Author.Tests.{eqb-true, eqb-false, leb-true, leb-false}
 use Rattle.parts.specs.Parts.{part, put, laidOf, pairAt}
 
@@ -69,6 +69,16 @@ pub put-copy : (l s : List ℕ) (at n : ℕ) → length l ≡ n → at + n ≤ l
 put-copy l s at n e h =
     let k : at + n - at ≡ n = omega arith in
     rw k (put-whole l (part n s at) (part-length n s at h ∙ sym e))
+
+-- two parts, one behind the other
+part-both : (m n : ℕ) (s : List ℕ) (at : ℕ) → part (m + n) s at ≡ part m s at ++ part n s (at + m)
+part-both m n s at = take-add m n (drop at s) ∙ ap (λ (r : List ℕ). part m s at ++ take n r) (drop-drop m at s)
+
+pub put-both : (l s : List ℕ) (at m n : ℕ) → length l ≡ m + n → at + (m + n) ≤ length s → put (put l 0 (part m s at)) m (part n s (at + m)) ≡ part (m + n) s at
+put-both l s at m n e h =
+    put-next l 0 m (part m s at) (part n s (at + m)) (omega (arith, part-length m s at (omega arith)))
+    ∙ ap (put l 0) (sym (part-both m n s at))
+    ∙ put-whole l (part (m + n) s at) (part-length (m + n) s at h ∙ sym e)
 
 -- A part that is lent, `&mut l[i..]`, and comes back
 

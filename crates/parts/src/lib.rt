@@ -61,13 +61,16 @@ pub fn eight(s: &[u8], at: usize) -> [u8; 8]
     a
 }
 
-// The sixteen bytes of s from the index at on.
+// The sixteen bytes of s from the index at on, by halves: what is stored by eights the compiler need not keep in memory.
 pub fn sixteen(s: &[u8], at: usize) -> [u8; 16]
     requires { ⌜ at + 16 ≤ length (now s) ⌝ }
     ensures { λ r. ⌜ r ≡ part 16 (now (s .entry)) at ⌝ }
 {
+    let low = eight(s, at);
+    let high = eight(s, at + 8);
     let mut a = [0u8; 16];
-    fill(s, at, &mut a);
+    store8(low, &mut a, 0);
+    store8(high, &mut a, 8);
     a
 }
 

@@ -98,7 +98,7 @@ impl Reading {
 }
 
 // Step 3: holds says that VOLT ≥ 4 × VAE, point that the empty point is found, and e is E.
-pub fn emptied(g: Charge, holds: bool, point: bool, e: u16) -> Charge
+pub fn emptied(mut g: Charge, holds: bool, point: bool, e: u16) -> Charge
     ensures { λ r. ⌜ r ≡ emptiedOf g holds point e ⌝ }
 {
     if holds {
@@ -108,7 +108,7 @@ pub fn emptied(g: Charge, holds: bool, point: bool, e: u16) -> Charge
         return g.set(e, 0 < e);
     }
     if numbers::and_not((e as u32) < g.count / 4096, g.learnf) {
-        return g.set(e, g.learnf);
+        g.count = (e as u32) * 4096;
     }
     g
 }

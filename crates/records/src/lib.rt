@@ -54,6 +54,7 @@ fn run_all(s: &[u8], room: &mut [u8], answers: &mut [u64]) -> Ran
         let r = steps::front(l, loaded, gauge.meter.flow.tick, room.len() - used);
         let end = r.used;
         let mut line = runs::code(r.kind, r.answer, 0);
+        at = at + end;
         let asked = r.event;
         match asked {
             Asked::Nothing => {}
@@ -87,7 +88,6 @@ fn run_all(s: &[u8], room: &mut [u8], answers: &mut [u64]) -> Ran
             }
         }
         answers[lines] = line;
-        at = at + end;
         lines = lines + 1;
     }
     Ran {

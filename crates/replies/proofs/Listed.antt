@@ -12,6 +12,7 @@ use lib.ListN.{length, getD, set, length-set}
 use lib.Seq.{ext-getD}
 use borrow.Author.Tests.{le-leb, lt-leb, lt-ltb, leb-true, leb-false, ltb-true, ltb-false, eqb-true, eqb-false}
 use Rattle.numbers.specs.Choice.{pick, both}
+use Rattle.numbers.proofs.Bounds.{picked}
 use Rattle.parts.specs.Parts.{put, laidOf}
 use Rattle.parts.proofs.Laws.{put-whole, laid-length, laid-reached, laid-missed}
 use Rattle.meter.specs.declared.Meter.{Meter}
@@ -21,7 +22,7 @@ use Rattle.label.specs.Label.{inLabel, inBlock, labelByte}
 use Rattle.map.specs.declared.Pair.{Pair}
 use Rattle.map.specs.Registers.{registersOf, registerOf, meterByte}
 use Rattle.map.proofs.Meaning.{registers-length}
-use Rattle.replies.specs.Reply.{readByte, netByte, halfOf, overOf, listed}
+use Rattle.replies.specs.Reply.{readByte, netByte, overOf, listed}
 
 pub listed-length : (f : ℕ → ℕ) (i n : ℕ) → length (listed f i n) ≡ n
 listed-length f i zero = refl
@@ -119,33 +120,39 @@ net-short address room e short h =
 
 -- ---- the map
 
--- a byte of the pair in which it stands
-pub half-byte : (k : Common) (m : Meter) (a i : ℕ) (p : Pair) → p ≡ registerOf k m (a - a % 2) → a % 2 + i < 2 → halfOf p (a + i) ≡ getD (registersOf k m) (a + i) 0
-half-byte k m a i p e h = by (eqb ((a + i) % 2) 0) refl
-  where
-    by : (b : Bool) → eqb ((a + i) % 2) 0 ≡ b → pick b (p .high) (p .low) ≡ getD (registersOf k m) (a + i) 0
-    by true even =
-        let at : a - a % 2 ≡ a + i = omega (arith, eqb-true ((a + i) % 2) 0 even) in
-        ap (λ (p : Pair). p .high) e ∙ ap (λ (x : ℕ). getD (registersOf k m) x 0) at
-    by false odd =
-        let at : a - a % 2 + 1 ≡ a + i = omega (arith, eqb-false ((a + i) % 2) 0 odd) in
-        ap (λ (p : Pair). p .low) e ∙ ap (λ (x : ℕ). getD (registersOf k m) x 0) at
+-- the two bytes of a register, from an even address on, and of these the one at a
+module _ (k : Common) (m : Meter) (a : ℕ) (p : Pair) (e : p ≡ registerOf k m (a - a % 2)) where
+  pub high-byte : (i : ℕ) → a % 2 + i ≡ 0 → p .high ≡ getD (registersOf k m) (a + i) 0
+  high-byte i even =
+      let at : a - a % 2 ≡ a + i = omega arith in
+      ap (λ (p : Pair). p .high) e ∙ ap (λ (x : ℕ). getD (registersOf k m) x 0) at
+
+  pub low-byte : (i : ℕ) → a % 2 + i ≡ 1 → p .low ≡ getD (registersOf k m) (a + i) 0
+  low-byte i odd =
+      let at : a - a % 2 + 1 ≡ a + i = omega arith in
+      ap (λ (p : Pair). p .low) e ∙ ap (λ (x : ℕ). getD (registersOf k m) x 0) at
+
+  pub one-byte : pick (eqb (a % 2) 0) (p .high) (p .low) ≡ getD (registersOf k m) (a + 0) 0
+  one-byte =
+      picked (λ (x : ℕ). x ≡ getD (registersOf k m) (a + 0) 0) (eqb (a % 2) 0) (p .high) (p .low)
+      (λ even. high-byte 0 (omega (arith, eqb-true (a % 2) 0 even)))
+      (λ odd. low-byte 0 (omega (arith, eqb-false (a % 2) 0 odd)))
 
 module _ (k : Common) (l : Label) (m : Meter) where
   -- below 20h stand the registers
-  low-byte : (x : ℕ) → x < 0x20 → getD (registersOf k m) x 0 ≡ readByte k l m x
+  register-byte : (x : ℕ) → x < 0x20 → getD (registersOf k m) x 0 ≡ readByte k l m x
   unfolding readByte meterByte inLabel
-  low-byte x h = rw (lt-leb 0x20 x h, lt-ltb x 0x20 h) refl
+  register-byte x h = rw (lt-leb 0x20 x h, lt-ltb x 0x20 h) refl
 
   -- a room that ends within a register shows it alone
   pub register-listed : (a n : ℕ) → a < 0x20 → a % 2 + n ≤ 2 → listed (λ i. getD (registersOf k m) (a + i) 0) 0 n ≡ listed (λ i. readByte k l m (a + i)) 0 n
-  register-listed a n h short = listed-same _ (λ i. readByte k l m (a + i)) n (λ i b. low-byte (a + i) (omega arith))
+  register-listed a n h short = listed-same _ (λ i. readByte k l m (a + i)) n (λ i b. register-byte (a + i) (omega arith))
 
   -- what is laid last is asked for first
   map-byte : (x : ℕ) (s : Bool) → ltb x 0x20 ≡ s
       → pick s (getD (registersOf k m) x 0) (pick (inLabel x) (labelByte l x) (pick (inBlock x) (getD (m .cells .block .shadow) (x - 0x60) 0) 0xff)) ≡ readByte k l m x
   unfolding readByte meterByte
-  map-byte x true e = low-byte x (ltb-true x 0x20 e)
+  map-byte x true e = register-byte x (ltb-true x 0x20 e)
   map-byte x false e = rw e refl
 
   pub read-listed : (a n : ℕ) (room₁ room₂ room₃ room₄ : List ℕ) → length (m .cells .block .shadow) ≡ 32 → length (l .shadow) ≡ 16
@@ -163,4 +170,4 @@ module _ (k : Common) (l : Label) (m : Meter) where
       → r ≡ listed (λ i. readByte k l m (a + i)) 0 (length room)
   low-listed a room h e =
       laid-listed (λ i. getD room i 0) (length room) a room 0x00 (registersOf k m) (itself room) e ∙ listed-same _ (λ i. readByte k l m (a + i)) (length room)
-      (λ i b. rw (registers-length k m, sub-zero (a + i), le-leb 0 (a + i) (omega arith), lt-ltb (a + i) 0x20 (omega arith)) (low-byte (a + i) (omega arith)))
+      (λ i b. rw (registers-length k m, sub-zero (a + i), le-leb 0 (a + i) (omega arith), lt-ltb (a + i) 0x20 (omega arith)) (register-byte (a + i) (omega arith)))

@@ -73,10 +73,6 @@ sourceByte k l m Address i = netByte (k .address) i
 sourceByte k l m (Bytes a) i = readByte k l m (a + i)
 sourceByte k l m Idle i = 0xff
 
--- of the two bytes from an even address on the one at the address a
-abbrev pub halfOf : Pair → ℕ → ℕ
-halfOf p a = pick (eqb (a % 2) 0) (p .high) (p .low)
-
 -- bytes that stand from the address base on, laid over a room that stands from the address a on
 abbrev pub overOf : ℕ → List ℕ → ℕ → List ℕ → List ℕ
 overOf base bytes a room = laidOf a (a + length room) room base bytes

@@ -13,7 +13,7 @@ ghost use Prim.Native.Nat.{_+_, _%_, _≤_, _<_};
 ghost use lib.ListN.{length, getD, drop};
 ghost use Rattle.meter.specs.State.{MeterWF};
 ghost use Rattle.map.specs.Registers.{registersOf};
-ghost use Rattle.replies.specs.Reply.{selectedOf, readSourceOf, netSourceOf, replySourceOf, readByte, netByte, halfOf, overOf, sourceByte, listed, repliedOf};
+ghost use Rattle.replies.specs.Reply.{selectedOf, readSourceOf, netSourceOf, replySourceOf, readByte, netByte, overOf, sourceByte, listed, repliedOf};
 
 // Where a reply's bytes come from: the net address, the map from an address on, or nowhere.
 pub enum Source {
@@ -144,13 +144,6 @@ fn registers_laid(k: Common, m: Meter, a: usize, room: &mut [u8])
     }
 }
 
-// Of the two bytes from an even address on the one at the address a.
-fn half(p: Pair, a: usize) -> u8
-    ensures { λ r. ⌜ r ≡ halfOf p a ⌝ }
-{
-    if a % 2 == 0 { p.high } else { p.low }
-}
-
 // A register, or a byte of one, the usual read: no other is worked out.
 fn register_reply(k: Common, m: Meter, a: usize, room: &mut [u8])
     requires { ⌜ MeterWF m ⌝ }
@@ -158,10 +151,12 @@ fn register_reply(k: Common, m: Meter, a: usize, room: &mut [u8])
     ensures { λ _. ⌜ now (room .exit) ≡ listed (λ i. getD (registersOf k m) (a + i) 0) 0 (length (now (room .entry))) ⌝ }
 {
     let p = map::register(k, m, a - a % 2);
-    if 0 < room.len() {
-        room[0] = half(p, a);
-        if 1 < room.len() {
-            room[1] = half(p, a + 1);
+    if room.len() == 2 {
+        room[0] = p.high;
+        room[1] = p.low;
+    } else {
+        if room.len() == 1 {
+            room[0] = numbers::choose8(a % 2 == 0, p.high, p.low);
         }
     }
 }

@@ -19,10 +19,9 @@ returns-3 : tie.Need-returns-3
 unfolding emptiedOf
 returns-3 c =
     let c1 = c .before in
-    let c2 = c1 .before in
-    let c4 = c2 .before .before in
-    let c5 = c4 .before in
-    simp (c5 .if1 .left, c4 .if2 .left, sym (c2 .and-not .ensures) ∙ c1 .if3 .taken) (c .set2 .ensures)
+    let c3 = c1 .before .before in
+    let c4 = c3 .before in
+    simp (c4 .if1 .left, c3 .if2 .left, sym (c1 .and-not .ensures) ∙ c .if3 .taken)
 
 returns-4 : tie.Need-returns-4
 unfolding emptiedOf
@@ -33,4 +32,4 @@ returns-4 c =
     simp (c4 .if1 .left, c3 .if2 .left, sym (c1 .and-not .ensures) ∙ c .if3 .left)
 
 pub emptied-spec : {M : Type 1} → statement M
-emptied-spec = tie.close (tie.spec returns (λ c κs. search needs) returns-2 (λ c κs. search needs) (λ c κs. search needs) returns-3 returns-4)
+emptied-spec = tie.close (tie.spec returns (λ c κs. search needs) returns-2 (λ c κs. search needs) (λ c. search needs) returns-3 returns-4)

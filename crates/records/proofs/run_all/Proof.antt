@@ -65,6 +65,9 @@ part-l-end c = omega (arith, c .before .loop .inv .going .at-fits)
 sub-front : tie.Need-sub-front Inv-loop μ-loop
 sub-front c = omega (arith, c .before .before .loop .inv .going .used-fits, c .before .before .loop .inv .going .same-room)
 
+add-at : tie.Need-add-at Inv-loop μ-loop
+add-at c = omega (arith, front-within ofSession didOf did-same SessionWF (c .before .before .before .before .loop .inv) (c .before .before .before .loop-test .taken) (at-front (c .before)) .0, c .before .before .before .before .loop .inv .going .at-fits, c .before .before .before .before .before .before .before .before .before .before .pre .0)
+
 sub-image-in : tie.Need-sub-image-in Inv-loop μ-loop
 sub-image-in c = omega (arith, ran ofSession (at-front (c .before .before .before .before .before .before .before)) (c .before .before .before .before .asked .given .1) .head)
 
@@ -126,9 +129,6 @@ mul-answers c = omega (arith, c .before .before .before .before .before .loop .i
 slice-write-answers : tie.Need-slice-write-answers Inv-loop μ-loop
 slice-write-answers c = going-slot didOf emptyOf (c .before .before .before .before .before .loop .inv .going) (c .before .before .before .before .loop-test .taken) (c .before .before .before .before .before .before .before .before .before .before .before .pre .1)
 
-add-at : tie.Need-add-at Inv-loop μ-loop
-add-at c = omega (arith, front-within ofSession didOf did-same SessionWF (c .before .before .before .before .before .loop .inv) (c .before .before .before .before .loop-test .taken) (at-front (c .before .before)) .0, c .before .before .before .before .before .loop .inv .going .at-fits, c .before .before .before .before .before .before .before .before .before .before .before .pre .0)
-
 add-lines : tie.Need-add-lines Inv-loop μ-loop
 add-lines c = omega (arith, c .before .before .before .before .before .loop .inv .going .slots (c .before .before .before .before .loop-test .taken), c .before .before .before .before .before .loop .inv .going .at-fits, c .before .before .before .before .before .before .before .before .before .before .before .pre .0)
 
@@ -163,6 +163,7 @@ run-all-spec =
     sub-front
     (λ c κs. search needs)
     (λ c κs. search needs)
+    add-at
     (λ c. search needs)
     (λ c. search needs)
     (λ c. search needs)
@@ -194,7 +195,6 @@ run-all-spec =
     (λ c κs. search needs)
     mul-answers
     slice-write-answers
-    add-at
     add-lines
     loop-less
     loop-again
