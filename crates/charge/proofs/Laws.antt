@@ -1,20 +1,20 @@
 -- What the definitions keep: a charge is well-formed after steps 1 to 5, and bounds of AF and of a share.
 use mathlib.Core.Path.{_≡_, refl, sym, ap, _∙_}
-use mathlib.Core.Bool.{Bool, true, false}
+use mathlib.Core.Bool.{Bool, true, false, not}
 use Prim.Native.Nat.{ℕ, _+_, _-_, _*_, _^_, _≤_, _<_}
 use native.Mathlib.Omega.{arith}
 use lib.Dec.{eqb, ltb, leb}
-use borrow.Author.Tests.{ltb-true, ltb-false, eqb-false, lt-ltb, le-ltb, lt-leb, le-leb}
+use borrow.Author.Tests.{ltb-true, ltb-false, eqb-false, ne-eqb, lt-ltb, le-ltb, lt-leb, le-leb}
 use Rattle.numbers.specs.Offset.{zeroAt}
 use Rattle.numbers.specs.Choice.{pick, both, either, butNot}
-use Rattle.numbers.proofs.Bounds.{times, picked}
+use Rattle.numbers.proofs.Bounds.{times, picked, both-true}
 use Rattle.numbers.proofs.Offset.{order}
 use Rattle.params.specs.declared.Counting.{Counting}
 use Rattle.profile.specs.declared.Profile.{Profile}
 use Rattle.profile.specs.Profile.{edgeOf}
 use Rattle.charge.specs.declared.Charge.{Charge}
 use Rattle.charge.specs.declared.Age.{Age}
-use Rattle.charge.specs.Charge.{ChargeWF, setOf, withAs, markedOf, blankedOf, grownOf, addedOf, fallOf, agedOf, newCount, newAge, countedOf, agedFullOf, shareOf, shareUpOf}
+use Rattle.charge.specs.Charge.{acrOf, ChargeWF, setOf, withAs, markedOf, turnedOf, learningOf, blankedOf, grownOf, addedOf, fallOf, agedOf, newCount, newAge, countedOf, agedFullOf, shareOf, shareUpOf}
 
 pub set-wf : (g : Charge) (acr : ℕ) (learnf : Bool) → acr ≤ 65535 → ChargeWF g → ChargeWF (setOf g acr learnf)
 set-wf g acr learnf h w = record { count = omega arith; age = w .age; low = w .low; high = w .high }
@@ -51,6 +51,27 @@ aged-stays ac age aging e =
     picked (λ (x : Age). x .aging ≡ aging) (eqb ac 0) _ _ (λ z. refl)
     (λ z. picked (λ (x : Age). x .aging ≡ aging) (ltb age (32 * ac)) _ _ (λ y. refl)
     (λ y. let low = le-leb (32 * ac) age (ltb-false age (32 * ac) y) in cc))
+
+-- steps 1 and 5: what is left of LEARNF where it is set, and where it is not
+but-first : (s t : Bool) → butNot (not s) t ≡ butNot (butNot true s) t
+but-first true t = refl
+but-first false t = refl
+
+but-never : (s t : Bool) → false ≡ butNot (butNot false s) t
+but-never true true = refl
+but-never true false = refl
+but-never false true = refl
+but-never false false = refl
+
+pub learning-on : (last c count : ℕ) → butNot (not (turnedOf last c)) (eqb (acrOf count) 0) ≡ learningOf true last c count
+learning-on last c count = but-first (turnedOf last c) (eqb (acrOf count) 0)
+
+pub learning-off : (last c count : ℕ) → false ≡ learningOf false last c count
+learning-off last c count = but-never (turnedOf last c) (eqb (acrOf count) 0)
+
+-- a counter below 32 × AC: AC is not 0
+pub counts-up : (ac age : ℕ) → age < 32 * ac → eqb ac 0 ≡ false
+counts-up ac age h = ne-eqb ac 0 (λ e. omega (arith, h, e))
 
 pub counted-wf : (f : Profile) (p : Counting) (g : Charge) (last c : ℕ) → p .ac ≤ 65535 → ChargeWF g → ChargeWF (countedOf f p g last c)
 unfolding countedOf
@@ -138,6 +159,34 @@ edge-near : (f : Profile) → edgeOf f ≤ 17
 edge-near Profile.Ds2781 = omega arith
 edge-near Profile.Ds2775 = omega arith
 
-pub blanked-in-range : (f : Profile) (nben : Bool) (c : ℕ) →
-    pick (both (leb (pick nben (zeroAt 15 + 1 - edgeOf f) (zeroAt 15)) c) (ltb c (zeroAt 15 + 64))) (zeroAt 15) c ≡ blankedOf f nben c
-blanked-in-range f nben c = in-range (edgeOf f) c (edge-near f) nben
+always : (t : Bool) → both t true ≡ t
+always true = refl
+always false = refl
+
+module _ (f : Profile) (nben : Bool) (c : ℕ) where
+  abbrev lowest : ℕ
+  lowest = pick nben (zeroAt 15 + 1 - edgeOf f) (zeroAt 15)
+
+  abbrev slight : Bool
+  slight = both (leb (zeroAt 15 - 16) c) (ltb c (zeroAt 15 + 64))
+
+  blanked-in-range : pick (both (leb lowest c) (ltb c (zeroAt 15 + 64))) (zeroAt 15) c ≡ blankedOf f nben c
+  blanked-in-range = in-range (edgeOf f) c (edge-near f) nben
+
+  pub blanked-slight : slight ≡ true → pick (leb lowest c) (zeroAt 15) c ≡ blankedOf f nben c
+  blanked-slight e =
+      let whole = ap (both (leb lowest c)) (both-true (leb (zeroAt 15 - 16) c) (ltb c (zeroAt 15 + 64)) e .1) ∙ always (leb lowest c) in
+      ap (λ (t : Bool). pick t (zeroAt 15) c) (sym whole) ∙ blanked-in-range
+
+  unblanked : both (leb lowest c) (ltb c (zeroAt 15 + 64)) ≡ false → c ≡ blankedOf f nben c
+  unblanked e = sym (ap (λ (t : Bool). pick t (zeroAt 15) c) e) ∙ blanked-in-range
+
+  pub blanked-strong : slight ≡ false → c ≡ blankedOf f nben c
+  blanked-strong e =
+      order c (zeroAt 15 - 16) _
+      (λ h.
+      let under : c < lowest = picked (λ (x : ℕ). c < x) nben _ _ (λ d. omega (arith, edge-near f)) (λ d. omega arith) in
+      unblanked (ap (λ (t : Bool). both t (ltb c (zeroAt 15 + 64))) (lt-leb lowest c under)))
+      (λ h.
+      let past : ltb c (zeroAt 15 + 64) ≡ false = sym (ap (λ (t : Bool). both t (ltb c (zeroAt 15 + 64))) (le-leb (zeroAt 15 - 16) c h)) ∙ e in
+      unblanked (ap (both (leb lowest c)) past ∙ not-both (leb lowest c)))

@@ -94,13 +94,17 @@ newCount f p g c = addedOf (g .mark) (g .count) (blankedOf f (p .nben) c) (p .ab
 abbrev pub newAge : Profile → Counting → Charge → ℕ → Age
 newAge f p g c = agedOf (p .ac) (g .age + fallOf (g .count) (newCount f p g c)) (g .aging)
 
--- step 5: ACR = 0 clears LEARNF. Any conversion uses up the mark
+-- LEARNF clears where c turns negative, and by step 5 at ACR = 0
+abbrev pub learningOf : Bool → ℕ → ℕ → ℕ → Bool
+learningOf learnf last c count = butNot (butNot learnf (turnedOf last c)) (eqb (acrOf count) 0)
+
+-- any conversion uses up the mark
 unfoldable pub countedOf : Profile → Counting → Charge → ℕ → ℕ → Charge
 countedOf f p g last c = record {
   count = newCount f p g c;
   age = newAge f p g c .age;
   aging = newAge f p g c .aging;
-  learnf = butNot (butNot (g .learnf) (turnedOf last c)) (eqb (acrOf (newCount f p g c)) 0);
+  learnf = learningOf (g .learnf) last c (newCount f p g c);
   mark = false;
 }
 

@@ -3,7 +3,7 @@ use params::Counting;
 use profile::Profile;
 ghost use mathlib.Core.Path.{_≡_};
 ghost use Prim.Native.Nat.{_*_, _≤_};
-ghost use Rattle.charge.specs.Charge.{ChargeWF, currentOf, tracedOf, blankedOf, grownOf, addedOf, fallOf, agedOf, countedOf, setOf, agedFullOf, shareOf, shareUpOf};
+ghost use Rattle.charge.specs.Charge.{ChargeWF, currentOf, tracedOf, blankedOf, grownOf, addedOf, fallOf, agedOf, learningOf, countedOf, setOf, agedFullOf, shareOf, shareUpOf};
 
 // ACR × 4,096 + fraction, AS, LEARNF, the mark after an ACR write and the age counter. (Side by side, count and age would be passed as one
 // number of eight bytes.)
@@ -38,13 +38,18 @@ pub fn current(raw: u32, cob: u8) -> u16
     numbers::at_most(65535, numbers::less(sum, offset)) as u16
 }
 
-// Step 2: what counts as 0 is one range, from the slightest current below 0, or from 0 itself without NBEN, up to 63.
+// Step 2: what counts as 0 is one range, from the slightest current below 0, or from 0 itself without NBEN, up to 63. Of a current that is
+// outside of the widest such range nothing more is asked.
 pub fn blanked(f: Profile, nben: bool, c: u16) -> u16
     ensures { λ r. ⌜ r ≡ blankedOf f nben c ⌝ }
 {
     let zero = numbers::ZERO15;
-    let lowest = numbers::choose16(nben, zero + 1 - profile::edge(f), zero);
-    numbers::choose16(numbers::and(lowest <= c, c < zero + 64), zero, c)
+    let mut counted = c;
+    if numbers::and(zero - 16 <= c, c < zero + 64) {
+        let lowest = numbers::choose16(nben, zero + 1 - profile::edge(f), zero);
+        counted = numbers::choose16(lowest <= c, zero, c);
+    }
+    counted
 }
 
 // Step 3.
@@ -75,23 +80,32 @@ pub fn fall(old: u32, new: u32) -> u32
 fn aged(ac: u16, age: u32, aging: u8) -> Age
     ensures { λ r. ⌜ r ≡ agedOf ac age aging ⌝ }
 {
-    if ac == 0 {
-        return Age {
-            age: 0,
-            aging: aging,
-        };
-    }
     let limit = 32 * (ac as u32);
-    if age < limit {
-        return Age {
-            age: age,
-            aging: aging,
-        };
+    let mut a = Age {
+        age: age,
+        aging: aging,
+    };
+    if limit <= age {
+        a.age = age - limit;
+        if ac == 0 {
+            a.age = 0;
+        } else {
+            a.aging = numbers::at_least(63, numbers::less(aging as u64, 1)) as u8;
+        }
     }
-    Age {
-        age: age - limit,
-        aging: numbers::at_least(63, numbers::less(aging as u64, 1)) as u8,
+    a
+}
+
+// Steps 1 and 5: what is left of LEARNF. Where it is not set nothing is asked.
+fn learning(mut learnf: bool, last: u16, c: u16, count: u32) -> bool
+    ensures { λ r. ⌜ r ≡ learningOf learnf last c count ⌝ }
+{
+    if learnf {
+        let was = last < numbers::ZERO15;
+        let turned = numbers::and(c < numbers::ZERO15, !was);
+        learnf = numbers::and_not(!turned, count / 4096 == 0);
     }
+    learnf
 }
 
 impl Trace {
@@ -116,14 +130,11 @@ impl Charge {
     {
         let count = added(self.mark, self.count, blanked(f, p.nben, c), p.ab);
         let a = aged(p.ac, self.age + fall(self.count, count), self.aging);
-        let was = last < numbers::ZERO15;
-        let turned = numbers::and(c < numbers::ZERO15, !was);
-        let learnf = numbers::and_not(self.learnf, turned);
         Charge {
             count: count,
             age: a.age,
             aging: a.aging,
-            learnf: numbers::and_not(learnf, count / 4096 == 0),
+            learnf: learning(self.learnf, last, c, count),
             mark: false,
         }
     }

@@ -2,9 +2,9 @@
 use mathlib.Core.Path.{_≡_, refl, sym, ap, subst, _∙_}
 use mathlib.Core.Bool.{Bool, true, false, not}
 use mathlib.Core.List.{List}
-use Prim.Native.Nat.{ℕ, _+_, _-_, _≤_, zero-le}
+use Prim.Native.Nat.{ℕ, _+_, _-_, _≤_, _<_, zero-le}
 use native.Mathlib.Omega.{arith}
-use borrow.Author.Tests.{le-ltb, leb-true, eqb-true, not-true}
+use borrow.Author.Tests.{le-ltb, leb-true, eqb-true, ne-eqb, not-true}
 use lib.Dec.{leb, eqb, ltb}
 use lib.ListN.{length, drop}
 use Rattle.numbers.proofs.Bounds.{picked, both-true}
@@ -301,3 +301,10 @@ judged-alone f true p e = absurd (rw e at (never p))
         picked Never (eqb (length p) (imageSizeOf f)) _ _
         (λ a. picked Never (addressedOf f (imageAddress p)) _ _ (λ b. picked Never (lockableOf p) _ _ (λ c. tt) (λ c. tt)) (λ b. tt))
         (λ a. tt)
+
+-- 3, of every kind above the last one
+pub unknown-above : (n : ℕ) (loaded : Bool) (p : List ℕ) → 8 < n → takenOf n loaded p ≡ Refused refusal.Kind
+unfolding takenOf kindOf
+unknown-above n loaded p h =
+    let other : (k : ℕ) → k < n → eqb n k ≡ false = λ k l. ne-eqb n k (λ e. omega (arith, l, e)) in
+    simp (other 1 (omega arith), other 2 (omega arith), other 3 (omega arith), other 4 (omega arith), other 5 (omega arith), other 6 (omega arith), other 7 (omega arith), other 8 h)

@@ -99,6 +99,9 @@ pub fn number(t: Taken) -> u8
     }
 }
 
+// No kind of a plain session is above it.
+pub const LAST_KIND: u16 = 8;
+
 fn kind_of(n: u16) -> Kind
     ensures { λ r. ⌜ r ≡ kindOf n ⌝ }
 {

@@ -2,11 +2,15 @@
 use mathlib.Core.Path.{sym, _∙_}
 use Rattle.once.specs.Once.{Once}
 use Rattle.line.proofs.put_fields
+use Rattle.line.proofs.put_done
 use Rattle.line.proofs.put_bare_end
 use Rattle.line.proofs.put_end
 
 pub put-fields-once : Once put_fields.ended put_fields.Reads.Pre put_fields.Reads.Learnt
 put-fields-once κs a r r′ w w′ p h h′ = (h .onward ∙ sym (h′ .onward), λ i. (tt, (tt, (tt, ((h .written ∙ sym (h′ .written)) i, (tt, tt))))))
+
+pub put-done-once : Once put_done.ended put_done.Reads.Pre put_done.Reads.Learnt
+put-done-once κs a r r′ w w′ p h h′ = (h .onward ∙ sym (h′ .onward), λ i. (tt, (tt, ((h .written ∙ sym (h′ .written)) i, (tt, tt)))))
 
 pub put-bare-end-once : Once put_bare_end.ended put_bare_end.Reads.Pre put_bare_end.Reads.Learnt
 put-bare-end-once κs a r r′ w w′ p h h′ = (h .onward ∙ sym (h′ .onward), λ i. ((h .written ∙ sym (h′ .written)) i, (tt, tt)))

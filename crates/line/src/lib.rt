@@ -34,6 +34,17 @@ pub fn put_fields(table: &[u8; 512], kind: usize, answer: usize, out: &mut [u8],
     digits::put_byte(b' ', out, d)
 }
 
+// The same of a record that is done, and of a kind of one byte.
+pub fn put_done(table: &[u8; 512], kind: u8, out: &mut [u8], at: usize) -> usize
+    requires { ⌜ now table ≡ pairsOf lower ⌝ }
+    requires { ⌜ at + 8 ≤ length (now out) ⌝ }
+    ensures { λ r. ⌜ Writing 8 (fieldsText kind 0) (now (out .entry)) at r (now (out .exit)) ⌝ }
+{
+    let a = digits::put_bytes(b" 00", out, at);
+    let b = digits::put_entry(table, kind, out, a);
+    digits::put_bytes(b" 0 ", out, b)
+}
+
 // The end of a line without a reply.
 pub fn put_bare_end(out: &mut [u8], at: usize) -> usize
     requires { ⌜ at + 2 ≤ length (now out) ⌝ }

@@ -1,9 +1,9 @@
 -- What the definitions keep: a meter is well-formed after each event.
-use mathlib.Core.Path.{_≡_, refl}
-use mathlib.Core.Bool.{true, false}
+use mathlib.Core.Path.{_≡_, refl, sym, ap, _∙_}
+use mathlib.Core.Bool.{Bool, true, false}
 use Prim.Native.Nat.{ℕ, _+_, _≤_}
 use native.Mathlib.Omega.{arith}
-use Rattle.numbers.proofs.Bounds.{both-true}
+use Rattle.numbers.specs.Choice.{pick, both}
 use Rattle.params.specs.declared.Limits.{Limits}
 use Rattle.charge.specs.declared.Charge.{Charge}
 use Rattle.charge.specs.Charge.{ChargeWF, fallOf}
@@ -11,7 +11,7 @@ use Rattle.charge.proofs.Laws.{share-high}
 use Rattle.profile.specs.Profile.{countsCycles}
 use Rattle.cycles.specs.declared.Cycles.{Cycles}
 use Rattle.cycles.specs.Cycles.{advancedOf, cycledOf}
-use Rattle.full.specs.Full.{eighth}
+use Rattle.full.specs.Full.{eighth, foundOf}
 use Rattle.full.proofs.Laws.{settled-wf, averaged-wf}
 use Rattle.reading.specs.declared.Results.{Results}
 use Rattle.reading.specs.declared.Seen.{Seen}
@@ -26,6 +26,12 @@ use Rattle.meter.specs.Read.{drainedOf, shownOf}
 pub charged-wf : (m : Meter) (g : Charge) (y : Cycles) → ChargeWF g → MeterWF m → MeterWF (withCycles (withCharge m g) y)
 charged-wf m g y h w = record { charge = h; average = w .average; full = w .full; volt = w .volt; temp = w .temp }
 
+-- a test that holds and does not
+pub unlike : {m n : ℕ} {t : Bool} → t ≡ true → t ≡ false → m ≤ n
+unlike h k =
+    let z : _≡_ {A = ℕ} 0 1 = ap (λ (t : Bool). pick t 0 1) (sym h ∙ k) in
+    omega (arith, z)
+
 -- ---- conversion
 
 -- the cycle counter advances where the profile has one, and stays where it has none
@@ -38,11 +44,12 @@ pub charged-stays : (m : Meter) (full40 : ℕ) (g : Charge) → countsCycles (m 
 unfolding cycledOf
 charged-stays m full40 g e = rw e refl
 
-pub flowed-wf : (m : Meter) (p : Limits) (full40 c : ℕ) → (eighth (m .flow .average) ≡ true → full40 ≤ 65535) → c ≤ 65535 → MeterWF m →
+pub flowed-wf : (m : Meter) (p : Limits) (full40 c : ℕ)
+    → (both (eighth (m .flow .average)) (foundOf (m .flow .average) (m .flow .since) p c) ≡ true → full40 ≤ 65535) → c ≤ 65535 → MeterWF m →
     MeterWF (flowedOf m p full40 c)
 unfolding flowedOf
 flowed-wf m p full40 c q h w = record {
-  charge = settled-wf (m .charge) (m .shown .model .full) full40 (w .charge) _ (w .full) (λ e. q (both-true _ _ e .0));
+  charge = settled-wf (m .charge) (m .shown .model .full) full40 (w .charge) _ (w .full) q;
   average = averaged-wf (m .flow .average) c h (w .average);
   full = w .full;
   volt = w .volt;

@@ -92,11 +92,11 @@ impl Meter {
         flow.trace = flow.trace.traced(c);
         if flow.average.made % 8 == 7 {
             let p = Limits::of(&self.cells.block.shadow);
-            let full = Capacity::of(&self.cells.block.shadow);
-            let found = flow.average.found(flow.since, p, c);
-            self.charge = full::settled(self.charge, found, self.shown.model.full, full.full40);
-            let chgtf = numbers::or(found, self.shown.flags.chgtf);
-            self.shown.flags.chgtf = chgtf;
+            if flow.average.found(flow.since, p, c) {
+                let full = Capacity::of(&self.cells.block.shadow);
+                self.charge = full::settled(self.charge, true, self.shown.model.full, full.full40);
+                self.shown.flags.chgtf = true;
+            }
             flow.since.any = false;
             flow.since.lowest = 0;
         }

@@ -49,7 +49,7 @@ fn run_all(s: &[u8], room: &mut [u8], answers: &mut [u64]) -> Ran
     let mut at = 0;
     let mut used = 0;
     let mut lines = 0;
-    while at < s.len() {
+    while runs::whole(&s[at..]) {
         let l = &s[at..];
         let r = steps::front(l, loaded, gauge.meter.flow.tick, room.len() - used);
         let end = r.used;
@@ -88,6 +88,10 @@ fn run_all(s: &[u8], room: &mut [u8], answers: &mut [u64]) -> Ran
             }
         }
         answers[lines] = line;
+        lines = lines + 1;
+    }
+    if at < s.len() {
+        answers[lines] = runs::code(0, 2, 0);
         lines = lines + 1;
     }
     Ran {

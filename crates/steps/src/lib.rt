@@ -1,5 +1,6 @@
 // One record of a session, read: its kind, its answer, how many bytes it takes, and the event that it asks.
 use events::Event;
+use events::Refusal;
 use events::Taken;
 use gauge::Gauge;
 use ticks::Tick;
@@ -55,7 +56,8 @@ pub fn read_off(kind: u16, used: usize, t: Taken) -> Record
     }
 }
 
-// The record at the front of l, with a tick that is remembered and so many bytes of reply room left.
+// The record at the front of l, with a tick that is remembered and so many bytes of reply room left. Of a kind that is above all others nothing
+// more is asked.
 pub fn front(l: &[u8], loaded: bool, last: Tick, room: usize) -> Record
     ensures { λ r. ⌜ r ≡ frontBy (toldOf loaded last) room (now (l .entry)) ⌝ }
 {
@@ -63,6 +65,10 @@ pub fn front(l: &[u8], loaded: bool, last: Tick, room: usize) -> Record
         let n = parts::pair(l, 0) as usize;
         let kind = parts::pair(l, 2);
         let end = 4 + n;
+        if events::LAST_KIND < kind {
+            let answer = events::number(Taken::Refused(Refusal::Kind));
+            return refused(kind, answer, end);
+        }
         let t = events::fitted(kind, loaded, last, room, &l[4..end]);
         return read_off(kind, end, t);
     }

@@ -99,5 +99,14 @@ module _ {codes replies before : List ℕ} {at : ℕ} {room : List ℕ} {next us
       let answer : getD codes i 0 / 65536 ≡ codeAnswer (getD codes i 0) = omega arith in
       rw (add-zero used) at (more {count = 0} h (omega arith) w₁ (rw answer at w₂) (wider w₃ (omega arith)))
 
+  pub more-done : {mid low after : List ℕ} {start fields last : ℕ} → i < length codes → getD codes i 0 < 256
+      → Writing 5 (decimalText (i + 1)) room next start mid
+      → Writing 8 (fieldsText (getD codes i 0) 0) mid start fields low
+      → Writing 2 (endText []) low fields last after → Going codes replies before at after last used (i + 1)
+  more-done h below w₁ w₂ w₃ =
+      let kind : codeKind (getD codes i 0) ≡ getD codes i 0 = omega (arith, below) in
+      let answer : getD codes i 0 / 65536 ≡ 0 = omega (arith, below) in
+      more-bare h (omega (arith, below)) w₁ (rw (kind, answer) (wider w₂ (omega arith))) w₃
+
   pub ended : length codes ≤ i → Writing (17 * length codes + 2 * length replies) (codesText 1 codes replies) before at next room
   ended h = wider (g .whole 0 next room (rw (drop-of-length-le codes h) (none room next))) (omega (arith, g .within, g .served))

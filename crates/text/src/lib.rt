@@ -7,7 +7,7 @@ ghost use Rattle.digits.specs.Digits.{Writing};
 ghost use Rattle.text.specs.Text.{codesText, headerText, overText, codedText, mostOf, fitsOf, Held, reportOf, Reporting};
 
 // A line's code has its kind, its answer and the length of its reply, which is the next part of the replies. Most codes are below 655360 = 10 * 65536,
-// and have an answer of one digit and no reply: of these nothing more is asked.
+// and have an answer of one digit and no reply; and most of these below 256, which is the kind of a record that is done.
 fn put_codes(codes: &[u64], replies: &[u8], out: &mut [u8], at: usize) -> usize
     requires { ⌜ length (now codes) ≤ 99999 ⌝ }
     requires { ⌜ at + (17 * length (now codes) + 2 * length (now replies)) ≤ length (now out) ⌝ }
@@ -20,14 +20,20 @@ fn put_codes(codes: &[u64], replies: &[u8], out: &mut [u8], at: usize) -> usize
     let mut i = 0;
     while i < codes.len() {
         let code = codes[i];
-        let kind = (code % 65536) as usize;
         i += 1;
         let start = digits::put_places(&five, i, out, next);
         digits::count_up(i, &mut five);
         if code < 655360 {
-            let end = line::put_fields(&table, kind, (code / 65536) as usize, out, start);
-            next = line::put_bare_end(out, end);
+            if code < 256 {
+                let end = line::put_done(&table, code as u8, out, start);
+                next = line::put_bare_end(out, end);
+            } else {
+                let kind = (code % 65536) as usize;
+                let end = line::put_fields(&table, kind, (code / 65536) as usize, out, start);
+                next = line::put_bare_end(out, end);
+            }
         } else {
+            let kind = (code % 65536) as usize;
             let rest = &replies[used..];
             let count = numbers::at_most(rest.len() as u64, code / 16777216) as usize;
             let end = line::put_fields(&table, kind, (code / 65536 % 256) as usize, out, start);

@@ -1,9 +1,9 @@
 -- Each turn of the loop takes one record, and what is still to come is the rest of the whole.
-use mathlib.Core.Path.{refl, ap, _∙_}
+use mathlib.Core.Path.{refl, sym, ap, _∙_}
 use mathlib.Core.Logic.{⊎-elim}
-use Prim.Native.Nat.{_-_}
+use Prim.Native.Nat.{_-_, _<_}
 use native.Mathlib.Omega.{arith}
-use lib.ListN.{length}
+use lib.ListN.{length, length-set}
 use denote.Ref.{now}
 use Rattle.parts.specs.Parts.{part}
 use Rattle.parts.proofs.Laws.{part-rest}
@@ -16,9 +16,7 @@ use Rattle.steps.proofs.Steps.{session-replying}
 use Rattle.steps.proofs.Fronts.{Front, front, ran}
 use Rattle.steps.proofs.Turns.{master-starts, room-left, front-fits, front-within}
 use Rattle.records.specs.Run.{emptyOf}
-use Rattle.records.proofs.Turns.{did-same, Turn, Stands, ran-taking, turn-idle, turn-silent, turn-reply}
--- what was read of the record at the front
--- what the arms of the match have in common
+use Rattle.records.proofs.Turns.{did-same, Turn, Stands, ran-taking, turn-idle, turn-silent, turn-reply, whole-more, ended-cut}
 use borrow.Author.Needs.{needs}
 use Rattle.records.proofs.run_all.Statement.{statement}
 use Rattle.records.proofs.run_all.Tie as tie
@@ -30,16 +28,22 @@ Inv-loop s room₀ answers₀ loaded₀ gauge₀ at₀ used₀ lines₀ room ans
 abbrev μ-loop : tie.MeasureT-loop
 μ-loop s room₀ answers₀ loaded₀ gauge₀ at₀ used₀ lines₀ room answers loaded gauge at used lines = length s - at
 
+-- some bytes are left where the loop goes on
+more : (c : tie.Then1 Inv-loop μ-loop) → c .before .before .before .loop .at < length (now (c .before .before .before .before .before .before .before .before .before .args .s))
+more c =
+    let l = c .before .before .before in
+    whole-more (now (l .before .before .before .before .before .before .args .s)) (l .loop .at) (sym (c .before .whole .ensures) ∙ c .if1 .taken)
+
 -- what was read of the record at the front
-at-front : (c : tie.After-front Inv-loop μ-loop) → let l = c .before .before .before .loop in let s = now (c .before .before .before .before .before .before .before .before .before .args .s) in
+at-front : (c : tie.After-front Inv-loop μ-loop) → let l = c .before .before .before .before .before .loop in let s = now (c .before .before .before .before .before .before .before .before .before .before .before .args .s) in
     Front ofSession (record { loaded = l .loaded; gauge = l .gauge }) (length (l .room) - l .used) (part (length s - l .at) s (l .at)) (c .front .result)
 at-front c = front ofSession session-replying _ _ _ (c .front .ensures)
 
 -- what the arms of the match have in common
-turned : (c : tie.At-match-came Inv-loop μ-loop) → let l = c .before .before .before .before .before .loop in let s = now (c .before .before .before .before .before .before .before .before .before .before .before .args .s) in
+turned : (c : tie.At-match-came Inv-loop μ-loop) → let l = c .before .before .before .before .before .before .before .loop in let s = now (c .before .before .before .before .before .before .before .before .before .before .before .before .before .args .s) in
     Turn (record { loaded = l .loaded; gauge = l .gauge }) (l .room) (l .used) (part (length s - l .at) s (l .at)) (c .match .loaded) (c .match .gauge) (c .match .room) (c .match .used) (c .match .line)
 turned c =
-    let g = c .before .before .before .before .before .loop .inv in
+    let g = c .before .before .before .before .before .before .before .loop .inv in
     let f = at-front (c .before .before) in
     let n = c .before .code .ensures in
     ⊎-elim (λ w. turn-idle f (w .1 .given .1) (g .wf .gauge) (w .3) (w .4) (w .2) (w .5) (w .6 ∙ n))
@@ -54,19 +58,19 @@ loop-holds : tie.Need-loop-holds Inv-loop μ-loop
 loop-holds c = rw (c .before .empty .ensures .0) (record { going = going-start didOf emptyOf _ _ _; wf = rw (c .before .empty .ensures .0) at (c .before .empty .ensures .1) })
 
 sub-l : tie.Need-sub-l Inv-loop μ-loop
-sub-l c = omega (arith, c .before .loop .inv .going .at-fits)
+sub-l c = omega (arith, c .before .before .before .loop .inv .going .at-fits)
 
 part-l-start : tie.Need-part-l-start Inv-loop μ-loop
-part-l-start c = omega (arith, c .before .loop .inv .going .at-fits)
+part-l-start c = omega (arith, c .before .before .before .loop .inv .going .at-fits)
 
 part-l-end : tie.Need-part-l-end Inv-loop μ-loop
-part-l-end c = omega (arith, c .before .loop .inv .going .at-fits)
+part-l-end c = omega (arith, c .before .before .before .loop .inv .going .at-fits)
 
 sub-front : tie.Need-sub-front Inv-loop μ-loop
-sub-front c = omega (arith, c .before .before .loop .inv .going .used-fits, c .before .before .loop .inv .going .same-room)
+sub-front c = omega (arith, c .before .before .before .before .loop .inv .going .used-fits, c .before .before .before .before .loop .inv .going .same-room)
 
 add-at : tie.Need-add-at Inv-loop μ-loop
-add-at c = omega (arith, front-within ofSession didOf did-same SessionWF (c .before .before .before .before .loop .inv) (c .before .before .before .loop-test .taken) (at-front (c .before)) .0, c .before .before .before .before .loop .inv .going .at-fits, c .before .before .before .before .before .before .before .before .before .before .pre .0)
+add-at c = omega (arith, front-within ofSession didOf did-same SessionWF (c .before .before .before .before .before .before .loop .inv) (more (c .before .before .before)) (at-front (c .before)) .0, c .before .before .before .before .before .before .loop .inv .going .at-fits, c .before .before .before .before .before .before .before .before .before .before .before .before .pre .0)
 
 sub-image-in : tie.Need-sub-image-in Inv-loop μ-loop
 sub-image-in c = omega (arith, ran ofSession (at-front (c .before .before .before .before .before .before .before)) (c .before .before .before .before .asked .given .1) .head)
@@ -75,19 +79,19 @@ part-image-in-start : tie.Need-part-image-in-start Inv-loop μ-loop
 part-image-in-start c = omega (arith, ran ofSession (at-front (c .before .before .before .before .before .before .before)) (c .before .before .before .before .asked .given .1) .head)
 
 part-image-in-end : tie.Need-part-image-in-end Inv-loop μ-loop
-part-image-in-end c = omega (arith, front-fits ofSession didOf did-same SessionWF (c .before .before .before .before .before .before .before .before .before .before .loop .inv) (c .before .before .before .before .before .before .before .before .before .loop-test .taken) (at-front (c .before .before .before .before .before .before .before)))
+part-image-in-end c = omega (arith, front-fits ofSession didOf did-same SessionWF (c .before .before .before .before .before .before .before .before .before .before .before .before .loop .inv) (more (c .before .before .before .before .before .before .before .before .before)) (at-front (c .before .before .before .before .before .before .before)))
 
 image-in-requires : tie.Need-image-in-requires Inv-loop μ-loop
 image-in-requires c κs = ran-taking (ran ofSession (at-front (c .before .before .before .before .before .before .before .before)) (c .before .before .before .before .before .asked .given .1 ∙ ap Run (c .before .before .e .given .1))) .2
 
 read-requires : tie.Need-read-requires Inv-loop μ-loop
-read-requires c κs = c .before .before .before .before .before .before .before .before .before .before .before .before .before .loop .inv .wf .gauge
+read-requires c κs = c .before .before .before .before .before .before .before .before .before .before .before .before .before .before .before .loop .inv .wf .gauge
 
 convert-requires : tie.Need-convert-requires Inv-loop μ-loop
-convert-requires c κs = c .before .before .before .before .before .before .before .before .before .before .before .before .before .loop .inv .wf .gauge
+convert-requires c κs = c .before .before .before .before .before .before .before .before .before .before .before .before .before .before .before .loop .inv .wf .gauge
 
 sample-requires : tie.Need-sample-requires Inv-loop μ-loop
-sample-requires c κs = c .before .before .before .before .before .before .before .before .before .before .before .before .before .loop .inv .wf .gauge
+sample-requires c κs = c .before .before .before .before .before .before .before .before .before .before .before .before .before .before .before .loop .inv .wf .gauge
 
 add-from : tie.Need-add-from Inv-loop μ-loop
 add-from c = omega (arith, ran-taking (ran ofSession (at-front (c .before .before .before .before .before .before .before .before)) (c .before .before .before .before .before .asked .given .1 ∙ ap Run (c .before .before .e3 .given .1))) .1 .near)
@@ -103,51 +107,81 @@ part-transact-start c =
     omega (arith, master-starts ofSession x (ran-taking x .1))
 
 part-transact-end : tie.Need-part-transact-end Inv-loop μ-loop
-part-transact-end c = omega (arith, front-fits ofSession didOf did-same SessionWF (c .before .before .before .before .before .before .before .before .before .before .before .loop .inv) (c .before .before .before .before .before .before .before .before .before .before .loop-test .taken) (at-front (c .before .before .before .before .before .before .before .before)))
+part-transact-end c = omega (arith, front-fits ofSession didOf did-same SessionWF (c .before .before .before .before .before .before .before .before .before .before .before .before .before .loop .inv) (more (c .before .before .before .before .before .before .before .before .before .before)) (at-front (c .before .before .before .before .before .before .before .before)))
 
 sub-transact-2 : tie.Need-sub-transact-2 Inv-loop μ-loop
-sub-transact-2 c = omega (arith, c .before .before .before .before .before .before .before .before .before .before .before .before .loop .inv .going .used-fits, c .before .before .before .before .before .before .before .before .before .before .before .before .loop .inv .going .same-room)
+sub-transact-2 c = omega (arith, c .before .before .before .before .before .before .before .before .before .before .before .before .before .before .loop .inv .going .used-fits, c .before .before .before .before .before .before .before .before .before .before .before .before .before .before .loop .inv .going .same-room)
 
 part-transact-start-2 : tie.Need-part-transact-start-2 Inv-loop μ-loop
-part-transact-start-2 c = omega (arith, c .before .before .before .before .before .before .before .before .before .before .before .before .loop .inv .going .used-fits, c .before .before .before .before .before .before .before .before .before .before .before .before .loop .inv .going .same-room)
+part-transact-start-2 c = omega (arith, c .before .before .before .before .before .before .before .before .before .before .before .before .before .before .loop .inv .going .used-fits, c .before .before .before .before .before .before .before .before .before .before .before .before .before .before .loop .inv .going .same-room)
 
 part-transact-end-2 : tie.Need-part-transact-end-2 Inv-loop μ-loop
-part-transact-end-2 c = omega (arith, c .before .before .before .before .before .before .before .before .before .before .before .before .loop .inv .going .used-fits, c .before .before .before .before .before .before .before .before .before .before .before .before .loop .inv .going .same-room)
+part-transact-end-2 c = omega (arith, c .before .before .before .before .before .before .before .before .before .before .before .before .before .before .loop .inv .going .used-fits, c .before .before .before .before .before .before .before .before .before .before .before .before .before .before .loop .inv .going .same-room)
 
 transact-requires : tie.Need-transact-requires Inv-loop μ-loop
 transact-requires c κs =
-    let l = c .before .before .before .before .before .before .before .before .before .before .before .before .before .loop in
+    let l = c .before .before .before .before .before .before .before .before .before .before .before .before .before .before .before .loop in
     let x = ran ofSession (at-front (c .before .before .before .before .before .before .before .before .before .before)) (c .before .before .before .before .before .before .before .asked .given .1 ∙ ap Run (c .before .before .before .before .e3 .given .1)) in
     (l .inv .wf .gauge, omega (arith, x .held, room-left (l .room) (l .used)))
 
 add-used : tie.Need-add-used Inv-loop μ-loop
-add-used c = omega (arith, ran ofSession (at-front (c .before .before .before .before .before .before .before .before .before .before .before .before .before .before)) (c .before .before .before .before .before .before .before .before .before .before .before .asked .given .1 ∙ ap Run (c .before .before .before .before .before .before .before .before .e3 .given .1)) .held, c .before .before .before .before .before .before .before .before .before .before .before .before .before .before .before .before .before .loop .inv .going .used-fits, c .before .before .before .before .before .before .before .before .before .before .before .before .before .before .before .before .before .loop .inv .going .same-room, c .before .before .before .before .before .before .before .before .before .before .before .before .before .before .before .before .before .before .before .before .before .before .before .good .1 .0)
+add-used c = omega (arith, ran ofSession (at-front (c .before .before .before .before .before .before .before .before .before .before .before .before .before .before)) (c .before .before .before .before .before .before .before .before .before .before .before .asked .given .1 ∙ ap Run (c .before .before .before .before .before .before .before .before .e3 .given .1)) .held, c .before .before .before .before .before .before .before .before .before .before .before .before .before .before .before .before .before .before .before .loop .inv .going .used-fits, c .before .before .before .before .before .before .before .before .before .before .before .before .before .before .before .before .before .before .before .loop .inv .going .same-room, c .before .before .before .before .before .before .before .before .before .before .before .before .before .before .before .before .before .before .before .before .before .before .before .before .before .good .1 .0)
 
 mul-answers : tie.Need-mul-answers Inv-loop μ-loop
-mul-answers c = omega (arith, c .before .before .before .before .before .loop .inv .going .slots (c .before .before .before .before .loop-test .taken), c .before .before .before .before .before .loop .inv .going .at-fits, c .before .before .before .before .before .before .before .before .before .before .before .pre .0)
+mul-answers c = omega (arith, c .before .before .before .before .before .before .before .loop .inv .going .slots (more (c .before .before .before .before)), c .before .before .before .before .before .before .before .loop .inv .going .at-fits, c .before .before .before .before .before .before .before .before .before .before .before .before .before .pre .0)
 
 slice-write-answers : tie.Need-slice-write-answers Inv-loop μ-loop
-slice-write-answers c = going-slot didOf emptyOf (c .before .before .before .before .before .loop .inv .going) (c .before .before .before .before .loop-test .taken) (c .before .before .before .before .before .before .before .before .before .before .before .pre .1)
+slice-write-answers c = going-slot didOf emptyOf (c .before .before .before .before .before .before .before .loop .inv .going) (more (c .before .before .before .before)) (c .before .before .before .before .before .before .before .before .before .before .before .before .before .pre .1)
 
 add-lines : tie.Need-add-lines Inv-loop μ-loop
-add-lines c = omega (arith, c .before .before .before .before .before .loop .inv .going .slots (c .before .before .before .before .loop-test .taken), c .before .before .before .before .before .loop .inv .going .at-fits, c .before .before .before .before .before .before .before .before .before .before .before .pre .0)
+add-lines c = omega (arith, c .before .before .before .before .before .before .before .loop .inv .going .slots (more (c .before .before .before .before)), c .before .before .before .before .before .before .before .loop .inv .going .at-fits, c .before .before .before .before .before .before .before .before .before .before .before .before .before .pre .0)
 
 loop-less : tie.Need-loop-less Inv-loop μ-loop
-loop-less c = omega (arith, front-within ofSession didOf did-same SessionWF (c .before .before .before .before .before .loop .inv) (c .before .before .before .before .loop-test .taken) (at-front (c .before .before)), c .before .before .before .before .before .loop .inv .going .at-fits)
+loop-less c = omega (arith, front-within ofSession didOf did-same SessionWF (c .before .before .before .before .before .before .before .loop .inv) (more (c .before .before .before .before)) (at-front (c .before .before)), c .before .before .before .before .before .before .before .loop .inv .going .at-fits)
 
 loop-again : tie.Need-loop-again Inv-loop μ-loop
 loop-again c =
     let t = turned c in
-    record { going = going-more didOf emptyOf (c .before .before .before .before .before .loop .inv .going) (c .before .before .before .before .loop-test .taken) did-fits (part-rest (now (c .before .before .before .before .before .before .before .before .before .before .before .args .s)) (c .before .before .before .before .before .loop .at)) (at-front (c .before .before) .used) (t .left); wf = t .kept }
+    record { going = going-more didOf emptyOf (c .before .before .before .before .before .before .before .loop .inv .going) (more (c .before .before .before .before)) did-fits (part-rest (now (c .before .before .before .before .before .before .before .before .before .before .before .before .before .args .s)) (c .before .before .before .before .before .before .before .loop .at)) (at-front (c .before .before) .used) (t .left); wf = t .kept }
+
+slots-left : (c : tie.Else1 Inv-loop μ-loop) → let l = c .before .before .before .loop in let a = c .before .before .before .before .before .before .before .before .before in
+    l .at < length (now (a .args .s)) → l .lines < length (l .answers)
+slots-left c h = going-slot didOf emptyOf (c .before .before .before .loop .inv .going) h (c .before .before .before .before .before .before .before .before .before .pre .1)
+
+mul-answers-2 : tie.Need-mul-answers-2 Inv-loop μ-loop
+mul-answers-2 c =
+    let l = c .before .before .before .before .before .loop in
+    omega (arith, l .inv .going .slots (c .before .if2 .taken), l .inv .going .at-fits, c .before .before .before .before .before .before .before .before .before .before .before .pre .0)
+
+slice-write-answers-2 : tie.Need-slice-write-answers-2 Inv-loop μ-loop
+slice-write-answers-2 c = slots-left (c .before .before) (c .before .if2 .taken)
+
+add-lines-2 : tie.Need-add-lines-2 Inv-loop μ-loop
+add-lines-2 c =
+    let l = c .before .before .before .before .before .loop in
+    omega (arith, l .inv .going .slots (c .before .if2 .taken), l .inv .going .at-fits, c .before .before .before .before .before .before .before .before .before .before .before .pre .0)
 
 same-length : tie.Need-same-length Inv-loop μ-loop
-same-length c = c .before .loop .inv .going .same-room
+same-length c = c .before .before .before .before .before .loop .inv .going .same-room
 
 same-length-2 : tie.Need-same-length-2 Inv-loop μ-loop
-same-length-2 c = c .before .loop .inv .going .same-answers
+same-length-2 c =
+    let l = c .before .before .before .before .before .loop in
+    length-set (l .answers) (l .lines) (c .code3 .result) ∙ l .inv .going .same-answers
 
 returns : tie.Need-returns Inv-loop μ-loop
-returns c = going-end didOf emptyOf (c .before .loop .inv .going) (c .loop-test .left)
+returns c =
+    let d = c .before .before in
+    ended-cut (d .before .before .before .loop .inv) (c .before .if2 .taken) (sym (d .before .whole .ensures) ∙ d .if1 .left) (c .code3 .ensures)
+
+same-length-3 : tie.Need-same-length-3 Inv-loop μ-loop
+same-length-3 c = c .before .before .before .before .loop .inv .going .same-room
+
+same-length-4 : tie.Need-same-length-4 Inv-loop μ-loop
+same-length-4 c = c .before .before .before .before .loop .inv .going .same-answers
+
+returns-2 : tie.Need-returns-2 Inv-loop μ-loop
+returns-2 c = going-end didOf emptyOf (c .before .before .before .before .loop .inv .going) (c .if2 .left)
 
 pub run-all-spec : {M : Type 1} → statement M
 run-all-spec =
@@ -157,6 +191,10 @@ run-all-spec =
     μ-loop
     (λ c κs. search needs)
     loop-holds
+    (λ c. omega (arith, c .loop .inv .going .at-fits))
+    (λ c. omega (arith, c .loop .inv .going .at-fits))
+    (λ c. omega (arith, c .loop .inv .going .at-fits))
+    (λ c κs. search needs)
     sub-l
     part-l-start
     part-l-end
@@ -198,6 +236,13 @@ run-all-spec =
     add-lines
     loop-less
     loop-again
+    (λ c κs. search needs)
+    mul-answers-2
+    slice-write-answers-2
+    add-lines-2
     same-length
     same-length-2
-    returns)
+    returns
+    same-length-3
+    same-length-4
+    returns-2)

@@ -8,7 +8,7 @@ use Rattle.parts.specs.Parts.{part}
 use denote.Ref.{now}
 use Rattle.digits.specs.Digits.{placesOf}
 use Rattle.digits.proofs.Laws.{kept}
-use Rattle.text.proofs.Going.{Going, start, roomy, served-more, more, more-bare, ended}
+use Rattle.text.proofs.Going.{Going, start, roomy, served-more, more, more-bare, more-done, ended}
 use borrow.Author.Needs.{needs}
 use Rattle.text.proofs.put_codes.Statement.{statement}
 use Rattle.text.proofs.put_codes.Tie as tie
@@ -28,33 +28,50 @@ put-places-requires c κs = (c .before .before .before .before .loop .inv .1, om
 count-up-requires : tie.Need-count-up-requires Inv-loop μ-loop
 count-up-requires c κs = (omega (arith, c .before .before .before .before .before .before .before .before .before .before .before .before .before .before .pre .0, c .before .before .before .before .before .before .before .loop-test .taken), c .before .before .before .before .before .before .before .before .loop .inv .1)
 
-put-fields-requires : tie.Need-put-fields-requires Inv-loop μ-loop
-put-fields-requires c κs =
-    let turn = c .before .before .before .before .before .before .before .before .before .before .before in
-    let start = turn .before .before .before .before .before .before .before in
-    let room = roomy (turn .before .loop .inv .0) (start .pre .1) (turn .loop-test .taken) in
-    let put = c .before .before .before .before .before .before .before .put-places .ensures in
-    (c .before .before .before .before .before .before .before .before .before .before .before .before .before .before .lower-pairs .ensures, (omega arith, (omega (arith, c .before .before .if1 .taken), omega (arith, kept put, put .within))))
+put-done-requires : tie.Need-put-done-requires Inv-loop μ-loop
+put-done-requires c κs =
+    let turn = c .before .before .before .before .before .before .before .before .before .before .before .before in
+    let room = roomy (turn .before .loop .inv .0) (c .before .before .before .before .before .before .before .before .before .before .before .before .before .before .before .before .before .before .before .pre .1) (c .before .before .before .before .before .before .before .before .before .before .before .before .loop-test .taken) in
+    let put = c .before .before .before .before .before .before .before .before .put-places .ensures in
+    (c .before .before .before .before .before .before .before .before .before .before .before .before .before .before .before .lower-pairs .ensures, omega (arith, kept put, put .within))
 
 put-bare-end-requires : tie.Need-put-bare-end-requires Inv-loop μ-loop
 put-bare-end-requires c κs =
-    let turn = c .before .before .before .before .before .before .before .before .before .before .before .before .before .before .before in
-    let start = turn .before .before .before .before .before .before .before in
-    let room = roomy (turn .before .loop .inv .0) (start .pre .1) (turn .loop-test .taken) in
-    let put = c .before .before .before .before .before .before .before .before .before .before .before .put-places .ensures in
-    let fields = c .before .before .before .put-fields .ensures in
+    let turn = c .before .before .before .before .before .before .before .before .before .before .before .before .before .before .before .before in
+    let room = roomy (turn .before .loop .inv .0) (c .before .before .before .before .before .before .before .before .before .before .before .before .before .before .before .before .before .before .before .before .before .before .before .pre .1) (c .before .before .before .before .before .before .before .before .before .before .before .before .before .before .before .before .loop-test .taken) in
+    let put = c .before .before .before .before .before .before .before .before .before .before .before .before .put-places .ensures in
+    let fields = c .before .before .before .put-done .ensures in
     omega (arith, kept put, put .within, kept fields, fields .within)
 
 loop-again : tie.Need-loop-again Inv-loop μ-loop
 loop-again c =
-    let turn = c .before .before .before .before .before .before .before .before .before .before .before .before .before .before .before .before .before .before in
-    (more-bare (turn .before .loop .inv .0) (turn .loop-test .taken) (omega (arith, c .before .before .before .before .before .before .before .before .before .if1 .taken)) (c .before .before .before .before .before .before .before .before .before .before .before .before .before .before .put-places .ensures) (c .before .before .before .before .before .before .put-fields .ensures) (c .before .before .put-bare-end .ensures), c .before .before .before .before .before .before .before .before .before .before .count-up .ensures)
+    let turn = c .before .before .before .before .before .before .before .before .before .before .before .before .before .before .before .before .before .before .before in
+    (more-done (turn .before .loop .inv .0) (c .before .before .before .before .before .before .before .before .before .before .before .before .before .before .before .before .before .before .before .loop-test .taken) (c .before .before .before .before .before .before .before .before .before .if2 .taken) (c .before .before .before .before .before .before .before .before .before .before .before .before .before .before .before .put-places .ensures) (c .before .before .before .before .before .before .put-done .ensures) (c .before .before .put-bare-end .ensures), c .before .before .before .before .before .before .before .before .before .before .before .count-up .ensures)
+
+put-fields-requires : tie.Need-put-fields-requires Inv-loop μ-loop
+put-fields-requires c κs =
+    let turn = c .before .before .before .before .before .before .before .before .before .before .before .before in
+    let room = roomy (turn .before .loop .inv .0) (c .before .before .before .before .before .before .before .before .before .before .before .before .before .before .before .before .before .before .before .pre .1) (c .before .before .before .before .before .before .before .before .before .before .before .before .loop-test .taken) in
+    let put = c .before .before .before .before .before .before .before .before .put-places .ensures in
+    (c .before .before .before .before .before .before .before .before .before .before .before .before .before .before .before .lower-pairs .ensures, (omega arith, (omega (arith, c .before .before .before .if1 .taken), omega (arith, kept put, put .within))))
+
+put-bare-end-requires-2 : tie.Need-put-bare-end-requires-2 Inv-loop μ-loop
+put-bare-end-requires-2 c κs =
+    let turn = c .before .before .before .before .before .before .before .before .before .before .before .before .before .before .before .before in
+    let room = roomy (turn .before .loop .inv .0) (c .before .before .before .before .before .before .before .before .before .before .before .before .before .before .before .before .before .before .before .before .before .before .before .pre .1) (c .before .before .before .before .before .before .before .before .before .before .before .before .before .before .before .before .loop-test .taken) in
+    let put = c .before .before .before .before .before .before .before .before .before .before .before .before .put-places .ensures in
+    let fields = c .before .before .before .put-fields .ensures in
+    omega (arith, kept put, put .within, kept fields, fields .within)
+
+loop-again-2 : tie.Need-loop-again-2 Inv-loop μ-loop
+loop-again-2 c =
+    let turn = c .before .before .before .before .before .before .before .before .before .before .before .before .before .before .before .before .before .before .before in
+    (more-bare (turn .before .loop .inv .0) (c .before .before .before .before .before .before .before .before .before .before .before .before .before .before .before .before .before .before .before .loop-test .taken) (omega (arith, c .before .before .before .before .before .before .before .before .before .before .if1 .taken)) (c .before .before .before .before .before .before .before .before .before .before .before .before .before .before .before .put-places .ensures) (c .before .before .before .before .before .before .put-fields .ensures) (c .before .before .put-bare-end2 .ensures), c .before .before .before .before .before .before .before .before .before .before .before .count-up .ensures)
 
 put-fields-requires-2 : tie.Need-put-fields-requires-2 Inv-loop μ-loop
 put-fields-requires-2 c κs =
     let turn = c .before .before .before .before .before .before .before .before .before .before .before .before .before in
-    let start = turn .before .before .before .before .before .before .before in
-    let room = roomy (turn .before .loop .inv .0) (start .pre .1) (turn .loop-test .taken) in
+    let room = roomy (turn .before .loop .inv .0) (c .before .before .before .before .before .before .before .before .before .before .before .before .before .before .before .before .before .before .before .before .pre .1) (c .before .before .before .before .before .before .before .before .before .before .before .before .before .loop-test .taken) in
     let put = c .before .before .before .before .before .before .before .before .before .put-places .ensures in
     (c .before .before .before .before .before .before .before .before .before .before .before .before .before .before .before .before .lower-pairs .ensures, (omega arith, (omega arith, omega (arith, kept put, put .within))))
 
@@ -64,24 +81,22 @@ slice-aggregate-put-end c = sym (length-take-le (c .before .before .before .befo
 put-end-requires : tie.Need-put-end-requires Inv-loop μ-loop
 put-end-requires c κs =
     let turn = c .before .before .before .before .before .before .before .before .before .before .before .before .before .before .before .before .before .before .before in
-    let start = turn .before .before .before .before .before .before .before in
-    let room = roomy (turn .before .loop .inv .0) (start .pre .1) (turn .loop-test .taken) in
+    let room = roomy (turn .before .loop .inv .0) (c .before .before .before .before .before .before .before .before .before .before .before .before .before .before .before .before .before .before .before .before .before .before .before .before .before .before .pre .1) (c .before .before .before .before .before .before .before .before .before .before .before .before .before .before .before .before .before .before .before .loop-test .taken) in
     let put = c .before .before .before .before .before .before .before .before .before .before .before .before .before .before .before .put-places .ensures in
     let fields = c .before .before .before .before .before .put-fields2 .ensures in
-    let shorter = length-take (c .before .before .before .before .before .before .before .before .at-most .result) (part (length (now (start .args .replies)) - turn .before .loop .used) (now (start .args .replies)) (turn .before .loop .used)) in
+    let shorter = length-take (c .before .before .before .before .before .before .before .before .at-most .result) (part (length (now (c .before .before .before .before .before .before .before .before .before .before .before .before .before .before .before .before .before .before .before .before .before .before .before .before .before .before .args .replies)) - turn .before .loop .used) (now (c .before .before .before .before .before .before .before .before .before .before .before .before .before .before .before .before .before .before .before .before .before .before .before .before .before .before .args .replies)) (turn .before .loop .used)) in
     (c .before .before .before .before .before .before .before .before .before .before .before .before .before .before .before .before .before .before .before .before .before .before .lower-pairs .ensures, omega (arith, kept put, put .within, kept fields, fields .within))
 
 add-used : tie.Need-add-used Inv-loop μ-loop
 add-used c =
     let turn = c .before .before .before .before .before .before .before .before .before .before .before .before .before .before .before .before .before .before .before .before .before .before in
-    let start = turn .before .before .before .before .before .before .before in
     let few = served-more (turn .before .loop .inv .0) {count = c .before .before .before .before .before .before .before .before .before .before .before .at-most .result} (omega (arith, c .before .before .before .before .before .before .before .before .before .before .before .at-most .ensures)) in
-    omega (arith, start .good)
+    omega (arith, c .before .before .before .before .before .before .before .before .before .before .before .before .before .before .before .before .before .before .before .before .before .before .before .before .before .before .before .before .before .good)
 
-loop-again-2 : tie.Need-loop-again-2 Inv-loop μ-loop
-loop-again-2 c =
+loop-again-3 : tie.Need-loop-again-3 Inv-loop μ-loop
+loop-again-3 c =
     let turn = c .before .before .before .before .before .before .before .before .before .before .before .before .before .before .before .before .before .before .before .before .before .before in
-    (more (turn .before .loop .inv .0) (turn .loop-test .taken) (c .before .before .before .before .before .before .before .before .before .before .before .at-most .ensures) (c .before .before .before .before .before .before .before .before .before .before .before .before .before .before .before .before .before .before .put-places .ensures) (c .before .before .before .before .before .before .before .before .put-fields2 .ensures) (c .before .before .put-end .ensures), c .before .before .before .before .before .before .before .before .before .before .before .before .before .before .count-up .ensures)
+    (more (turn .before .loop .inv .0) (c .before .before .before .before .before .before .before .before .before .before .before .before .before .before .before .before .before .before .before .before .before .before .loop-test .taken) (c .before .before .before .before .before .before .before .before .before .before .before .at-most .ensures) (c .before .before .before .before .before .before .before .before .before .before .before .before .before .before .before .before .before .before .put-places .ensures) (c .before .before .before .before .before .before .before .before .put-fields2 .ensures) (c .before .before .put-end .ensures), c .before .before .before .before .before .before .before .before .before .before .before .before .before .before .count-up .ensures)
 
 same-length : tie.Need-same-length Inv-loop μ-loop
 same-length c = c .before .loop .inv .0 .sized
@@ -103,10 +118,15 @@ put-codes-spec =
     (λ c. search needs)
     put-places-requires
     count-up-requires
-    put-fields-requires
+    (λ c. search needs)
+    put-done-requires
     put-bare-end-requires
     (λ c. search needs)
     loop-again
+    put-fields-requires
+    put-bare-end-requires-2
+    (λ c. search needs)
+    loop-again-2
     (λ c. search needs)
     (λ c. search needs)
     (λ c. search needs)
@@ -116,6 +136,6 @@ put-codes-spec =
     put-end-requires
     add-used
     (λ c. search needs)
-    loop-again-2
+    loop-again-3
     same-length
     returns)
