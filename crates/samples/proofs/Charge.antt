@@ -3,7 +3,7 @@ use mathlib.Core.Path.{_≡_, refl, sym, ap, subst, _∙_}
 use mathlib.Core.Bool.{Bool, true, false, not}
 use mathlib.Core.Logic.{_⊎_, inl, inr, ⊎-elim}
 use Prim.Native.Nat.{ℕ, zero, suc, _+_, _-_, _*_, _^_, _≤_, _<_, min, max}
-use native.Mathlib.Nat.{eq-zero-or-pos, div-zero, min-zero, zero-min, zero-mul}
+use native.Mathlib.Nat.{eq-zero-or-pos, div-zero, div-eq-of-lt, min-zero, zero-min, zero-mul, sub-zero, max-eq-left}
 use native.Mathlib.Omega.{arith}
 use lib.Dec.{eqb}
 use borrow.Author.Tests.{lt-ltb, le-ltb, eq-eqb, ne-eqb, eqb-true}
@@ -14,7 +14,7 @@ use Rattle.profile.specs.declared.Profile.{Profile}
 use Rattle.charge.specs.declared.Charge.{Charge}
 use Rattle.charge.specs.Charge.{ChargeWF, acrOf, fallOf, grownOf, addedOf, agedOf, turnedOf, negative, countedOf, blankedOf}
 use Rattle.charge.proofs.Laws.{counted-wf}
-use Rattle.samples.specs.Stretch.{grownOver, addsOver, dropsOver, ageOver, agingOver, countOver, fallenOver, emptyOver, chargeOver}
+use Rattle.samples.specs.Stretch.{grownOver, addsOver, dropsOver, ageOver, agingOver, wornOver, countOver, fallenOver, emptyOver, chargeOver}
 use Rattle.samples.proofs.Numbers.{either-way, reached, clamped-more, rises, falls, rises-on, falls-on, lost, lost-fits, lost-due, lost-still}
 
 -- ---- step 3
@@ -144,7 +144,23 @@ aged-one ac age f aging few low =
     rw (none, still) at (aged-more ac age f 0 aging few))
     (eq-zero-or-pos ac)
 
+-- below the limit nothing is taken off
+pub worn-still : (ac age aging k : ℕ) → age < 32 * ac → 63 ≤ aging → wornOver ac age aging k ≡ record { age = age; aging = aging }
+unfolding wornOver
+worn-still ac age aging k below low =
+    simp (div-eq-of-lt below, min-zero, zero-mul, ne-eqb ac 0 (omega arith), sub-zero, max-eq-left low)
+
 -- ---- step 5
+
+-- a LEARNF that is set goes by the tests alone, and one that is clear stays so
+pub learnf-set : (turned emptied : Bool) → butNot (butNot true turned) emptied ≡ butNot (not turned) emptied
+learnf-set true emptied = refl
+learnf-set false emptied = refl
+
+pub learnf-clear : (turned emptied : Bool) → butNot (butNot false turned) emptied ≡ false
+learnf-clear turned true = refl
+learnf-clear true false = refl
+learnf-clear false false = refl
 
 turned-same : (c : ℕ) → turnedOf c c ≡ false
 turned-same c = never-both (negative c)

@@ -19,6 +19,7 @@ use Rattle.meter.specs.declared.Flow.{Flow}
 use Rattle.meter.specs.declared.Meter.{Meter}
 use Rattle.meter.specs.State.{withFlags}
 use Rattle.meter.specs.Convert.{convertedOf, filledFlags, chargedOf}
+use Rattle.samples.specs.declared.Worn.{Worn}
 
 -- ---- steps 1 to 5
 
@@ -38,6 +39,12 @@ ageOver ac age drops = pick (eqb ac 0) 0 (age - drops * (32 * ac))
 abbrev pub agingOver : ℕ → ℕ → ℕ
 agingOver aging drops = max (aging - drops) 63
 
+-- both, by the age counter before anything is taken off
+unfoldable pub wornOver : ℕ → ℕ → ℕ → ℕ → Worn
+wornOver ac age aging k =
+    let drops = dropsOver ac age k in
+    record { age = ageOver ac age drops; aging = agingOver aging drops }
+
 -- "The first conversion after an ACR write .. adds nothing to the count": the others add
 unfoldable pub addsOver : Bool → ℕ → ℕ
 addsOver mark k = pick mark (k - 1) k
@@ -52,6 +59,11 @@ fallenOver f p g c k = g .age + fallOf (g .count) (countOver f p g c k)
 -- step 5: ACR is 0 after some conversion where it is after the first or the last, since it goes one way
 abbrev pub emptyOver : Profile → Counting → Charge → ℕ → ℕ → Bool
 emptyOver f p g c k = either (eqb (acrOf (countOver f p g c 1)) 0) (eqb (acrOf (countOver f p g c k)) 0)
+
+-- LEARNF, which steps 1 and 5 clear; count is that after the last
+unfoldable pub learnfOver : Profile → Counting → Charge → ℕ → ℕ → ℕ → Bool
+learnfOver f p g last c count =
+    butNot (butNot (g .learnf) (turnedOf last c)) (either (eqb (acrOf (countOver f p g c 1)) 0) (eqb (acrOf count) 0))
 
 unfoldable pub chargeOver : Profile → Counting → Charge → ℕ → ℕ → ℕ → Charge
 chargeOver f p g last c k =

@@ -13,7 +13,7 @@ ghost use Rattle.charge.specs.Charge.{ChargeWF};
 ghost use Rattle.full.specs.Full.{AverageWF};
 ghost use Rattle.meter.specs.State.{MeterWF};
 ghost use Rattle.samples.specs.Samples.{sampledOf, sampleOf};
-ghost use Rattle.samples.specs.Stretch.{grownOver, addsOver, countOver, dropsOver, ageOver, agingOver, chargeOver, traceOver, seventhOf, averageOver, flowedOver, stretchedOf, reachOf};
+ghost use Rattle.samples.specs.Stretch.{grownOver, addsOver, countOver, dropsOver, ageOver, agingOver, wornOver, learnfOver, chargeOver, traceOver, seventhOf, averageOver, flowedOver, stretchedOf, reachOf};
 
 // ---- a stretch: k conversions of the same c, of which none but the last may find full
 
@@ -71,23 +71,59 @@ fn count_over(f: Profile, p: Counting, g: Charge, c: u16, k: u16) -> u32
     )
 }
 
+// The age counter and AS.
+struct Worn {
+    age: u32,
+    aging: u8,
+}
+
+// Step 4. Most stretches leave the counter below its limit, where it and AS stay: they are spared the division.
+fn worn_over(ac: u16, age: u32, aging: u8, k: u16) -> Worn
+    requires { ⌜ 63 ≤ aging ⌝ }
+    ensures { λ r. ⌜ r ≡ wornOver ac age aging k ⌝ }
+{
+    if 32 * (ac as u32) <= age {
+        let drops = drops_over(ac, age, k);
+        Worn {
+            age: age_over(ac, age, drops),
+            aging: aging_over(aging, drops),
+        }
+    } else {
+        Worn {
+            age: age,
+            aging: aging,
+        }
+    }
+}
+
+// Steps 1 and 5: LEARNF, by the count after the last. One that is clear stays so, and is spared the count after the first.
+fn learnf_over(f: Profile, p: Counting, g: Charge, last: u16, c: u16, count: u32) -> bool
+    ensures { λ r. ⌜ r ≡ learnfOver f p g last c count ⌝ }
+{
+    if g.learnf {
+        let first = count_over(f, p, g, c, 1);
+        let was = last < numbers::ZERO15;
+        let turned = numbers::and(c < numbers::ZERO15, !was);
+        let emptied = numbers::or(first / 4096 == 0, count / 4096 == 0);
+        numbers::and_not(!turned, emptied)
+    } else {
+        false
+    }
+}
+
 // Steps 1 to 5.
 fn charge_over(f: Profile, p: Counting, g: Charge, last: u16, c: u16, k: u16) -> Charge
     requires { ⌜ ChargeWF g ⌝ }
     ensures { λ r. ⌜ r ≡ chargeOver f p g last c k ⌝ }
 {
-    let first = count_over(f, p, g, c, 1);
     let count = count_over(f, p, g, c, k);
-    let age = g.age + charge::fall(g.count, count);
-    let drops = drops_over(p.ac, age, k);
-    let was = last < numbers::ZERO15;
-    let turned = numbers::and(c < numbers::ZERO15, !was);
-    let learnf = numbers::and_not(g.learnf, turned);
+    let learnf = learnf_over(f, p, g, last, c, count);
+    let worn = worn_over(p.ac, g.age + charge::fall(g.count, count), g.aging, k);
     Charge {
         count: count,
-        age: age_over(p.ac, age, drops),
-        aging: aging_over(g.aging, drops),
-        learnf: numbers::and_not(learnf, numbers::or(first / 4096 == 0, count / 4096 == 0)),
+        age: worn.age,
+        aging: worn.aging,
+        learnf: learnf,
         mark: false,
     }
 }
@@ -152,16 +188,17 @@ fn flowed_over(mut m: Meter, p: Limits, full40: u16, c: u16, k: u16) -> Meter
 {
     let mut flow = m.flow;
     flow.trace = trace_over(flow.trace, c, k);
+    let average = average_over(flow.average, c, k);
     if 8 <= (flow.average.made % 8) as u32 + (k as u32) {
         let seven = seventh(flow.average, c);
-        let found = seven.found(flow.since, p, c);
-        m.charge = full::settled(m.charge, found, m.shown.model.full, full40);
-        let chgtf = numbers::or(found, m.shown.flags.chgtf);
-        m.shown.flags.chgtf = chgtf;
+        if seven.found(flow.since, p, c) {
+            m.charge = full::settled(m.charge, true, m.shown.model.full, full40);
+            m.shown.flags.chgtf = true;
+        }
         flow.since.any = false;
         flow.since.lowest = 0;
     }
-    flow.average = average_over(flow.average, c, k);
+    flow.average = average;
     m.flow = flow;
     m
 }
