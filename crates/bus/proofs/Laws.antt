@@ -1,21 +1,21 @@
 -- Laws of what the master's bytes ask.
-use mathlib.Core.Path.{_≡_, refl, sym, _∙_}
+use mathlib.Core.Path.{_≡_, refl, sym, ap, _∙_}
 use mathlib.Core.Bool.{Bool, true, false}
 use mathlib.Core.List.{List, [], _∷_, _++_}
 use mathlib.Core.Logic.{_⊎_, inl, inr, ⊎-elim}
-use Prim.Native.Nat.{ℕ, _+_, _≤_, _<_}
+use Prim.Native.Nat.{ℕ, suc, _+_, _*_, _≤_, _<_}
 use native.Mathlib.Numerals.{add-one}
 use native.Mathlib.Omega.{arith}
-use borrow.Author.Tests.{ltb-false, eqb-true, eq-eqb, ne-eqb, le-ltb}
-use lib.ListN.{length, getD, take, drop, length-append, drop-of-length-le}
-use lib.Seq.{drop-cons, take-at}
+use borrow.Author.Tests.{ltb-false, eqb-true, eqb-false, eq-eqb, ne-eqb, le-ltb}
+use lib.ListN.{length, getD, take, drop, length-append, length-drop, drop-of-length-le}
+use lib.Seq.{drop-cons, take-at, length-take-le}
 use lib.Dec.{ltb, eqb}
 use Rattle.numbers.specs.Choice.{both}
 use Rattle.numbers.proofs.Bounds.{picked, both-true}
 use Rattle.bus.specs.declared.Rom.{Rom}
 use Rattle.bus.specs.declared.Rom.the-variants.{Net33, Net39, Skip, Match, Quiet}
 use Rattle.bus.specs.declared.Transaction.{Transaction}
-use Rattle.bus.specs.Ask.{romOf, commandOf, plainOf, askedAt, askedBy, askedOf, sameBytes, ownOf}
+use Rattle.bus.specs.Ask.{romOf, commandOf, plainOf, askedAt, askedBy, askedOf, sameBytes, littleEndian, AsNumber, ownOf}
 
 -- ---- two lists with the same bytes
 
@@ -52,6 +52,45 @@ module _ (a b : List ℕ) (i : ℕ) (size : length a ≡ length b) (so-far : sam
       let k : length b ≤ i = omega arith in
       rw (drop-of-length-le a h, drop-of-length-le b k) at so-far
 
+-- ---- bytes as a number
+
+-- from one place on: the byte there, and the number from the next place on
+number-more : (s : List ℕ) (i : ℕ) → i < length s → littleEndian (drop i s) ≡ getD s i 0 + 256 * littleEndian (drop (i + 1) s)
+number-more s i h = rw (drop-cons s i 0, add-one)
+
+pub number-eight : (s : List ℕ) → length s ≡ 8
+    → littleEndian s ≡
+    getD s 0 0
+    + 0x100 * getD s 1 0
+    + 0x10000 * getD s 2 0
+    + 0x1000000 * getD s 3 0
+    + 0x100000000 * getD s 4 0
+    + 0x10000000000 * getD s 5 0
+    + 0x1000000000000 * getD s 6 0
+    + 0x100000000000000 * getD s 7 0
+number-eight s e =
+    let none = ap littleEndian (drop-of-length-le s {i = 8} (omega arith)) in
+    omega (arith, none, number-more s 0 (omega arith), number-more s 1 (omega arith), number-more s 2 (omega arith), number-more s 3 (omega arith), number-more s 4 (omega arith), number-more s 5 (omega arith), number-more s 6 (omega arith), number-more s 7 (omega arith))
+
+-- two numbers are equal where their low bytes are, and the numbers above them
+low-same : (x y m n : ℕ) → x < 256 → y < 256 → eqb (x + 256 * m) (y + 256 * n) ≡ both (eqb x y) (eqb m n)
+low-same x y m n p q = go (eqb x y) refl (eqb m n) refl
+  where
+    go : (s : Bool) → eqb x y ≡ s → (t : Bool) → eqb m n ≡ t → eqb (x + 256 * m) (y + 256 * n) ≡ both s t
+    go true e true f = eq-eqb (x + 256 * m) (y + 256 * n) (omega (arith, eqb-true x y e, eqb-true m n f))
+    go true e false f = ne-eqb (x + 256 * m) (y + 256 * n) (λ h. eqb-false m n f (omega arith))
+    go false e t f = ne-eqb (x + 256 * m) (y + 256 * n) (λ h. eqb-false x y e (omega arith))
+
+-- bytes are the same where their numbers are
+number-same : (a b : List ℕ) → length a ≡ length b → ((i : ℕ) → getD a i 0 < 256) → ((i : ℕ) → getD b i 0 < 256)
+    → eqb (littleEndian a) (littleEndian b) ≡ sameBytes a b
+number-same [] [] e p q = refl
+number-same [] (y ∷ ys) e p q = absurd (omega arith)
+number-same (x ∷ xs) [] e p q = absurd (omega arith)
+number-same (x ∷ xs) (y ∷ ys) e p q =
+    low-same x y (littleEndian xs) (littleEndian ys) (p 0) (q 0)
+    ∙ ap (both (eqb x y)) (number-same xs ys (omega arith) (λ i. p (suc i)) (λ i. q (suc i)))
+
 -- ---- the own address
 
 -- 55h and the own address, with anything after them
@@ -68,6 +107,15 @@ own-only address master =
     picked (λ (t : Bool). t ≡ true → take 8 (drop 1 master) ≡ address) (ltb (length master) 9) false (sameBytes address (take 8 (drop 1 master)))
     (λ short e. absurd (never e))
     (λ long e. sym (same-equal address (take 8 (drop 1 master)) e))
+
+-- the own address is told by its number
+pub own-numbers : (address master : List ℕ) {x y : ℕ} → 9 ≤ length master → length address ≡ 8
+    → AsNumber address x → AsNumber (take 8 (drop 1 master)) y → eqb x y ≡ ownOf address master
+unfolding ownOf
+own-numbers address master long size of-own of-given =
+    let given : length (take 8 (drop 1 master)) ≡ 8 = length-take-le 8 (drop 1 master) (omega (arith, length-drop 1 master)) in
+    simp (le-ltb _ _ long, of-own .number, of-given .number)
+    (number-same address (take 8 (drop 1 master)) (omega arith) (of-own .bytes) (of-given .bytes))
 
 -- ---- the transaction
 

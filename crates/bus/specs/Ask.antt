@@ -1,5 +1,6 @@
 -- What the master's bytes ask. Each transaction starts at a bus reset.
-use Prim.Native.Nat.{ℕ, _+_}
+use mathlib.Core.Path.{_≡_}
+use Prim.Native.Nat.{ℕ, _+_, _*_, _<_}
 use mathlib.Core.Bool.{Bool, true, false}
 use mathlib.Core.List.{List, [], _∷_}
 use lib.ListN.{length, getD, take, drop}
@@ -60,6 +61,16 @@ sameBytes [] [] = true
 sameBytes [] (y ∷ ys) = false
 sameBytes (x ∷ xs) [] = false
 sameBytes (x ∷ xs) (y ∷ ys) = both (eqb x y) (sameBytes xs ys)
+
+-- bytes as one number, the low byte first
+abbrev pub littleEndian : List ℕ → ℕ
+littleEndian [] = 0
+littleEndian (x ∷ xs) = x + 256 * littleEndian xs
+
+-- r is the number of these bytes. That they are bytes is said for the proofs of callers, to which they are a list of numbers
+pub record AsNumber (s : List ℕ) (r : ℕ) : Type 0 where
+  pub number : r ≡ littleEndian s
+  pub bytes : (i : ℕ) → getD s i 0 < 256
 
 -- the 8 bytes after the first are the own address
 unfoldable pub ownOf : List ℕ → List ℕ → Bool

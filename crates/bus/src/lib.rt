@@ -2,7 +2,7 @@
 ghost use mathlib.Core.Path.{_≡_};
 ghost use Prim.Native.Nat.{_<_};
 ghost use lib.ListN.{length};
-ghost use Rattle.bus.specs.Ask.{romBy, romOf, commandOf, plainOf, askedAt, askedOf, sameBytes, ownOf};
+ghost use Rattle.bus.specs.Ask.{romBy, romOf, commandOf, plainOf, askedAt, askedOf, AsNumber, ownOf};
 
 // What the first master byte says: a net address read by 33h or 39h, Skip, Match, or nothing.
 pub enum Rom {
@@ -129,19 +129,26 @@ pub fn asked(start: u32, count: u16, master: &[u8]) -> Transaction
     }
 }
 
-// Whether two parts of one length have the same bytes.
-fn same_bytes(a: &[u8], b: &[u8]) -> bool
-    requires { ⌜ length (now a) ≡ length (now b) ⌝ }
-    ensures { λ r. ⌜ r ≡ sameBytes (now (a .entry)) (now (b .entry)) ⌝ }
+// A byte as a number of 64 bits. That it is below 256 is said too, which an element of a slice does not say.
+fn wide8(x: u8) -> u64
+    ensures { λ r. ⌜ (r ≡ x) × (r < 256) ⌝ }
 {
-    let mut i = 0;
-    while i < a.len() {
-        if a[i] != b[i] {
-            return false;
-        }
-        i += 1;
-    }
-    true
+    x as u64
+}
+
+// Eight bytes as one number, the low byte first: the compiler makes one load of it, where a loop over the bytes stays a loop.
+fn number8(s: &[u8]) -> u64
+    requires { ⌜ length (now s) ≡ 8 ⌝ }
+    ensures { λ r. ⌜ AsNumber (now (s .entry)) r ⌝ }
+{
+    wide8(s[0])
+        + 0x100 * wide8(s[1])
+        + 0x10000 * wide8(s[2])
+        + 0x1000000 * wide8(s[3])
+        + 0x100000000 * wide8(s[4])
+        + 0x10000000000 * wide8(s[5])
+        + 0x1000000000000 * wide8(s[6])
+        + 0x100000000000000 * wide8(s[7])
 }
 
 // Whether the 8 bytes after the first are the own address.
@@ -151,5 +158,5 @@ pub fn own(address: [u8; 8], master: &[u8]) -> bool
     if master.len() < 9 {
         return false;
     }
-    same_bytes(&address, &master[1..9])
+    number8(&address) == number8(&master[1..9])
 }

@@ -1,5 +1,6 @@
-use borrow.Author.Tests.{lt-ltb, le-ltb}
+use borrow.Author.Tests.{lt-ltb}
 use Rattle.bus.specs.Ask.{ownOf}
+use Rattle.bus.proofs.Laws.{own-numbers}
 use borrow.Author.Needs.{needs}
 use Rattle.bus.proofs.own.Statement.{statement}
 use Rattle.bus.proofs.own.Tie as tie
@@ -8,33 +9,37 @@ returns : tie.Need-returns
 unfolding ownOf
 returns c = simp (lt-ltb _ _ (c .if1 .taken))
 
-slice-aggregate-same-bytes : tie.Need-slice-aggregate-same-bytes
-slice-aggregate-same-bytes c = search needs
+slice-aggregate-number8 : tie.Need-slice-aggregate-number8
+slice-aggregate-number8 c = search needs
 
-sub-same-bytes : tie.Need-sub-same-bytes
-sub-same-bytes c = search needs
+number8-requires : tie.Need-number8-requires
+number8-requires c κs = search needs
 
-part-same-bytes-start : tie.Need-part-same-bytes-start
-part-same-bytes-start c = search needs
+sub-number8 : tie.Need-sub-number8
+sub-number8 c = search needs
 
-part-same-bytes-end : tie.Need-part-same-bytes-end
-part-same-bytes-end c = search needs
+part-number8-start : tie.Need-part-number8-start
+part-number8-start c = search needs
 
-same-bytes-requires : tie.Need-same-bytes-requires
-same-bytes-requires c κs = search needs
+part-number8-end : tie.Need-part-number8-end
+part-number8-end c = search needs
+
+number8-requires-2 : tie.Need-number8-requires-2
+number8-requires-2 c κs = search needs
 
 returns-2 : tie.Need-returns-2
-unfolding ownOf
-returns-2 c = simp (le-ltb _ _ (c .before .before .before .if1 .left), c .same-bytes .ensures)
+returns-2 c =
+    own-numbers _ _ (c .before .before .before .before .if1 .left) (search needs) (c .before .before .number8 .ensures) (c .number82 .ensures)
 
 pub own-spec : {M : Type 1} → statement M
 own-spec =
     tie.close
     (tie.spec
     returns
-    slice-aggregate-same-bytes
-    sub-same-bytes
-    part-same-bytes-start
-    part-same-bytes-end
-    same-bytes-requires
+    slice-aggregate-number8
+    number8-requires
+    sub-number8
+    part-number8-start
+    part-number8-end
+    number8-requires-2
     returns-2)
