@@ -57,11 +57,13 @@ impl Counting {
     pub fn of(b: &[u8; 32]) -> Counting
         ensures { λ r. ⌜ r ≡ countingOf (now (b .entry)) ⌝ }
     {
+        // COB is taken with the three bytes before it: read alone, it is kept apart from them, and each transaction packs and unpacks the four.
+        let tail = parts::four(b, 24);
         Counting {
             nben: 128 <= b[0],
             ab: numbers::offset8(b[1]),
             ac: numbers::joined(b[2], b[3]),
-            cob: numbers::offset8(b[27]),
+            cob: numbers::offset8(tail[3]),
         }
     }
 }

@@ -5,6 +5,7 @@ use Rattle.parts.proofs.store
 use Rattle.parts.proofs.higher
 use Rattle.parts.proofs.lower
 use Rattle.parts.proofs.laid
+use Rattle.parts.proofs.four
 use Rattle.parts.proofs.eight
 use Rattle.parts.proofs.sixteen
 use Rattle.parts.proofs.thirty_two
@@ -27,6 +28,9 @@ lower-once κs a r r′ w w′ p h h′ = (h ∙ sym h′, refl)
 
 pub laid-once : Once laid.ended laid.Reads.Pre laid.Reads.Learnt
 laid-once κs a r r′ w w′ p h h′ = (refl, λ i. ((h ∙ sym h′) i, (tt, (tt, (tt, tt)))))
+
+pub four-once : Once four.ended four.Reads.Pre four.Reads.Learnt
+four-once κs a r r′ w w′ p h h′ = (h ∙ sym h′, refl)
 
 pub eight-once : Once eight.ended eight.Reads.Pre eight.Reads.Learnt
 eight-once κs a r r′ w w′ p h h′ = (h ∙ sym h′, refl)

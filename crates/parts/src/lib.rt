@@ -51,6 +51,16 @@ fn fill(s: &[u8], at: usize, dst: &mut [u8])
     store(&s[at..end], dst, 0);
 }
 
+// The four bytes of s from the index at on.
+pub fn four(s: &[u8], at: usize) -> [u8; 4]
+    requires { ⌜ at + 4 ≤ length (now s) ⌝ }
+    ensures { λ r. ⌜ r ≡ part 4 (now (s .entry)) at ⌝ }
+{
+    let mut a = [0u8; 4];
+    fill(s, at, &mut a);
+    a
+}
+
 // The eight bytes of s from the index at on.
 pub fn eight(s: &[u8], at: usize) -> [u8; 8]
     requires { ⌜ at + 8 ≤ length (now s) ⌝ }
