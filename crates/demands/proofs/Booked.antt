@@ -79,10 +79,15 @@ clamps (pos n) e k = by (leb n (2 ^ 28 - 1)) refl
         omega (arith, high, ap orZero held)
 clamps (negsuc n) e k = pos-ne-negsuc 0 n k
 
-added : (mark : Bool) (count counted ab : ℤ) → unclamped (count +ℤ pick mark (pos 0) (counted +ℤ ab)) ≡ true
-    → addedZ mark count counted ab ≡ count +ℤ pick mark (pos 0) (counted +ℤ ab)
+added : (mark : Bool) (count counted ab : ℤ) → let z = count +ℤ pick mark (pos 0) (counted +ℤ ab) in clampZ (pos 0) (pos (2 ^ 28 - 1)) z ≡ z
+    → addedZ mark count counted ab ≡ z
 added true count counted ab e = sym (+ℤ-idr count)
-added false count counted ab e = not-clamped (count +ℤ (counted +ℤ ab)) e
+added false count counted ab e = e
+
+-- what is booked is what is added
+booked-added : (k : Ledger) (x : Converts) (count : ℤ) → let z = count +ℤ booked k x in clampZ (pos 0) (pos (2 ^ 28 - 1)) z ≡ z
+    → addedZ (k .mark) count (blankedZ (k .profile) (countingOf (x .shadow) .nben) (bookedC k x)) (value 7 (countingOf (x .shadow) .ab)) ≡ z
+booked-added k x count = added (k .mark) count (blankedZ (k .profile) (countingOf (x .shadow) .nben) (bookedC k x)) (value 7 (countingOf (x .shadow) .ab))
 
 module _ (m : Meter) (raw : ℕ) where
   abbrev block : List ℕ
@@ -107,7 +112,7 @@ module _ (m : Meter) (raw : ℕ) where
       ∙ ap (λ (g : Charge). pos (g .count)) (uncorrected m raw found)
       ∙ count-means f p (m .charge) c
       ∙ (λ i. addedZ (m .charge .mark) (sym (count-is m) i) (blankedZ f (p .nben) (c-is i)) (value 7 (p .ab)))
-      ∙ added (m .charge .mark) (countIn m) (blankedZ f (p .nben) (bookedC (ledgerOf m) conversion)) (value 7 (p .ab)) inside
+      ∙ booked-added (ledgerOf m) conversion (countIn m) (not-clamped (countIn m +ℤ booked (ledgerOf m) conversion) inside)
 
   pub converted-ledger : correctsFull m raw ≡ false → ledgerOf (convertOf m raw) ≡ ledgerAfter (ledgerOf m) conversion
   unfolding convertOf flowedOf countedOf

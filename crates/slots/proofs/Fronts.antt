@@ -146,9 +146,11 @@ module _ (τ : Tray) (w : TrayWF τ) (room : ℕ) (l : List ℕ) where
         let address : imageAddress p ≡ part 8 l 4 = take-take 8 (4 + n - 4) (drop 4 l) (omega (arith, size, sixty f, long)) in
         rw (le-ltb (length l) (4 + imageSize) fits, image-kinds f (pairAt l 2) e, address) refl
 
+    tick-of : (i : ℕ) → i ≡ slotIn p → packOf τ i .meter .flow .tick ≡ slotTick τ p
+    tick-of i e = ap (λ (j : ℕ). packOf τ j .meter .flow .tick) e
+
     slot : 1 ≤ length p → ltb (slotIn p) (τ .count) ≡ true → tickAt ≡ slotTick τ p
-    slot some has =
-        ap (λ (i : ℕ). packOf τ i .meter .flow .tick) (named-slot (4 + n - 4) l some (omega (arith, ltb-true (slotIn p) (τ .count) has, w .few)))
+    slot some has = tick-of (namedSlot l) (named-slot (4 + n - 4) l some (omega (arith, ltb-true (slotIn p) (τ .count) has, w .few)))
 
     front-whole : frontBy (trayAskedAt (τ .count) (τ .closed) againAt tickAt) room l ≡ frontBy (trayTold τ) room l
     front-whole =
