@@ -29,8 +29,8 @@ pub enum Command {
 pub struct Transaction {
     pub start: u32,
     pub from: u8,
-    pub address: u8,
     pub rom: Rom,
+    pub address: u8,
     pub command: Command,
     pub count: u16,
 }

@@ -8,8 +8,8 @@ ghost use Rattle.charge.specs.Charge.{ChargeWF, currentOf, tracedOf, bla
 // ACR × 4,096 + fraction, AS, LEARNF, the mark after an ACR write and the age counter. (Side by side, count and age would be passed as one
 // number of eight bytes.)
 pub struct Charge {
-    pub count: u32,
     pub aging: u8,
+    pub count: u32,
     pub learnf: bool,
     pub mark: bool,
     pub age: u32,

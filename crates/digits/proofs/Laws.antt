@@ -14,7 +14,8 @@ use Rattle.numbers.specs.Choice.{pick}
 use Rattle.numbers.proofs.Bounds.{picked}
 use Rattle.parts.specs.Parts.{put, part}
 use Rattle.parts.proofs.Laws.{put-length, put-next, part-rest}
-use Rattle.digits.specs.Digits.{lower, pairText, hexText, digitOf, placesOf, shownText, placeText, decimalText, Writing}
+use Rattle.digits.specs.declared.Twos.{Twos}
+use Rattle.digits.specs.Digits.{lower, pairText, hexText, digitOf, packedPair, packedOf, shownText, placeText, decimalText, Writing}
 
 -- ---- writing
 
@@ -81,32 +82,38 @@ by-tens n = omega arith
 thousands : (n : ℕ) → n / 1000 ≡ n / 100 / 10
 thousands n = omega arith
 
-ten-thousands : (n : ℕ) → n / 10000 ≡ n / 100 / 100
-ten-thousands n = omega arith
+module _ (n : ℕ) {p : Twos} (e : p ≡ packedOf n) where
+  first : p .high ≡ packedPair (n / 100)
+  first = ap (λ (x : Twos). x .high) e
 
-module _ (n : ℕ) where
+  last : p .low ≡ packedPair n
+  last = ap (λ (x : Twos). x .low) e
+
+  -- each byte of the packed digits is one of them
+  pub packed-bytes : (p .high % 256 ≡ digitOf (n / 1000)) × (p .high / 256 ≡ digitOf (n / 100)) × (p .low % 256 ≡ digitOf (n / 10)) × (p .low / 256 ≡ digitOf n)
+  packed-bytes = (rw (thousands n) (omega (arith, first)), omega (arith, first), omega (arith, last), omega (arith, last))
+
   -- the last digit alone changes
-  pub ones-more : digitOf n < 57 → digitOf (n / 10000) ∷ digitOf (n / 1000) ∷ digitOf (n / 100) ∷ digitOf (n / 10) ∷ (digitOf n + 1) ∷ [] ≡ placesOf (n + 1)
+  pub ones-more : p .low < 0x3900 → _≡_ {A = Twos} (record { high = p .high; low = p .low + 0x100 }) (packedOf (n + 1))
   ones-more h =
-      let a : n / 10000 % 10 ≡ (n + 1) / 10000 % 10 = omega arith in
-      let b : n / 1000 % 10 ≡ (n + 1) / 1000 % 10 = omega arith in
-      let c : n / 100 % 10 ≡ (n + 1) / 100 % 10 = omega arith in
-      let d : n / 10 % 10 ≡ (n + 1) / 10 % 10 = omega arith in
-      let e : digitOf n + 1 ≡ digitOf (n + 1) = omega arith in
-      λ i. (48 + a i) ∷ (48 + b i) ∷ (48 + c i) ∷ (48 + d i) ∷ e i ∷ []
+      let below : digitOf n < 57 = omega (arith, h, last) in
+      let hundreds : n / 100 ≡ (n + 1) / 100 = omega (arith, below) in
+      let tens : n / 10 % 10 ≡ (n + 1) / 10 % 10 = omega (arith, below) in
+      let low : p .low + 0x100 ≡ packedPair (n + 1) = omega (arith, last, tens, below) in
+      λ i. record { high = (first ∙ ap packedPair hundreds) i; low = low i }
 
   -- the last is 9, and the one before it is not
-  pub tens-more : 57 ≤ digitOf n → digitOf (n / 10) < 57 → digitOf (n / 10000) ∷ digitOf (n / 1000) ∷ digitOf (n / 100) ∷ (digitOf (n / 10) + 1) ∷ 48 ∷ [] ≡ placesOf (n + 1)
+  pub tens-more : 0x3900 ≤ p .low → p .low % 256 < 57 → _≡_ {A = Twos} (record { high = p .high; low = p .low + 1 - 9 * 0x100 }) (packedOf (n + 1))
   tens-more h k =
-      let tens : (n + 1) / 10 ≡ n / 10 + 1 = omega arith in
-      let same : n / 10 / 10 ≡ (n / 10 + 1) / 10 = omega arith in
+      let nine : 57 ≤ digitOf n = omega (arith, h, last) in
+      let less : digitOf (n / 10) < 57 = omega (arith, k, packed-bytes .2) in
+      let tens : (n + 1) / 10 ≡ n / 10 + 1 = omega (arith, nine) in
+      let same : n / 10 / 10 ≡ (n / 10 + 1) / 10 = omega (arith, less) in
       let hundreds : n / 100 ≡ (n + 1) / 100 = by-tens n ∙ same ∙ ap (λ (m : ℕ). m / 10) (sym tens) ∙ sym (by-tens (n + 1)) in
-      let a : n / 10000 % 10 ≡ (n + 1) / 10000 % 10 = rw (ten-thousands n, ten-thousands (n + 1), hundreds) in
-      let b : n / 1000 % 10 ≡ (n + 1) / 1000 % 10 = rw (thousands n, thousands (n + 1), hundreds) in
-      let c : n / 100 % 10 ≡ (n + 1) / 100 % 10 = ap (λ (m : ℕ). m % 10) hundreds in
-      let d : digitOf (n / 10) + 1 ≡ digitOf ((n + 1) / 10) = omega arith in
-      let e : 48 ≡ digitOf (n + 1) = omega arith in
-      λ i. (48 + a i) ∷ (48 + b i) ∷ (48 + c i) ∷ d i ∷ e i ∷ []
+      let d : digitOf (n / 10) + 1 ≡ digitOf ((n + 1) / 10) = omega (arith, tens, less) in
+      let z : 48 ≡ digitOf (n + 1) = omega (arith, nine) in
+      let low : p .low + 1 - 9 * 0x100 ≡ packedPair (n + 1) = omega (arith, last, d, z, nine) in
+      λ i. record { high = (first ∙ ap packedPair hundreds) i; low = low i }
 
 -- ---- the digits that are shown
 

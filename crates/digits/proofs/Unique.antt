@@ -10,8 +10,9 @@ use Rattle.digits.proofs.put_hex
 use Rattle.digits.proofs.put_upper
 use Rattle.digits.proofs.upper_digits
 use Rattle.digits.proofs.upper_byte
-use Rattle.digits.proofs.places
-use Rattle.digits.proofs.count_up
+use Rattle.digits.proofs.packed
+use Rattle.digits.proofs.counted_up
+use Rattle.digits.proofs.unpacked
 use Rattle.digits.proofs.put_places
 use Rattle.digits.proofs.put_decimal
 
@@ -42,11 +43,14 @@ upper-digits-once κs a r r′ w w′ p h h′ = (h ∙ sym h′, refl)
 pub upper-byte-once : Once upper_byte.ended upper_byte.Reads.Pre upper_byte.Reads.Learnt
 upper-byte-once κs a r r′ w w′ p h h′ = (h ∙ sym h′, refl)
 
-pub places-once : Once places.ended places.Reads.Pre places.Reads.Learnt
-places-once κs a r r′ w w′ p h h′ = (h ∙ sym h′, refl)
+pub packed-once : Once packed.ended packed.Reads.Pre packed.Reads.Learnt
+packed-once κs a r r′ w w′ p h h′ = (h ∙ sym h′, refl)
 
-pub count-up-once : Once count_up.ended count_up.Reads.Pre count_up.Reads.Learnt
-count-up-once κs a r r′ w w′ p h h′ = (refl, λ i. (tt, ((h ∙ sym h′) i, tt)))
+pub counted-up-once : Once counted_up.ended counted_up.Reads.Pre counted_up.Reads.Learnt
+counted-up-once κs a r r′ w w′ p h h′ = (h ∙ sym h′, refl)
+
+pub unpacked-once : Once unpacked.ended unpacked.Reads.Pre unpacked.Reads.Learnt
+unpacked-once κs a r r′ w w′ p h h′ = (h ∙ sym h′, refl)
 
 pub put-places-once : Once put_places.ended put_places.Reads.Pre put_places.Reads.Learnt
 put-places-once κs a r r′ w w′ p h h′ = (h .onward ∙ sym (h′ .onward), λ i. (tt, (tt, ((h .written ∙ sym (h′ .written)) i, (tt, tt)))))

@@ -7,6 +7,7 @@ use lib.Dec.{ltb, leb}
 use lib.ListN.{length, getD}
 use Rattle.numbers.specs.Choice.{pick, both, either}
 use Rattle.parts.specs.Parts.{put}
+use Rattle.digits.specs.declared.Twos.{Twos}
 
 -- ---- hexadecimal
 
@@ -78,6 +79,13 @@ digitOf n = 48 + n % 10
 -- the last five digits of n, the zeros in front too
 abbrev pub placesOf : ℕ → List ℕ
 placesOf n = digitOf (n / 10000) ∷ digitOf (n / 1000) ∷ digitOf (n / 100) ∷ digitOf (n / 10) ∷ digitOf n ∷ []
+
+-- the last two of them as one number, each a byte, the first the lower; and the last four by twos
+abbrev pub packedPair : ℕ → ℕ
+packedPair n = digitOf (n / 10) + 0x100 * digitOf n
+
+abbrev pub packedOf : ℕ → Twos
+packedOf n = record { high = packedPair (n / 100); low = packedPair n }
 
 -- a digit of n that stands at a place, a power of ten; where n does not reach the place it is a leading zero, and left out
 unfoldable pub shownText : ℕ → ℕ → ℕ → List ℕ

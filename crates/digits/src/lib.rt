@@ -3,7 +3,7 @@ ghost use mathlib.Core.Path.{_≡_};
 ghost use mathlib.Core.List.{[], _∷_};
 ghost use Prim.Native.Nat.{_+_, _*_, _≤_, _<_};
 ghost use lib.ListN.{length};
-ghost use Rattle.digits.specs.Digits.{hexOf, lower, upper, pairText, hexText, pairsOf, entryText, hexDigit, hexValue, pairValue, hexDigits, placesOf, decimalText, Writing};
+ghost use Rattle.digits.specs.Digits.{hexOf, lower, upper, pairText, hexText, pairsOf, entryText, hexDigit, hexValue, pairValue, hexDigits, placesOf, packedPair, packedOf, decimalText, Writing};
 
 // ---- bytes
 
@@ -177,7 +177,7 @@ pub fn upper_byte(a: u8, b: u8) -> u8
 // ---- decimal
 
 // The five digits of a number.
-pub fn places(n: usize) -> [u8; 5]
+fn places(n: usize) -> [u8; 5]
     ensures { λ r. ⌜ r ≡ placesOf n ⌝ }
 {
     [
@@ -189,23 +189,63 @@ pub fn places(n: usize) -> [u8; 5]
     ]
 }
 
-// The five digits of n made those of n + 1: ninety-nine times of a hundred one or two of them change, and nothing is divided.
-pub fn count_up(n: usize, five: &mut [u8; 5])
-    requires { ⌜ n < 100000 ⌝ }
-    requires { ⌜ now five ≡ placesOf n ⌝ }
-    ensures { λ _. ⌜ now (five .exit) ≡ placesOf (n + 1) ⌝ }
+// The last four digits of a number, packed by twos: of each two the first is the lower byte, so that the compiler stores both at once.
+pub struct Twos {
+    pub high: u16,
+    pub low: u16,
+}
+
+// The last two digits of a number.
+fn packed_pair(n: usize) -> u16
+    ensures { λ r. ⌜ r ≡ packedPair n ⌝ }
 {
-    if five[4] < b'9' {
-        five[4] = five[4] + 1;
-        return;
+    ((48 + n / 10 % 10) + 0x100 * (48 + n % 10)) as u16
+}
+
+pub fn packed(n: usize) -> Twos
+    ensures { λ r. ⌜ r ≡ packedOf n ⌝ }
+{
+    Twos {
+        high: packed_pair(n / 100),
+        low: packed_pair(n),
     }
-    if five[3] < b'9' {
-        five[3] = five[3] + 1;
-        five[4] = b'0';
-        return;
+}
+
+// Those of n made those of n + 1: ninety-nine times of a hundred one or two of them change, and nothing is divided but by 256.
+pub fn counted_up(n: usize, p: Twos) -> Twos
+    requires { ⌜ n < 100000 ⌝ }
+    requires { ⌜ p ≡ packedOf n ⌝ }
+    ensures { λ r. ⌜ r ≡ packedOf (n + 1) ⌝ }
+{
+    if p.low < 0x3900 {
+        Twos {
+            high: p.high,
+            low: p.low + 0x100,
+        }
+    } else {
+        if p.low % 256 < 57 {
+            Twos {
+                high: p.high,
+                low: p.low + 1 - 9 * 0x100,
+            }
+        } else {
+            packed(n + 1)
+        }
     }
-    let next = places(n + 1);
-    *five = next;
+}
+
+// The five digits of a number, of which the last four are packed.
+pub fn unpacked(p: Twos, n: usize) -> [u8; 5]
+    requires { ⌜ p ≡ packedOf n ⌝ }
+    ensures { λ r. ⌜ r ≡ placesOf n ⌝ }
+{
+    [
+        (48 + n / 10000 % 10) as u8,
+        (p.high % 256) as u8,
+        (p.high / 256) as u8,
+        (p.low % 256) as u8,
+        (p.low / 256) as u8,
+    ]
 }
 
 // A number whose five digits are at hand: those from its first one on. How many they are is asked first, so that each stands at a known distance.

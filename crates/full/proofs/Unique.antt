@@ -4,7 +4,7 @@ use Rattle.once.specs.Once.{Once}
 use Rattle.full.proofs.Average.averaged
 use Rattle.full.proofs.Average.found
 use Rattle.full.proofs.Since.lowered
-use Rattle.full.proofs.settled
+use Rattle.full.proofs.filled
 
 pub averaged-once : Once averaged.ended averaged.Reads.Pre averaged.Reads.Learnt
 averaged-once κs a r r′ w w′ p h h′ = (h ∙ sym h′, refl)
@@ -15,5 +15,5 @@ found-once κs a r r′ w w′ p h h′ = (h ∙ sym h′, refl)
 pub lowered-once : Once lowered.ended lowered.Reads.Pre lowered.Reads.Learnt
 lowered-once κs a r r′ w w′ p h h′ = (h ∙ sym h′, refl)
 
-pub settled-once : Once settled.ended settled.Reads.Pre settled.Reads.Learnt
-settled-once κs a r r′ w w′ p h h′ = (h ∙ sym h′, refl)
+pub filled-once : Once filled.ended filled.Reads.Pre filled.Reads.Learnt
+filled-once κs a r r′ w w′ p h h′ = (h ∙ sym h′, refl)

@@ -4,7 +4,7 @@ use params::Limits;
 ghost use mathlib.Core.Path.{_≡_};
 ghost use Prim.Native.Nat.{_≤_};
 ghost use Rattle.charge.specs.Charge.{ChargeWF};
-ghost use Rattle.full.specs.Full.{AverageWF, averagedOf, loweredOf, tapersOf, foundOf, learntOf, filledOf, settledOf};
+ghost use Rattle.full.specs.Full.{AverageWF, averagedOf, loweredOf, tapersOf, foundOf, learntOf, filledOf};
 
 // The conversions since power-on, modulo 1,024, which modulo 8 are those of the run of eight; the sum of their c; IAVG, and whether there is one.
 pub struct Average {
@@ -89,7 +89,7 @@ fn learnt(acr: u16, full: u16, full40: u16) -> u8
 }
 
 // Step 6, where full is found.
-fn filled(mut g: Charge, full: u16, full40: u16) -> Charge
+pub fn filled(mut g: Charge, full: u16, full40: u16) -> Charge
     requires { ⌜ ChargeWF g ⌝ }
     requires { ⌜ full ≤ 16384 ⌝ }
     ensures { λ r. ⌜ r ≡ filledOf g full full40 ⌝ }
@@ -100,13 +100,4 @@ fn filled(mut g: Charge, full: u16, full40: u16) -> Charge
     let acr = charge::share_up(charge::aged_full(full, aging), full40) as u16;
     g.aging = aging;
     g.set(acr, false)
-}
-
-// Step 6: the charge afterwards.
-pub fn settled(g: Charge, found: bool, full: u16, full40: u16) -> Charge
-    requires { ⌜ ChargeWF g ⌝ }
-    requires { ⌜ full ≤ 16384 ⌝ }
-    ensures { λ r. ⌜ r ≡ settledOf g found full full40 ⌝ }
-{
-    if found { filled(g, full, full40) } else { g }
 }

@@ -82,7 +82,7 @@ impl Flow {
 }
 
 impl Meter {
-    // Step 6 of a conversion, and CURRENT. What full asks of the block is taken at an eighth conversion only.
+    // Step 6 of a conversion, and CURRENT. The limits are taken at an eighth conversion only, and Full40 only where full is found.
     fn flowed(mut self, c: u16) -> Meter
         requires { ⌜ MeterWF self ⌝ }
         ensures { λ r. ⌜ r ≡ flowedOf self (limitsOf (self .cells .block .shadow)) (capacityOf (self .cells .block .shadow) .full40) c ⌝ }
@@ -94,7 +94,7 @@ impl Meter {
             let p = Limits::of(&self.cells.block.shadow);
             if flow.average.found(flow.since, p, c) {
                 let full = Capacity::of(&self.cells.block.shadow);
-                self.charge = full::settled(self.charge, true, self.shown.model.full, full.full40);
+                self.charge = full::filled(self.charge, self.shown.model.full, full.full40);
                 self.shown.flags.chgtf = true;
             }
             flow.since.any = false;

@@ -25,10 +25,10 @@ pub struct Reading {
 }
 
 pub struct Flags {
-    pub porf: bool,
-    pub chgtf: bool,
     pub aef: bool,
+    pub chgtf: bool,
     pub sef: bool,
+    pub porf: bool,
 }
 
 // The saved cells: ACR, AS and the cycle counter.

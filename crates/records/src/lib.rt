@@ -37,7 +37,7 @@ pub fn empty() -> Session
     }
 }
 
-// The match on the event stands in the loop itself, so that no state goes through a result.
+// The match on the event stands in the loop itself, so that no state goes through a result. A record that is cut ends the loop, and is answered behind it.
 fn run_all(s: &[u8], room: &mut [u8], answers: &mut [u64]) -> Ran
     requires { ⌜ length (now s) ≤ 32768 ⌝ }
     requires { ⌜ (length (now s) + 3) / 4 ≤ length (now answers) ⌝ }

@@ -14,7 +14,7 @@ use Rattle.profile.specs.declared.Profile.{Profile}
 use Rattle.charge.specs.declared.Charge.{Charge}
 use Rattle.charge.specs.Charge.{ChargeWF, acrOf, fallOf, grownOf, addedOf, agedOf, turnedOf, negative, countedOf, blankedOf}
 use Rattle.charge.proofs.Laws.{counted-wf}
-use Rattle.samples.specs.Stretch.{grownOver, addsOver, dropsOver, ageOver, agingOver, wornOver, countOver, fallenOver, emptyOver, chargeOver}
+use Rattle.samples.specs.Stretch.{grownOver, addsOver, dropsOver, ageOver, agingOver, wornOver, countOver, fallenOver, emptyOver, chargeOver, learnfOver}
 use Rattle.samples.proofs.Numbers.{either-way, reached, clamped-more, rises, falls, rises-on, falls-on, lost, lost-fits, lost-due, lost-still}
 
 -- ---- step 3
@@ -197,7 +197,7 @@ module _ (f : Profile) (p : Counting) (g : Charge) (last c : ℕ) (w : ChargeWF 
   }
 
   pub charge-one : countedOf f p g last c ≡ chargeOver f p g last c 1
-  unfolding countedOf chargeOver
+  unfolding countedOf chargeOver wornOver learnfOver
   charge-one =
       let x = added-one (g .mark) (g .count) counted (p .ab) (w .count) in
       let few = subst (λ (y : ℕ). fallOf (g .count) y ≤ 9) x (added-few (g .mark) (g .count) counted (p .ab) (w .count)) in
@@ -265,7 +265,7 @@ module _ (f : Profile) (p : Counting) (g : Charge) (last c : ℕ) (w : ChargeWF 
     aged-both :
         let x = agedOf (p .ac) (chargeOver f p g last c k .age + fallOf x1 x2) (chargeOver f p g last c k .aging) in
         (x .age ≡ chargeOver f p g last c (suc k) .age) × (x .aging ≡ chargeOver f p g last c (suc k) .aging)
-    unfolding chargeOver
+    unfolding chargeOver wornOver learnfOver
     aged-both =
         let few : fallOf x1 x2 ≤ 9 = rw (← after) (fall-few (g .count) counted (p .ab) n (w .count)) in
         let a = aged-more (p .ac) (fallenOver f p g c k) (fallOf x1 x2) k (g .aging) few in (
@@ -275,15 +275,15 @@ module _ (f : Profile) (p : Counting) (g : Charge) (last c : ℕ) (w : ChargeWF 
 
     learnf-both :
         butNot (butNot (chargeOver f p g last c k .learnf) (turnedOf c c)) (eqb (acrOf x2) 0) ≡ chargeOver f p g last c (suc k) .learnf
-    unfolding chargeOver
+    unfolding chargeOver wornOver learnfOver
     learnf-both =
         let l = butNot (g .learnf) (turnedOf last c) in
-        ap (λ (t : Bool). butNot (butNot (butNot l (emptyOver f p g c k)) t) (eqb (acrOf x2) 0)) (turned-same c) ∙
+        ap (λ (t : Bool). butNot (butNot (butNot l (emptyOver f p g c (countOver f p g c k))) t) (eqb (acrOf x2) 0)) (turned-same c) ∙
         learnf-more l (eqb (acrOf (countOver f p g c 1)) 0) (eqb (acrOf x1) 0) (eqb (acrOf x2) 0)
         (empties (countOver f p g c 1) x1 x2 from-first)
 
     pub charge-more : countedOf f p (chargeOver f p g last c k) c c ≡ chargeOver f p g last c (suc k)
-    unfolding countedOf chargeOver
+    unfolding countedOf chargeOver wornOver learnfOver
     charge-more =
         ap (next (chargeOver f p g last c k) c) (grown-more (g .count) counted (p .ab) n (w .count) ∙ after) ∙
         (λ i. record { count = x2; age = aged-both .0 i; aging = aged-both .1 i; learnf = learnf-both i; mark = false })
@@ -292,7 +292,7 @@ module _ (f : Profile) (p : Counting) (g : Charge) (last c : ℕ) (w : ChargeWF 
     pub charge-falls :
         fallOf (g .count) (chargeOver f p g last c k .count) + fallOf (chargeOver f p g last c k .count) (chargeOver f p g last c (suc k) .count) ≡
         fallOf (g .count) (chargeOver f p g last c (suc k) .count)
-    unfolding chargeOver
+    unfolding chargeOver wornOver learnfOver
     charge-falls = falls-join
 
   -- ---- what is kept

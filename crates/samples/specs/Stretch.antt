@@ -58,22 +58,21 @@ fallenOver f p g c k = g .age + fallOf (g .count) (countOver f p g c k)
 
 -- step 5: ACR is 0 after some conversion where it is after the first or the last, since it goes one way
 abbrev pub emptyOver : Profile → Counting → Charge → ℕ → ℕ → Bool
-emptyOver f p g c k = either (eqb (acrOf (countOver f p g c 1)) 0) (eqb (acrOf (countOver f p g c k)) 0)
+emptyOver f p g c count = either (eqb (acrOf (countOver f p g c 1)) 0) (eqb (acrOf count) 0)
 
 -- LEARNF, which steps 1 and 5 clear; count is that after the last
 unfoldable pub learnfOver : Profile → Counting → Charge → ℕ → ℕ → ℕ → Bool
 learnfOver f p g last c count =
-    butNot (butNot (g .learnf) (turnedOf last c)) (either (eqb (acrOf (countOver f p g c 1)) 0) (eqb (acrOf count) 0))
+    butNot (butNot (g .learnf) (turnedOf last c)) (emptyOver f p g c count)
 
 unfoldable pub chargeOver : Profile → Counting → Charge → ℕ → ℕ → ℕ → Charge
 chargeOver f p g last c k =
-    let age = fallenOver f p g c k in
-    let drops = dropsOver (p .ac) age k in
+    let worn = wornOver (p .ac) (fallenOver f p g c k) (g .aging) k in
     record {
       count = countOver f p g c k;
-      age = ageOver (p .ac) age drops;
-      aging = agingOver (g .aging) drops;
-      learnf = butNot (butNot (g .learnf) (turnedOf last c)) (emptyOver f p g c k);
+      age = worn .age;
+      aging = worn .aging;
+      learnf = learnfOver f p g last c (countOver f p g c k);
       mark = false;
     }
 

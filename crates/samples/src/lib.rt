@@ -192,7 +192,7 @@ fn flowed_over(mut m: Meter, p: Limits, full40: u16, c: u16, k: u16) -> Meter
     if 8 <= (flow.average.made % 8) as u32 + (k as u32) {
         let seven = seventh(flow.average, c);
         if seven.found(flow.since, p, c) {
-            m.charge = full::settled(m.charge, true, m.shown.model.full, full40);
+            m.charge = full::filled(m.charge, m.shown.model.full, full40);
             m.shown.flags.chgtf = true;
         }
         flow.since.any = false;

@@ -14,15 +14,16 @@ fn put_codes(codes: &[u64], replies: &[u8], out: &mut [u8], at: usize) -> usize
     ensures { λ r. ⌜ Writing (17 * length (now (codes .entry)) + 2 * length (now (replies .entry))) (codesText 1 (now (codes .entry)) (now (replies .entry))) (now (out .entry)) at r (now (out .exit)) ⌝ }
 {
     let table = digits::lower_pairs();
-    let mut five = digits::places(1);
+    let mut four = digits::packed(1);
     let mut next = at;
     let mut used = 0;
     let mut i = 0;
     while i < codes.len() {
         let code = codes[i];
         i += 1;
+        let five = digits::unpacked(four, i);
         let start = digits::put_places(&five, i, out, next);
-        digits::count_up(i, &mut five);
+        four = digits::counted_up(i, four);
         if code < 655360 {
             if code < 256 {
                 let end = line::put_done(&table, code as u8, out, start);
