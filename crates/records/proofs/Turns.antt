@@ -2,11 +2,9 @@
 use mathlib.Core.Path.{_≡_, refl, sym, ap, subst, _∙_}
 use mathlib.Core.Bool.{Bool, true, false}
 use mathlib.Core.List.{List, _++_}
-use Prim.Native.Nat.{ℕ, _+_, _-_, _≤_, _<_}
-use native.Mathlib.Omega.{arith}
-use lib.ListN.{length, take, drop, set, length-drop}
+use Prim.Native.Nat.{ℕ, _+_, _-_, _≤_}
+use lib.ListN.{length, take, drop}
 use Rattle.parts.specs.Parts.{part, pairAt}
-use Rattle.parts.proofs.Laws.{part-rest}
 use Rattle.bus.specs.declared.Transaction.{Transaction}
 use Rattle.gauge.specs.declared.Gauge.{Gauge}
 use Rattle.gauge.specs.Gauge.{GaugeWF}
@@ -16,18 +14,15 @@ use Rattle.events.specs.declared.Event.the-variants.{Transact}
 use Rattle.events.specs.declared.Taken.the-variants as taken
 use Rattle.events.specs.Record.{masterOf}
 use Rattle.events.proofs.Fits.{Taking, timed-taking}
-use Rattle.runs.specs.declared.Outcome.the-variants.{Done}
-use Rattle.runs.specs.Record.{Rec, wholeOf}
-use Rattle.runs.specs.Run.{silently, codeOf, Running}
-use Rattle.runs.proofs.Records.{whole-head, size-cut}
-use Rattle.runs.proofs.Going.{going-end, going-more}
+use Rattle.runs.specs.Record.{Rec}
+use Rattle.runs.specs.Run.{silently, codeOf}
 use Rattle.steps.specs.declared.Session.{Session}
 use Rattle.steps.specs.declared.Asked.the-variants as asked
 use Rattle.steps.specs.declared.Record.{Record}
 use Rattle.steps.specs.Steps.{recordBy}
 use Rattle.steps.specs.Step.{SessionWF, loadedWith, lastTick, eventDid, ofSession, didOf}
-use Rattle.steps.proofs.Steps.{read-cut, session-replying, did-fits}
-use Rattle.steps.proofs.Fronts.{payloadOf, Ran, Front, front}
+use Rattle.steps.proofs.Steps.{session-replying}
+use Rattle.steps.proofs.Fronts.{payloadOf, Ran, Front}
 use Rattle.steps.proofs.Turns as every
 use Rattle.steps.proofs.Turns.{master-part}
 
@@ -77,18 +72,3 @@ module _ {σ : Session} {room : List ℕ} {used : ℕ} {l : List ℕ} {r : Recor
         let v = with-gauge w el eg (e ∙ ap (actOf (σ .gauge) t) (sym m)) in
         let b : back ≡ replyOf (σ .gauge) t (masterOf t (payloadOf (r .used) l)) ++ drop (t .count) (part (length room - used) room used) = rw m ea in
         every.turn-reply ofSession didOf did-same SessionWF f (v .1) session-replying x fits (v .0) b
-
--- ---- where the loop goes on, and where it ends before a record that is cut
-
-pub whole-more : (s : List ℕ) (at : ℕ) → wholeOf (part (length s - at) s at) ≡ true → at < length s
-whole-more s at w = omega (arith, whole-head (part (length s - at) s at) w, ap length (part-rest s at), length-drop at s)
-
-pub ended-cut : {start : Session} {s room₀ answers₀ : List ℕ} {loaded : Bool} {gauge : Gauge} {at used lines line : ℕ} {room answers : List ℕ}
-    → Stands start s room₀ answers₀ loaded gauge at used lines room answers → at < length s → wholeOf (part (length s - at) s at) ≡ false → line ≡ codeOf 0 2 0
-    → Running didOf start s room₀ answers₀ (record { outcome = Done; state = record { loaded = loaded; gauge = gauge }; lines = lines + 1; replied = used }) room (set answers lines line)
-ended-cut {start} {s} {loaded = loaded} {gauge} {at} {used} {room = room} g more w e =
-    let σ : Session = record { loaded = loaded; gauge = gauge } in
-    let l = part (length s - at) s at in
-    let f = front ofSession session-replying σ (length room - used) l (read-cut (ofSession .told σ) (length room - used) l w) in
-    let t = turn-idle f refl (g .wf .gauge) refl refl refl refl e in
-    going-end didOf start (going-more didOf start (g .going) more did-fits (part-rest s at) (sym (size-cut l w)) (t .left)) (omega (arith, ap length (part-rest s at), length-drop at s))

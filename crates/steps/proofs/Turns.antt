@@ -1,10 +1,12 @@
 -- What the arms of the match in a run's loop leave: the state and the room after the record at the front of l. Of any state, of which something
 -- holds that every record keeps.
 use mathlib.Core.Path.{_≡_, refl, sym, ap, subst, _∙_}
+use mathlib.Core.Logic.{_⊎_}
+use mathlib.Core.Bool.{true, false}
 use mathlib.Core.List.{List, [], _∷_, _++_}
 use Prim.Native.Nat.{ℕ, zero, suc, _+_, _-_, _≤_, _<_}
 use native.Mathlib.Omega.{arith}
-use lib.ListN.{length, take, drop, length-drop, length-take}
+use lib.ListN.{length, take, drop, set, length-drop, length-take}
 use lib.Seq.{take-nil, drop-drop}
 use Rattle.parts.specs.Parts.{part, put}
 use Rattle.parts.proofs.Laws.{part-rest, put-part}
@@ -12,14 +14,25 @@ use Rattle.bus.specs.declared.Transaction.{Transaction}
 use Rattle.events.specs.declared.Event.{Event}
 use Rattle.events.specs.declared.Event.the-variants.{Transact}
 use Rattle.events.specs.Record.{Mastered, asksOf, masterOf}
-use Rattle.runs.specs.Record.{Rec, recOf, sizeOf}
-use Rattle.runs.specs.Run.{Did, silently, codeOf}
-use Rattle.runs.proofs.Going.{Turned, Going, going-size}
+use Rattle.runs.specs.declared.Outcome.the-variants.{Done}
+use Rattle.runs.specs.Record.{Rec, recOf, sizeOf, wholeOf}
+use Rattle.runs.specs.Run.{Did, silently, codeOf, Running}
+use Rattle.runs.proofs.Records.{whole-head, size-cut}
+use Rattle.runs.proofs.Lines.{Fits}
+use Rattle.runs.proofs.Going.{Turned, Going, going-size, going-end, going-more}
 use Rattle.steps.specs.declared.Asked.the-variants as asked
 use Rattle.steps.specs.declared.Record.{Record}
 use Rattle.steps.specs.Steps.{Steps, recordBy}
-use Rattle.steps.proofs.Steps.{Replying}
-use Rattle.steps.proofs.Fronts.{payloadOf, Ran, Front, idle}
+use Rattle.steps.proofs.Steps.{Replying, read-cut}
+use Rattle.steps.proofs.Fronts.{payloadOf, Ran, Front, front, idle}
+
+-- ---- the ways to the place where the arms of a match meet: the first, and those behind it
+
+abbrev pub First : {A B : Type 0} → A ⊎ B → Type 0
+First {A} x = A
+
+abbrev pub Later : {A B : Type 0} → A ⊎ B → Type 0
+Later {B = B} x = B
 
 -- ---- the master bytes of a transaction, as a part of the record
 
@@ -44,6 +57,10 @@ master-part end start l =
 pub master-starts : {S : Type 0} (k : Steps S) {σ : S} {room : ℕ} {l : List ℕ} {end : ℕ} {t : Transaction} → Ran k σ room l end (Transact t)
     → Mastered t (payloadOf end l) → 4 + t .start ≤ end
 master-starts k {l = l} {end} x m = omega (arith, x .head, m .starts, length-take (end - 4) (drop 4 l))
+
+-- a loop that goes on while a record is whole has bytes left
+pub whole-more : (s : List ℕ) (at : ℕ) → wholeOf (part (length s - at) s at) ≡ true → at < length s
+whole-more s at w = omega (arith, whole-head (part (length s - at) s at) w, ap length (part-rest s at), length-drop at s)
 
 -- the room that is left
 pub room-left : (room : List ℕ) (used : ℕ) → length (part (length room - used) room used) ≡ length room - used
@@ -120,3 +137,13 @@ module _ {S : Type 0} (k : Steps S) (did : S → ℕ → Rec → Did S) (same : 
 
     pub front-fits : r .used ≤ length (part (length s - at) s at)
     front-fits = omega (arith, front-within .0, ap length (part-rest s at), length-drop at s)
+
+  -- it ends before a record that is cut, which is told behind it
+  pub ended-cut : {start : S} {s room₀ answers₀ : List ℕ} {σ : S} {at used lines line : ℕ} {room answers : List ℕ}
+      → Fits did → Replying k → Stands start s room₀ answers₀ σ at used lines room answers → at < length s → wholeOf (part (length s - at) s at) ≡ false → line ≡ codeOf 0 2 0
+      → Running did start s room₀ answers₀ (record { outcome = Done; state = σ; lines = lines + 1; replied = used }) room (set answers lines line)
+  ended-cut {start} {s} {σ = σ} {at} {used} {room = room} fits replying g more w e =
+      let l = part (length s - at) s at in
+      let f = front k replying σ (length room - used) l (read-cut (k .told σ) (length room - used) l w) in
+      let t = turn-idle f (g .wf) refl refl refl refl e in
+      going-end did start (going-more did start (g .going) more fits (part-rest s at) (sym (size-cut l w)) (t .left)) (omega (arith, ap length (part-rest s at), length-drop at s))

@@ -37,7 +37,7 @@ use Rattle.steps.proofs.Turns as every
 use Rattle.steps.proofs.Turns.{master-part}
 use Rattle.slots.specs.declared.Tray.{Tray}
 use Rattle.slots.specs.Tray.{noGauge, packOf, storedOf, closedOf, packJoined, slotIn, againOf, namedSlot, trayReach, trayActed, trayReply, trayEvent, ofTray, trayDid, TrayWF}
-use Rattle.slots.proofs.Laws.{within, set-each, stored-wf}
+use Rattle.slots.proofs.Laws.{within, set-each}
 use Rattle.slots.proofs.Hearing.{tray-replying}
 use Rattle.slots.proofs.Fronts.{named-slot}
 use Rattle.slots.proofs.Taking.{TrayTaking, tray-taking}
@@ -78,24 +78,32 @@ set-itself {A} (x ∷ l) (suc i) d h = ap (λ (r : List A). x ∷ r) (set-itself
 
 -- other parts in a slot
 abbrev pub partsAt : Tray → ℕ → Label → Meter → Tray
-partsAt τ i l m = record { count = τ .count; closed = true; commons = τ .commons; labels = set (τ .labels) i l; meters = set (τ .meters) i m }
+partsAt τ i l m = record { count = τ .count; closed = τ .closed; commons = τ .commons; labels = set (τ .labels) i l; meters = set (τ .meters) i m }
 
 abbrev pub meterAt : Tray → ℕ → Meter → Tray
 meterAt τ i m = record { count = τ .count; closed = true; commons = τ .commons; labels = τ .labels; meters = set (τ .meters) i m }
 
 module _ (τ : Tray) (i : ℕ) (w : TrayWF τ) (h : i < 8) where
-  parts-stored : (g : Gauge) → g .common ≡ packOf τ i .common → partsAt τ i (g .label) (g .meter) ≡ closedOf (storedOf τ i g)
+  parts-stored : (g : Gauge) → g .common ≡ packOf τ i .common → partsAt τ i (g .label) (g .meter) ≡ storedOf τ i g
   parts-stored g e =
       let c = set-itself (τ .commons) i (noGauge .common) (omega (arith, w .sizes .0)) in
-      λ x. record { count = τ .count; closed = true; commons = (sym (ap (set (τ .commons) i) e ∙ c)) x; labels = set (τ .labels) i (g .label); meters = set (τ .meters) i (g .meter) }
+      λ x. record { count = τ .count; closed = τ .closed; commons = (sym (ap (set (τ .commons) i) e ∙ c)) x; labels = set (τ .labels) i (g .label); meters = set (τ .meters) i (g .meter) }
 
   meter-stored : (m : Meter) → meterAt τ i m ≡ closedOf (storedOf τ i (withMeter (packOf τ i) m))
   meter-stored m =
       let l = set-itself (τ .labels) i (noGauge .label) (omega (arith, w .sizes .1)) in
       (λ x. record { count = τ .count; closed = true; commons = τ .commons; labels = (sym l) x; meters = set (τ .meters) i m })
-      ∙ parts-stored (withMeter (packOf τ i) m) refl
+      ∙ ap closedOf (parts-stored (withMeter (packOf τ i) m) refl)
 
-  parts-wf : (l : Label) (m : Meter) → MeterWF m → TrayWF (partsAt τ i l m)
+  pub powered-stored : (b : Label) (d : Meter) {l : Label} {m : Meter} → l ≡ labelPoweredOf (getD (τ .labels) i b) → m ≡ restartedOf (getD (τ .meters) i d)
+      → partsAt τ i l m ≡ storedOf τ i (powerOnOf (packOf τ i))
+  unfolding powerOnOf
+  powered-stored b d {l} {m} el em =
+      let label : l ≡ labelPoweredOf (packOf τ i .label) = el ∙ ap labelPoweredOf (within (τ .labels) i b (noGauge .label) (omega (arith, w .sizes .1))) in
+      let meter : m ≡ restartedOf (packOf τ i .meter) = em ∙ ap restartedOf (within (τ .meters) i d (noGauge .meter) (omega (arith, w .sizes .2))) in
+      (λ x. partsAt τ i (label x) (meter x)) ∙ parts-stored (powerOnOf (packOf τ i)) refl
+
+  pub parts-wf : (l : Label) (m : Meter) → MeterWF m → TrayWF (partsAt τ i l m)
   parts-wf l m v = record {
     few = w .few;
     sizes = (w .sizes .0, length-set (τ .labels) i l ∙ w .sizes .1, length-set (τ .meters) i m ∙ w .sizes .2);
@@ -109,17 +117,21 @@ module _ (τ : Tray) (i : ℕ) (w : TrayWF τ) (h : i < 8) where
     packs = λ j. record { meter = set-each MeterWF (noGauge .meter) (τ .meters) i m v (λ k. w .packs k .meter) j };
   }
 
-module _ (τ : Tray) (n : ℕ) (g : Gauge) (w : TrayWF τ) where
-  join-wf : τ .count < 8 → GaugeWF g → TrayWF (packJoined τ g)
-  join-wf h v = record {
-    few = omega arith;
-    sizes = (
-      length-set (τ .commons) (τ .count) (g .common) ∙ w .sizes .0,
-      length-set (τ .labels) (τ .count) (g .label) ∙ w .sizes .1,
-      length-set (τ .meters) (τ .count) (g .meter) ∙ w .sizes .2,
-    );
-    packs = λ j. record { meter = set-each MeterWF (noGauge .meter) (τ .meters) (τ .count) (g .meter) (v .meter) (λ k. w .packs k .meter) j };
-  }
+pub joined-at : (τ : Tray) {i : ℕ} {g h : Gauge} → i ≡ τ .count → g ≡ h
+    → _≡_ {A = Tray} (record { count = τ .count + 1; closed = τ .closed; commons = set (τ .commons) i (g .common); labels = set (τ .labels) i (g .label); meters = set (τ .meters) i (g .meter) })
+    (packJoined τ h)
+joined-at τ ei eg = rw (ei, eg) refl
+
+pub join-wf : (τ : Tray) (g : Gauge) → TrayWF τ → τ .count < 8 → GaugeWF g → TrayWF (packJoined τ g)
+join-wf τ g w h v = record {
+  few = omega arith;
+  sizes = (
+    length-set (τ .commons) (τ .count) (g .common) ∙ w .sizes .0,
+    length-set (τ .labels) (τ .count) (g .label) ∙ w .sizes .1,
+    length-set (τ .meters) (τ .count) (g .meter) ∙ w .sizes .2,
+  );
+  packs = λ j. record { meter = set-each MeterWF (noGauge .meter) (τ .meters) (τ .count) (g .meter) (v .meter) (λ k. w .packs k .meter) j };
+}
 
 -- ---- what changes the meter alone
 
@@ -142,47 +154,32 @@ module _ {τ : Tray} {room : List ℕ} {used : ℕ} {l : List ℕ} {r : Record} 
   pub turn-idle : r .event ≡ asked.Nothing → σ ≡ τ → after ≡ room → next ≡ used → line ≡ codeOf (r .kind) (r .answer) 0 → Turn τ room used l σ after next line
   turn-idle a e = every.turn-idle ofTray trayDid did-same TrayWF f (subst TrayWF (sym e) w) a e
 
-  pub turn-image : {k : Profile} {i : ℕ} {g : Gauge} → Ran ofTray τ (length room - used) l (r .used) (Image k) → i ≡ τ .count → GaugeWF g
-      → g ≡ imageOf k (payloadOf (r .used) l)
-      → σ ≡ record { count = τ .count + 1; closed = τ .closed; commons = set (τ .commons) i (g .common); labels = set (τ .labels) i (g .label); meters = set (τ .meters) i (g .meter) }
+  pub turn-image : {k : Profile} {θ : Tray} → Ran ofTray τ (length room - used) l (r .used) (Image k) → TrayWF θ
+      → θ ≡ packJoined τ (imageOf k (payloadOf (r .used) l)) → σ ≡ θ
       → after ≡ room → next ≡ used → line ≡ codeOf (r .kind) (r .answer) 0 → Turn τ room used l σ after next line
-  turn-image {k} {i} {g} x ei v eg e =
-      let joined : σ ≡ packJoined τ (imageOf k (payloadOf (r .used) l)) = e ∙ rw (ei, eg) refl in
-      let kept = join-wf τ i (imageOf k (payloadOf (r .used) l)) w (ran-taking x .1) (subst GaugeWF eg v) in
-      every.turn-silent ofTray trayDid did-same TrayWF f (subst TrayWF (sym joined) kept) x (ap (λ (s : Tray). silently s 0) (sym joined))
+  turn-image x v e eσ =
+      every.turn-silent ofTray trayDid did-same TrayWF f (subst TrayWF (sym eσ) v) x (ap (λ (s : Tray). silently s 0) (sym (eσ ∙ e)))
 
-  -- an event of a slot: its pack's label and meter afterwards
+  -- an event of a slot: its pack afterwards
   module _ {c : Changes} {i : ℕ} (x : Ran ofTray τ (length room - used) l (r .used) (Change c)) (ei : i ≡ namedSlot l) where
-    done : {g : Gauge} → changedOf (packOf τ (slotIn (payloadOf (r .used) l))) c ≡ g → σ ≡ closedOf (storedOf τ (slotIn (payloadOf (r .used) l)) g) → GaugeWF g
+    done : {g : Gauge} → changedOf (packOf τ i) c ≡ g → σ ≡ closedOf (storedOf τ i g) → TrayWF σ
         → after ≡ room → next ≡ used → line ≡ codeOf (r .kind) (r .answer) 0 → Turn τ room used l σ after next line
     done {g} eg e v =
-        let p = payloadOf (r .used) l in
-        let s : σ ≡ closedOf (storedOf τ (slotIn p) (changedOf (packOf τ (slotIn p)) c)) = e ∙ ap (λ (h : Gauge). closedOf (storedOf τ (slotIn p) h)) (sym eg) in
-        let u = stored-wf τ (slotIn p) g w v in
-        every.turn-silent ofTray trayDid did-same TrayWF f
-        (subst TrayWF (sym e) (record { few = u .few; sizes = u .sizes; packs = u .packs })) x (ap (λ (t : Tray). silently t 0) (sym s))
+        let s : σ ≡ closedOf (storedOf τ (slotIn (payloadOf (r .used) l)) (changedOf (packOf τ (slotIn (payloadOf (r .used) l))) c)) =
+        e ∙ ap (λ (h : Gauge). closedOf (storedOf τ i h)) (sym eg) ∙ ap (λ (j : ℕ). closedOf (storedOf τ j (changedOf (packOf τ j) c))) (slot-named w x ei) in
+        every.turn-silent ofTray trayDid did-same TrayWF f v x (ap (λ (t : Tray). silently t 0) (sym s))
 
     pub turn-meter : (M : Meter → Meter) → ((g : Gauge) → changedOf g c ≡ withMeter g (M (g .meter))) → (d : Meter) {m : Meter} → MeterWF m → m ≡ M (getD (τ .meters) i d)
         → σ ≡ meterAt τ i m → after ≡ room → next ≡ used → line ≡ codeOf (r .kind) (r .answer) 0 → Turn τ room used l σ after next line
     turn-meter M by d {m} v em e =
-        let k = slotIn (payloadOf (r .used) l) in
-        let inside = slot-inside w x in
-        let slot-is = slot-named w x ei in
-        let same : m ≡ M (packOf τ k .meter) = em ∙ ap M (within (τ .meters) i d (noGauge .meter) (omega (arith, slot-is, inside, w .sizes .2)) ∙ ap (λ (j : ℕ). packOf τ j .meter) slot-is) in
-        done (by (packOf τ k)) (e ∙ ap (λ (j : ℕ). meterAt τ j m) slot-is ∙ ap (meterAt τ k) same ∙ meter-stored τ k w inside (M (packOf τ k .meter))) (record { meter = subst MeterWF same v })
+        let inside : i < 8 = omega (arith, slot-named w x ei, slot-inside w x) in
+        let same : m ≡ M (packOf τ i .meter) = em ∙ ap M (within (τ .meters) i d (noGauge .meter) (omega (arith, inside, w .sizes .2))) in
+        done (by (packOf τ i) ∙ ap (withMeter (packOf τ i)) (sym same)) (e ∙ meter-stored τ i w inside m) (subst TrayWF (sym e) (meter-wf τ i w inside m v))
 
-    pub turn-powered : c ≡ PowerOn → (b : Label) (d : Meter) {n : Label} {m : Meter} → MeterWF m → n ≡ labelPoweredOf (getD (τ .labels) i b) → m ≡ restartedOf (getD (τ .meters) i d)
-        → σ ≡ partsAt τ i n m → after ≡ room → next ≡ used → line ≡ codeOf (r .kind) (r .answer) 0 → Turn τ room used l σ after next line
-    unfolding powerOnOf
-    turn-powered ec b d {n} {m} v en em e =
-        let k = slotIn (payloadOf (r .used) l) in
-        let inside = slot-inside w x in
-        let slot-is = slot-named w x ei in
-        let label : n ≡ labelPoweredOf (packOf τ k .label) = en ∙ ap labelPoweredOf (within (τ .labels) i b (noGauge .label) (omega (arith, slot-is, inside, w .sizes .1)) ∙ ap (λ (j : ℕ). packOf τ j .label) slot-is) in
-        let meter : m ≡ restartedOf (packOf τ k .meter) = em ∙ ap restartedOf (within (τ .meters) i d (noGauge .meter) (omega (arith, slot-is, inside, w .sizes .2)) ∙ ap (λ (j : ℕ). packOf τ j .meter) slot-is) in
-        done (ap (changedOf (packOf τ k)) ec)
-        (e ∙ ap (λ (j : ℕ). partsAt τ j n m) slot-is ∙ (λ y. partsAt τ k (label y) (meter y)) ∙ parts-stored τ k w inside (powerOnOf (packOf τ k)) refl)
-        (record { meter = subst MeterWF meter v })
+    pub turn-powered : c ≡ PowerOn → {θ : Tray} → TrayWF θ → θ ≡ storedOf τ i (powerOnOf (packOf τ i))
+        → σ ≡ closedOf θ → after ≡ room → next ≡ used → line ≡ codeOf (r .kind) (r .answer) 0 → Turn τ room used l σ after next line
+    turn-powered ec v e eσ =
+        done (ap (changedOf (packOf τ i)) ec) (eσ ∙ ap closedOf e) (subst TrayWF (sym eσ) (record { few = v .few; sizes = v .sizes; packs = v .packs }))
 
   -- a transaction: its master bytes were lent, and the room that is left
   pub turn-transact : {t : Transaction} {back : List ℕ} {θ : Tray} → Ran ofTray τ (length room - used) l (r .used) (Transact t) → used ≤ length room → TrayWF θ

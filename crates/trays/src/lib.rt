@@ -7,16 +7,19 @@ use gauge::Gauge;
 use label::Common;
 use label::Label;
 use meter::Meter;
+use profile::Profile;
 use runs::Outcome;
 use slots::Tray;
 use steps::Asked;
 use ticks::Tick;
 ghost use mathlib.Core.Path.{_≡_};
-ghost use Prim.Native.Nat.{_+_, _/_, _≤_};
+ghost use Prim.Native.Nat.{_+_, _/_, _≤_, _<_};
 ghost use lib.ListN.{length};
 ghost use Rattle.runs.specs.Run.{Running, Runs};
-ghost use Rattle.pack.specs.Image.{sizeFor};
-ghost use Rattle.slots.specs.Tray.{TrayWF, emptyTray, packOf, trayDid};
+ghost use Rattle.profile.specs.Profile.{imageSizeOf};
+ghost use Rattle.gauge.specs.Gauge.{powerOnOf};
+ghost use Rattle.pack.specs.Image.{imageOf, sizeFor};
+ghost use Rattle.slots.specs.Tray.{TrayWF, emptyTray, packOf, packJoined, storedOf, trayDid};
 ghost use Rattle.trays.specs.Run.{trayResultOf, trayIdleOf, SlotOut};
 
 // What a tray session did: the state at its end, how many lines it has, and how many bytes of reply.
@@ -27,7 +30,43 @@ pub struct Ran {
     pub replied: usize,
 }
 
-// The match on the event stands in the loop itself, where a slot's parts are taken out and stored back, so that no tray goes through a result but that of a transaction.
+// A tray with the pack of an image more.
+fn joined(before: Tray, f: Profile, image: &[u8]) -> Tray
+    requires { ⌜ TrayWF before × (before .count < 8) × (length (now image) ≡ imageSizeOf f) ⌝ }
+    ensures { λ r. ⌜ r ≡ packJoined before (imageOf f (now (image .entry))) ⌝ }
+    ensures kept { λ r. ⌜ TrayWF r ⌝ }
+{
+    let mut tray = before;
+    let n = parts::wide(tray.count);
+    let g = pack::image_in(f, image);
+    let common = g.common;
+    let label = g.label;
+    let meter = g.meter;
+    tray.commons[n] = common;
+    tray.labels[n] = label;
+    tray.meters[n] = meter;
+    tray.count = tray.count + 1;
+    tray
+}
+
+// A tray with a slot's pack powered on.
+fn powered(before: Tray, slot: usize) -> Tray
+    requires { ⌜ TrayWF before × (slot < 8) ⌝ }
+    ensures { λ r. ⌜ r ≡ storedOf before slot (powerOnOf (packOf before slot)) ⌝ }
+    ensures kept { λ r. ⌜ TrayWF r ⌝ }
+{
+    let mut tray = before;
+    let k = tray.labels[slot];
+    let m = tray.meters[slot];
+    let label = k.powered();
+    let next = m.restarted();
+    tray.labels[slot] = label;
+    tray.meters[slot] = next;
+    tray
+}
+
+// The match on the event stands in the loop itself, where a slot's meter is taken out and stored back, so that no tray goes through a result but
+// that of an image, a power-on or a transaction. A record that is cut ends the loop, and is answered behind it.
 fn run_all(s: &[u8], room: &mut [u8], answers: &mut [u64]) -> Ran
     requires { ⌜ length (now s) ≤ 32768 ⌝ }
     requires { ⌜ (length (now s) + 3) / 4 ≤ length (now answers) ⌝ }
@@ -37,7 +76,7 @@ fn run_all(s: &[u8], room: &mut [u8], answers: &mut [u64]) -> Ran
     let mut at = 0;
     let mut used = 0;
     let mut lines = 0;
-    while at < s.len() {
+    while runs::whole(&s[at..]) {
         let l = &s[at..];
         let slot = slots::slot(l);
         let mut again = false;
@@ -52,20 +91,13 @@ fn run_all(s: &[u8], room: &mut [u8], answers: &mut [u64]) -> Ran
         let r = slots::front(l, tray.count, tray.closed, again, last, room.len() - used);
         let end = r.used;
         let mut line = runs::code(r.kind, r.answer, 0);
+        at = at + end;
         let asked = r.event;
         match asked {
             Asked::Nothing => {}
             Asked::Run(e) => match e {
                 Event::Image(f) => {
-                    let n = parts::wide(tray.count);
-                    let g = pack::image_in(f, &l[4..end]);
-                    let common = g.common;
-                    let label = g.label;
-                    let meter = g.meter;
-                    tray.commons[n] = common;
-                    tray.labels[n] = label;
-                    tray.meters[n] = meter;
-                    tray.count = tray.count + 1;
+                    tray = joined(tray, f, &l[4..end]);
                 }
                 Event::Change(c) => {
                     match c {
@@ -85,12 +117,7 @@ fn run_all(s: &[u8], room: &mut [u8], answers: &mut [u64]) -> Ran
                             tray.meters[slot] = next;
                         }
                         Change::PowerOn => {
-                            let k = tray.labels[slot];
-                            let m = tray.meters[slot];
-                            let label = k.powered();
-                            let next = m.restarted();
-                            tray.labels[slot] = label;
-                            tray.meters[slot] = next;
+                            tray = powered(tray, slot);
                         }
                     }
                     tray.closed = true;
@@ -105,7 +132,10 @@ fn run_all(s: &[u8], room: &mut [u8], answers: &mut [u64]) -> Ran
             },
         }
         answers[lines] = line;
-        at = at + end;
+        lines = lines + 1;
+    }
+    if at < s.len() {
+        answers[lines] = runs::code(0, 2, 0);
         lines = lines + 1;
     }
     Ran {

@@ -14,9 +14,9 @@ use Rattle.steps.specs.Step.{SessionWF, ofSession, didOf}
 use Rattle.steps.proofs.Steps.{did-fits}
 use Rattle.steps.proofs.Steps.{session-replying}
 use Rattle.steps.proofs.Fronts.{Front, front, ran}
-use Rattle.steps.proofs.Turns.{master-starts, room-left, front-fits, front-within}
+use Rattle.steps.proofs.Turns.{master-starts, room-left, front-fits, front-within, whole-more, ended-cut, First, Later}
 use Rattle.records.specs.Run.{emptyOf}
-use Rattle.records.proofs.Turns.{did-same, Turn, Stands, ran-taking, turn-idle, turn-silent, turn-reply, whole-more, ended-cut}
+use Rattle.records.proofs.Turns.{did-same, Turn, Stands, ran-taking, turn-idle, turn-silent, turn-reply}
 use borrow.Author.Needs.{needs}
 use Rattle.records.proofs.run_all.Statement.{statement}
 use Rattle.records.proofs.run_all.Tie as tie
@@ -39,20 +39,56 @@ at-front : (c : tie.After-front Inv-loop μ-loop) → let l = c .before .before 
     Front ofSession (record { loaded = l .loaded; gauge = l .gauge }) (length (l .room) - l .used) (part (length s - l .at) s (l .at)) (c .front .result)
 at-front c = front ofSession session-replying _ _ _ (c .front .ensures)
 
--- what the arms of the match have in common
-turned : (c : tie.At-match-came Inv-loop μ-loop) → let l = c .before .before .before .before .before .before .before .loop in let s = now (c .before .before .before .before .before .before .before .before .before .before .before .before .before .args .s) in
-    Turn (record { loaded = l .loaded; gauge = l .gauge }) (l .room) (l .used) (part (length s - l .at) s (l .at)) (c .match .loaded) (c .match .gauge) (c .match .room) (c .match .used) (c .match .line)
-turned c =
-    let g = c .before .before .before .before .before .before .before .loop .inv in
-    let f = at-front (c .before .before) in
-    let n = c .before .code .ensures in
-    ⊎-elim (λ w. turn-idle f (w .1 .given .1) (g .wf .gauge) (w .3) (w .4) (w .2) (w .5) (w .6 ∙ n))
-    (⊎-elim (λ w. turn-silent f (w .7 .ensures .1) (w .9) (w .10) (ran ofSession f (w .1 .given .1 ∙ ap Run (w .4 .given .1))) (w .7 .ensures .0) refl (w .8) (w .11) (w .12 ∙ n))
-    (⊎-elim (λ w. turn-silent f (w .9 .ensures .1) (w .11) (w .12) (ran ofSession f (w .1 .given .1 ∙ ap Run (w .4 .given .1 ∙ ap Change (w .7 .given .1)))) (w .9 .ensures .0) refl (w .10) (w .13) (w .14 ∙ n))
-    (⊎-elim (λ w. turn-silent f (w .9 .ensures .1) (w .11) (w .12) (ran ofSession f (w .1 .given .1 ∙ ap Run (w .4 .given .1 ∙ ap Change (w .7 .given .1)))) (w .9 .ensures .0) refl (w .10) (w .13) (w .14 ∙ n))
-    (⊎-elim (λ w. turn-silent f (w .9 .ensures .1) (w .11) (w .12) (ran ofSession f (w .1 .given .1 ∙ ap Run (w .4 .given .1 ∙ ap Change (w .7 .given .1)))) (w .9 .ensures .0) refl (w .10) (w .13) (w .14 ∙ n))
-    (⊎-elim (λ w. turn-silent f (w .8 .ensures .1) (w .10) (w .11) (ran ofSession f (w .1 .given .1 ∙ ap Run (w .4 .given .1 ∙ ap Change (w .7 .given .1)))) (w .8 .ensures .0) refl (w .9) (w .12) (w .13 ∙ n))
-    (λ w. turn-reply f (w .9 .ensures .1 .1) (w .15) (w .16) (ran ofSession f (w .1 .given .1 ∙ ap Run (w .4 .given .1))) (omega (arith, g .going .used-fits, g .going .same-room)) (w .9 .ensures .0) (w .9 .ensures .1 .0) (w .14) (w .17) (w .18 ∙ w .13 .ensures))))))) (c .match .came)
+-- what each arm of the match leaves
+module _ (c : tie.At-match-came Inv-loop μ-loop) where
+  abbrev turn : Type 0
+  turn =
+      let l = c .before .before .before .before .before .before .before .loop in
+      let s = now (c .before .before .before .before .before .before .before .before .before .before .before .before .before .args .s) in
+      Turn (record { loaded = l .loaded; gauge = l .gauge }) (l .room) (l .used) (part (length s - l .at) s (l .at)) (c .match .loaded) (c .match .gauge) (c .match .room) (c .match .used) (c .match .line)
+
+  turned-none : First (c .match .came) → turn
+  turned-none w = turn-idle (at-front (c .before .before)) (w .1 .given .1) (c .before .before .before .before .before .before .before .loop .inv .wf .gauge) (w .3) (w .4) (w .2) (w .5) (w .6 ∙ c .before .code .ensures)
+
+  turned-image : (x : Later (c .match .came)) → First x → turn
+  turned-image x w =
+      let f = at-front (c .before .before) in
+      turn-silent f (w .7 .ensures .1) (w .9) (w .10) (ran ofSession f (w .1 .given .1 ∙ ap Run (w .4 .given .1))) (w .7 .ensures .0) refl (w .8) (w .11) (w .12 ∙ c .before .code .ensures)
+
+  turned-reading : (x : Later (c .match .came)) (y : Later x) → First y → turn
+  turned-reading x y w =
+      let f = at-front (c .before .before) in
+      turn-silent f (w .9 .ensures .1) (w .11) (w .12) (ran ofSession f (w .1 .given .1 ∙ ap Run (w .4 .given .1 ∙ ap Change (w .7 .given .1)))) (w .9 .ensures .0) refl (w .10) (w .13) (w .14 ∙ c .before .code .ensures)
+
+  turned-conversion : (x : Later (c .match .came)) (y : Later x) (z : Later y) → First z → turn
+  turned-conversion x y z w =
+      let f = at-front (c .before .before) in
+      turn-silent f (w .9 .ensures .1) (w .11) (w .12) (ran ofSession f (w .1 .given .1 ∙ ap Run (w .4 .given .1 ∙ ap Change (w .7 .given .1)))) (w .9 .ensures .0) refl (w .10) (w .13) (w .14 ∙ c .before .code .ensures)
+
+  turned-sample : (x : Later (c .match .came)) (y : Later x) (z : Later y) (v : Later z) → First v → turn
+  turned-sample x y z v w =
+      let f = at-front (c .before .before) in
+      turn-silent f (w .9 .ensures .1) (w .11) (w .12) (ran ofSession f (w .1 .given .1 ∙ ap Run (w .4 .given .1 ∙ ap Change (w .7 .given .1)))) (w .9 .ensures .0) refl (w .10) (w .13) (w .14 ∙ c .before .code .ensures)
+
+  turned-power-on : (x : Later (c .match .came)) (y : Later x) (z : Later y) (v : Later z) (u : Later v) → First u → turn
+  turned-power-on x y z v u w =
+      let f = at-front (c .before .before) in
+      turn-silent f (w .8 .ensures .1) (w .10) (w .11) (ran ofSession f (w .1 .given .1 ∙ ap Run (w .4 .given .1 ∙ ap Change (w .7 .given .1)))) (w .8 .ensures .0) refl (w .9) (w .12) (w .13 ∙ c .before .code .ensures)
+
+  turned-transaction : (x : Later (c .match .came)) (y : Later x) (z : Later y) (v : Later z) (u : Later v) → Later u → turn
+  turned-transaction x y z v u w =
+      let g = c .before .before .before .before .before .before .before .loop .inv in
+      let f = at-front (c .before .before) in
+      turn-reply f (w .9 .ensures .1 .1) (w .15) (w .16) (ran ofSession f (w .1 .given .1 ∙ ap Run (w .4 .given .1))) (omega (arith, g .going .used-fits, g .going .same-room)) (w .9 .ensures .0) (w .9 .ensures .1 .0) (w .14) (w .17) (w .18 ∙ w .13 .ensures)
+
+  turned : turn
+  turned =
+      ⊎-elim turned-none
+      (λ x. ⊎-elim (turned-image x)
+      (λ y. ⊎-elim (turned-reading x y)
+      (λ z. ⊎-elim (turned-conversion x y z)
+      (λ v. ⊎-elim (turned-sample x y z v)
+      (λ u. ⊎-elim (turned-power-on x y z v u) (turned-transaction x y z v u) u) v) z) y) x) (c .match .came)
 
 loop-holds : tie.Need-loop-holds Inv-loop μ-loop
 loop-holds c = rw (c .before .empty .ensures .0) (record { going = going-start didOf emptyOf _ _ _; wf = rw (c .before .empty .ensures .0) at (c .before .empty .ensures .1) })
@@ -172,7 +208,7 @@ same-length-2 c =
 returns : tie.Need-returns Inv-loop μ-loop
 returns c =
     let d = c .before .before in
-    ended-cut (d .before .before .before .loop .inv) (c .before .if2 .taken) (sym (d .before .whole .ensures) ∙ d .if1 .left) (c .code3 .ensures)
+    ended-cut ofSession didOf did-same SessionWF did-fits session-replying (d .before .before .before .loop .inv) (c .before .if2 .taken) (sym (d .before .whole .ensures) ∙ d .if1 .left) (c .code3 .ensures)
 
 same-length-3 : tie.Need-same-length-3 Inv-loop μ-loop
 same-length-3 c = c .before .before .before .before .loop .inv .going .same-room
