@@ -5,6 +5,9 @@ A scene is a function that adds records to a session; a profile is one that make
 `@tray_profile` does the same with sessions of trays. A pack of a tray is a session too, so that any scene can be played on it.
 """
 
+import struct
+
+HEADER = struct.Struct("<HH")  # of a record: how many bytes its payload has, and its kind
 SESSION_LIMIT = 32768
 REPLY_ROOM = 65536
 IMAGE, READING, CONVERSION, TRANSACTION, POWER_ON, SAMPLE, LONG_TRANSACTION, CAMERA_IMAGE = 1, 2, 3, 4, 5, 6, 7, 8
@@ -60,11 +63,11 @@ def signed(value):
 
 
 def little(value, size):
-    return (value % 256 ** size).to_bytes(size, "little")
+    return (value & (1 << 8 * size) - 1).to_bytes(size, "little")
 
 
 def record(kind, payload):
-    return little(len(payload), 2) + little(kind, 2) + bytes(payload)
+    return HEADER.pack(len(payload), kind) + bytes(payload)
 
 
 class Session:

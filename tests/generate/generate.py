@@ -6,6 +6,7 @@ can aim at thresholds, but never works out what the gauge holds. Without a profi
 in a round. `generate.py SEED tray` writes a session of a tray, whose profile the seed chooses. builder.py has what sessions
 are made of, each file of scenes/ scenes and profiles of one theme.
 """
+import functools
 import importlib
 import pathlib
 import random
@@ -37,9 +38,13 @@ def tray_profile_of(seed):
     return TRAY_ROUND[seed % len(TRAY_ROUND)]
 
 
-def generate(seed, profile=None):
-    profile = profile or profile_of(seed)
+@functools.lru_cache(SEEDS + TRAY_SEEDS)  # a case asks for many of them several times
+def generated(seed, profile):
     return {**PROFILES, **TRAYS}[profile](random.Random(f"{profile} {seed}"))
+
+
+def generate(seed, profile=None):
+    return generated(seed, profile or profile_of(seed))
 
 
 def generate_tray(seed):

@@ -74,6 +74,15 @@ def compiled(to, *options, source=None):
     return to
 
 
+def shown(tries, differs):
+    """Whether a wrong program differs in one of the tries, which is put first: what shows one often shows the next."""
+    for at, tried in enumerate(tries):
+        if differs(*tried):
+            tries.insert(0, tries.pop(at))
+            return True
+    return False
+
+
 FAILED = set()
 
 

@@ -1,4 +1,7 @@
 """The three classes of document 01, worked out from its words and not from the crates, and sessions that are mixed anew by them."""
+import struct
+
+HEADER = struct.Struct("<HH")  # of a record: how many bytes its payload has, and its kind
 LABEL, GAUGE, FENCE = "label", "gauge", "fence"
 IMAGES = {1: 60, 8: 61}  # of the two kinds of image: the bytes of the payload
 COUNT_SIZE = {4: 1, 7: 2}  # of the two kinds of transaction: the bytes of the read count
@@ -18,8 +21,10 @@ def records(session):
 
 def kind_of(record):
     """The kind of a record; None where it is cut."""
-    whole = len(record) >= 4 and len(record) == 4 + int.from_bytes(record[:2], "little")
-    return int.from_bytes(record[2:4], "little") if whole else None
+    if len(record) < HEADER.size:
+        return None
+    size, kind = HEADER.unpack_from(record)
+    return kind if len(record) == HEADER.size + size else None
 
 
 def image_record(image):

@@ -24,6 +24,8 @@ static long long reads_of[256], writes_of[256];
 
 static void tell_reached(void)
 {
+    static char together[1 << 16]; /* and not each line by itself, as to standard error else */
+    setvbuf(stderr, together, _IOFBF, sizeof together);
     for (const Thing *thing = things; thing != NULL; thing = thing->next)
         fprintf(stderr, "%lld %s\n", thing->times, thing->name);
     for (int at = 0; at < 256; at++) {
