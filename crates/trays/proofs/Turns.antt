@@ -76,10 +76,11 @@ set-itself [] i d h = absurd (omega arith)
 set-itself (x ∷ l) zero d h = refl
 set-itself {A} (x ∷ l) (suc i) d h = ap (λ (r : List A). x ∷ r) (set-itself l i d (omega arith))
 
--- other parts in a slot
+-- another label and meter in a slot
 abbrev pub partsAt : Tray → ℕ → Label → Meter → Tray
 partsAt τ i l m = record { count = τ .count; closed = τ .closed; commons = τ .commons; labels = set (τ .labels) i l; meters = set (τ .meters) i m }
 
+-- another meter in a slot of a tray that is closed
 abbrev pub meterAt : Tray → ℕ → Meter → Tray
 meterAt τ i m = record { count = τ .count; closed = true; commons = τ .commons; labels = τ .labels; meters = set (τ .meters) i m }
 
@@ -95,7 +96,7 @@ module _ (τ : Tray) (i : ℕ) (w : TrayWF τ) (h : i < 8) where
       (λ x. record { count = τ .count; closed = true; commons = τ .commons; labels = (sym l) x; meters = set (τ .meters) i m })
       ∙ ap closedOf (parts-stored (withMeter (packOf τ i) m) refl)
 
-  pub powered-stored : (b : Label) (d : Meter) {l : Label} {m : Meter} → l ≡ labelPoweredOf (getD (τ .labels) i b) → m ≡ restartedOf (getD (τ .meters) i d)
+  powered-stored : (b : Label) (d : Meter) {l : Label} {m : Meter} → l ≡ labelPoweredOf (getD (τ .labels) i b) → m ≡ restartedOf (getD (τ .meters) i d)
       → partsAt τ i l m ≡ storedOf τ i (powerOnOf (packOf τ i))
   unfolding powerOnOf
   powered-stored b d {l} {m} el em =
@@ -103,7 +104,7 @@ module _ (τ : Tray) (i : ℕ) (w : TrayWF τ) (h : i < 8) where
       let meter : m ≡ restartedOf (packOf τ i .meter) = em ∙ ap restartedOf (within (τ .meters) i d (noGauge .meter) (omega (arith, w .sizes .2))) in
       (λ x. partsAt τ i (label x) (meter x)) ∙ parts-stored (powerOnOf (packOf τ i)) refl
 
-  pub parts-wf : (l : Label) (m : Meter) → MeterWF m → TrayWF (partsAt τ i l m)
+  parts-wf : (l : Label) (m : Meter) → MeterWF m → TrayWF (partsAt τ i l m)
   parts-wf l m v = record {
     few = w .few;
     sizes = (w .sizes .0, length-set (τ .labels) i l ∙ w .sizes .1, length-set (τ .meters) i m ∙ w .sizes .2);
@@ -176,10 +177,12 @@ module _ {τ : Tray} {room : List ℕ} {used : ℕ} {l : List ℕ} {r : Record} 
         let same : m ≡ M (packOf τ i .meter) = em ∙ ap M (within (τ .meters) i d (noGauge .meter) (omega (arith, inside, w .sizes .2))) in
         done (by (packOf τ i) ∙ ap (withMeter (packOf τ i)) (sym same)) (e ∙ meter-stored τ i w inside m) (subst TrayWF (sym e) (meter-wf τ i w inside m v))
 
-    pub turn-powered : c ≡ PowerOn → {θ : Tray} → TrayWF θ → θ ≡ storedOf τ i (powerOnOf (packOf τ i))
-        → σ ≡ closedOf θ → after ≡ room → next ≡ used → line ≡ codeOf (r .kind) (r .answer) 0 → Turn τ room used l σ after next line
-    turn-powered ec v e eσ =
-        done (ap (changedOf (packOf τ i)) ec) (eσ ∙ ap closedOf e) (subst TrayWF (sym eσ) (record { few = v .few; sizes = v .sizes; packs = v .packs }))
+    pub turn-powered : c ≡ PowerOn → (b : Label) (d : Meter) {n : Label} {m : Meter} → MeterWF m → n ≡ labelPoweredOf (getD (τ .labels) i b) → m ≡ restartedOf (getD (τ .meters) i d)
+        → σ ≡ closedOf (partsAt τ i n m) → after ≡ room → next ≡ used → line ≡ codeOf (r .kind) (r .answer) 0 → Turn τ room used l σ after next line
+    turn-powered ec b d {n} {m} v en em e =
+        let inside : i < 8 = omega (arith, slot-named w x ei, slot-inside w x) in
+        let u = parts-wf τ i w inside n m v in
+        done (ap (changedOf (packOf τ i)) ec) (e ∙ ap closedOf (powered-stored τ i w inside b d en em)) (subst TrayWF (sym e) (record { few = u .few; sizes = u .sizes; packs = u .packs }))
 
   -- a transaction: its master bytes were lent, and the room that is left
   pub turn-transact : {t : Transaction} {back : List ℕ} {θ : Tray} → Ran ofTray τ (length room - used) l (r .used) (Transact t) → used ≤ length room → TrayWF θ

@@ -17,9 +17,8 @@ ghost use Prim.Native.Nat.{_+_, _/_, _≤_, _<_};
 ghost use lib.ListN.{length};
 ghost use Rattle.runs.specs.Run.{Running, Runs};
 ghost use Rattle.profile.specs.Profile.{imageSizeOf};
-ghost use Rattle.gauge.specs.Gauge.{powerOnOf};
 ghost use Rattle.pack.specs.Image.{imageOf, sizeFor};
-ghost use Rattle.slots.specs.Tray.{TrayWF, emptyTray, packOf, packJoined, storedOf, trayDid};
+ghost use Rattle.slots.specs.Tray.{TrayWF, emptyTray, packOf, packJoined, trayDid};
 ghost use Rattle.trays.specs.Run.{trayResultOf, trayIdleOf, SlotOut};
 
 // What a tray session did: the state at its end, how many lines it has, and how many bytes of reply.
@@ -31,7 +30,7 @@ pub struct Ran {
 }
 
 // A tray with the pack of an image more.
-fn joined(before: Tray, f: Profile, image: &[u8]) -> Tray
+fn pack_joined(before: Tray, f: Profile, image: &[u8]) -> Tray
     requires { ⌜ TrayWF before × (before .count < 8) × (length (now image) ≡ imageSizeOf f) ⌝ }
     ensures { λ r. ⌜ r ≡ packJoined before (imageOf f (now (image .entry))) ⌝ }
     ensures kept { λ r. ⌜ TrayWF r ⌝ }
@@ -49,24 +48,8 @@ fn joined(before: Tray, f: Profile, image: &[u8]) -> Tray
     tray
 }
 
-// A tray with a slot's pack powered on.
-fn powered(before: Tray, slot: usize) -> Tray
-    requires { ⌜ TrayWF before × (slot < 8) ⌝ }
-    ensures { λ r. ⌜ r ≡ storedOf before slot (powerOnOf (packOf before slot)) ⌝ }
-    ensures kept { λ r. ⌜ TrayWF r ⌝ }
-{
-    let mut tray = before;
-    let k = tray.labels[slot];
-    let m = tray.meters[slot];
-    let label = k.powered();
-    let next = m.restarted();
-    tray.labels[slot] = label;
-    tray.meters[slot] = next;
-    tray
-}
-
-// The match on the event stands in the loop itself, where a slot's meter is taken out and stored back, so that no tray goes through a result but
-// that of an image, a power-on or a transaction. A record that is cut ends the loop, and is answered behind it.
+// The match on the event stands in the loop itself, where a slot's parts are taken out and stored back, so that no tray goes through a result but
+// that of an image or a transaction. A record that is cut ends the loop, and is answered behind it.
 fn run_all(s: &[u8], room: &mut [u8], answers: &mut [u64]) -> Ran
     requires { ⌜ length (now s) ≤ 32768 ⌝ }
     requires { ⌜ (length (now s) + 3) / 4 ≤ length (now answers) ⌝ }
@@ -97,7 +80,7 @@ fn run_all(s: &[u8], room: &mut [u8], answers: &mut [u64]) -> Ran
             Asked::Nothing => {}
             Asked::Run(e) => match e {
                 Event::Image(f) => {
-                    tray = joined(tray, f, &l[4..end]);
+                    tray = pack_joined(tray, f, &l[4..end]);
                 }
                 Event::Change(c) => {
                     match c {
@@ -117,7 +100,12 @@ fn run_all(s: &[u8], room: &mut [u8], answers: &mut [u64]) -> Ran
                             tray.meters[slot] = next;
                         }
                         Change::PowerOn => {
-                            tray = powered(tray, slot);
+                            let k = tray.labels[slot];
+                            let m = tray.meters[slot];
+                            let label = k.powered();
+                            let next = m.restarted();
+                            tray.labels[slot] = label;
+                            tray.meters[slot] = next;
                         }
                     }
                     tray.closed = true;

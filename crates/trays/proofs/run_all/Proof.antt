@@ -86,7 +86,7 @@ module _ (c : tie.At-match-came Inv-loop μ-loop) where
   turned-power-on : (x : Later (c .match .came)) (y : Later x) (z : Later y) (v : Later z) (u : Later v) → First u → turn
   turned-power-on x y z v u w =
       let f = at-front (c .before .before) in
-      turn-powered f (c .before .before .before .before .before .before .before .before .before .before .loop .inv .wf) (ran ofTray f (w .1 .given .1 ∙ ap Run (w .4 .given .1 ∙ ap Change (w .7 .given .1)))) (c .before .before .before .before .before .slot .ensures .0) refl (w .8 .ensures .1) (w .8 .ensures .0) (w .10) (w .9) (w .11) (w .12 ∙ c .before .code .ensures)
+      turn-powered f (c .before .before .before .before .before .before .before .before .before .before .loop .inv .wf) (ran ofTray f (w .1 .given .1 ∙ ap Run (w .4 .given .1 ∙ ap Change (w .7 .given .1)))) (c .before .before .before .before .before .slot .ensures .0) refl _ _ (w .11 .ensures .1) (w .10 .ensures) (w .11 .ensures .0) (w .13) (w .12) (w .14) (w .15 ∙ c .before .code .ensures)
 
   turned-transaction : (x : Later (c .match .came)) (y : Later x) (z : Later y) (v : Later z) (u : Later v) → Later u → turn
   turned-transaction x y z v u w =
@@ -127,17 +127,17 @@ sub-front c = omega (arith, c .before .before .before .before .before .before .b
 add-at : tie.Need-add-at Inv-loop μ-loop
 add-at c = omega (arith, front-within ofTray trayDid did-same TrayWF (c .before .before .before .before .before .before .before .before .before .loop .inv) (more (c .before .before .before .before .before .before)) (at-front (c .before)) .0, c .before .before .before .before .before .before .before .before .before .loop .inv .going .at-fits, c .before .before .before .before .before .before .before .before .before .before .before .before .before .before .pre .0)
 
-sub-joined : tie.Need-sub-joined Inv-loop μ-loop
-sub-joined c = omega (arith, ran ofTray (at-front (c .before .before .before .before .before .before .before)) (c .before .before .before .before .asked .given .1) .head)
+sub-pack-joined : tie.Need-sub-pack-joined Inv-loop μ-loop
+sub-pack-joined c = omega (arith, ran ofTray (at-front (c .before .before .before .before .before .before .before)) (c .before .before .before .before .asked .given .1) .head)
 
-part-joined-start : tie.Need-part-joined-start Inv-loop μ-loop
-part-joined-start c = omega (arith, ran ofTray (at-front (c .before .before .before .before .before .before .before)) (c .before .before .before .before .asked .given .1 ∙ ap Run (c .before .e .given .1)) .head)
+part-pack-joined-start : tie.Need-part-pack-joined-start Inv-loop μ-loop
+part-pack-joined-start c = omega (arith, ran ofTray (at-front (c .before .before .before .before .before .before .before)) (c .before .before .before .before .asked .given .1 ∙ ap Run (c .before .e .given .1)) .head)
 
-part-joined-end : tie.Need-part-joined-end Inv-loop μ-loop
-part-joined-end c = omega (arith, front-fits ofTray trayDid did-same TrayWF (c .before .before .before .before .before .before .before .before .before .before .before .before .before .before .before .loop .inv) (more (c .before .before .before .before .before .before .before .before .before .before .before .before)) (at-front (c .before .before .before .before .before .before .before)))
+part-pack-joined-end : tie.Need-part-pack-joined-end Inv-loop μ-loop
+part-pack-joined-end c = omega (arith, front-fits ofTray trayDid did-same TrayWF (c .before .before .before .before .before .before .before .before .before .before .before .before .before .before .before .loop .inv) (more (c .before .before .before .before .before .before .before .before .before .before .before .before)) (at-front (c .before .before .before .before .before .before .before)))
 
-joined-requires : tie.Need-joined-requires Inv-loop μ-loop
-joined-requires c κs =
+pack-joined-requires : tie.Need-pack-joined-requires Inv-loop μ-loop
+pack-joined-requires c κs =
     let x = ran ofTray (at-front (c .before .before .before .before .before .before .before .before)) (c .before .before .before .before .before .asked .given .1 ∙ ap Run (c .before .before .e .given .1)) in
     (c .before .before .before .before .before .before .before .before .before .before .before .before .before .before .before .before .loop .inv .wf, ran-taking x .1, ran-taking x .2)
 
@@ -186,8 +186,29 @@ mul-next-3 c = omega (arith, c .before .before .before .before .before .before .
 element-set-from-next-3 : tie.Need-element-set-from-next-3 Inv-loop μ-loop
 element-set-from-next-3 c = c .before .before .before .before .before .before .before .before .before .before .before .before .before .before .before .slot .ensures .1
 
-powered-requires : tie.Need-powered-requires Inv-loop μ-loop
-powered-requires c κs = (c .before .before .before .before .before .before .before .before .before .before .before .before .before .before .before .before .before .loop .inv .wf, c .before .before .before .before .before .before .before .before .before .before .before .before .slot .ensures .1)
+mul-k : tie.Need-mul-k Inv-loop μ-loop
+mul-k c = omega (arith, c .before .before .before .before .before .before .before .before .before .before .before .before .slot .ensures .1)
+
+element-copy-out-k : tie.Need-element-copy-out-k Inv-loop μ-loop
+element-copy-out-k c = c .before .before .before .before .before .before .before .before .before .before .before .before .slot .ensures .1
+
+mul-m-4 : tie.Need-mul-m-4 Inv-loop μ-loop
+mul-m-4 c = omega (arith, c .before .before .before .before .before .before .before .before .before .before .before .before .before .slot .ensures .1)
+
+element-copy-out-m-4 : tie.Need-element-copy-out-m-4 Inv-loop μ-loop
+element-copy-out-m-4 c = c .before .before .before .before .before .before .before .before .before .before .before .before .before .slot .ensures .1
+
+mul-label : tie.Need-mul-label Inv-loop μ-loop
+mul-label c = omega (arith, c .before .before .before .before .before .before .before .before .before .before .before .before .before .before .before .before .slot .ensures .1)
+
+element-set-from-label : tie.Need-element-set-from-label Inv-loop μ-loop
+element-set-from-label c = c .before .before .before .before .before .before .before .before .before .before .before .before .before .before .before .before .slot .ensures .1
+
+mul-next-4 : tie.Need-mul-next-4 Inv-loop μ-loop
+mul-next-4 c = omega (arith, c .before .before .before .before .before .before .before .before .before .before .before .before .before .before .before .before .slot .ensures .1)
+
+element-set-from-next-4 : tie.Need-element-set-from-next-4 Inv-loop μ-loop
+element-set-from-next-4 c = c .before .before .before .before .before .before .before .before .before .before .before .before .before .before .before .before .slot .ensures .1
 
 add-from : tie.Need-add-from Inv-loop μ-loop
 add-from c = omega (arith, ran-taking (ran ofTray (at-front (c .before .before .before .before .before .before .before .before)) (c .before .before .before .before .before .asked .given .1 ∙ ap Run (c .before .before .e3 .given .1))) .1 .near)
@@ -286,8 +307,8 @@ run-all-spec =
     known-requires
     (λ c. omega (arith, c .before .before .slot .ensures .1))
     (λ c. c .before .before .slot .ensures .1)
-    (λ c. omega (arith, c .before .before .slot .ensures .1))
-    (λ c. c .before .before .slot .ensures .1)
+    (λ c. search needs)
+    (λ c. search needs)
     sub-front
     (λ c κs. search needs)
     (λ c κs. search needs)
@@ -295,10 +316,10 @@ run-all-spec =
     (λ c. search needs)
     (λ c. search needs)
     (λ c. search needs)
-    sub-joined
-    part-joined-start
-    part-joined-end
-    joined-requires
+    sub-pack-joined
+    part-pack-joined-start
+    part-pack-joined-end
+    pack-joined-requires
     (λ c. search needs)
     (λ c. search needs)
     mul-m
@@ -319,7 +340,16 @@ run-all-spec =
     mul-next-3
     element-set-from-next-3
     (λ c. search needs)
-    powered-requires
+    mul-k
+    element-copy-out-k
+    mul-m-4
+    element-copy-out-m-4
+    (λ c κs. search needs)
+    (λ c κs. search needs)
+    mul-label
+    element-set-from-label
+    mul-next-4
+    element-set-from-next-4
     (λ c. search needs)
     (λ c. search needs)
     add-from

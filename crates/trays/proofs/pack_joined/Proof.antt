@@ -5,8 +5,8 @@ use Rattle.gauge.specs.Gauge.{GaugeWF}
 use Rattle.slots.specs.Tray.{TrayWF}
 use Rattle.trays.proofs.Turns.{joined-at, join-wf}
 use borrow.Author.Needs.{needs}
-use Rattle.trays.proofs.joined.Statement.{statement}
-use Rattle.trays.proofs.joined.Tie as tie
+use Rattle.trays.proofs.pack_joined.Statement.{statement}
+use Rattle.trays.proofs.pack_joined.Tie as tie
 
 inside : (c : tie.After-meter) → c .before .before .before .before .wide .result < 8
 inside c = omega (arith, c .before .before .before .before .wide .ensures .0, c .before .before .before .before .before .before .pre .1)
@@ -18,8 +18,8 @@ returns c =
     let j = joined-at (a .args .before) (c .before .before .before .before .wide .ensures .0) (image .0) in
     (j, subst TrayWF (sym j) (join-wf (a .args .before) _ (a .pre .0) (a .pre .1) (subst GaugeWF (image .0) (image .1))))
 
-pub joined-spec : {M : Type 1} → statement M
-joined-spec =
+pub pack-joined-spec : {M : Type 1} → statement M
+pack-joined-spec =
     tie.close
     (tie.spec
     (λ c κs. search needs)
