@@ -1,11 +1,25 @@
-use Rattle.gauge.specs.Gauge.{conversionOf}
+use mathlib.Core.Path.{_≡_, refl, _∙_}
+use Prim.Native.Nat.{ℕ}
+use Rattle.meter.specs.Convert.{convertOf}
+use Rattle.gauge.specs.declared.Gauge.{Gauge}
+use Rattle.gauge.specs.Gauge.{withMeter, conversionOf}
 use borrow.Author.Needs.{needs}
 use Rattle.gauge.proofs.Gauge.convert.Statement.{statement}
 use Rattle.gauge.proofs.Gauge.convert.Tie as tie
 
-returns : tie.Need-returns
+abbrev Found : Type 0
+Found = (g : Gauge) (raw : ℕ) → withMeter g (convertOf (g .meter) raw) ≡ conversionOf g raw
+
+-- what comes of it is found from the meter
+found : Found
 unfolding conversionOf
-returns c = (simp (c .convert .ensures .0), record { meter = c .convert .ensures .1 })
+found g raw = refl
+
+-- and the code sets it
+set : Found → tie.Need-returns
+set f c =
+    let a = c .before .args in
+    ((λ i. withMeter (a .self) (c .convert .ensures .0 i)) ∙ f (a .self) (a .raw), record { meter = c .convert .ensures .1 })
 
 pub convert-spec : {M : Type 1} → statement M
-convert-spec = tie.close (tie.spec (λ c κs. search needs) returns)
+convert-spec = tie.close (tie.spec (λ c κs. search needs) (set found))
