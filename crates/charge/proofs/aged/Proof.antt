@@ -1,3 +1,5 @@
+use mathlib.Core.Path.{_≡_}
+use Prim.Native.Nat.{_-_, max}
 use borrow.Author.Tests.{ne-eqb, lt-ltb, le-ltb}
 use Rattle.charge.proofs.Laws.{counts-up}
 use borrow.Author.Needs.{needs}
@@ -7,15 +9,21 @@ use Rattle.charge.proofs.aged.Tie as tie
 returns : tie.Need-returns
 returns c = simp (c .if2 .taken)
 
-returns-2 : tie.Need-returns-2
-returns-2 c =
-    let c1 = c .before in
-    let c2 = c1 .before in
-    let c3 = c2 .before in
-    simp (ne-eqb _ _ (c2 .if2 .left), le-ltb _ _ (c3 .if1 .taken), c .at-least .ensures, c1 .less .ensures)
+abbrev Stops : Type 0
+Stops = (c : tie.After-at-least) → c .at-least .result ≡ max (c .before .before .before .before .args .aging - 1) 63
+
+-- AS stops at 63
+stops : Stops
+stops c = simp (c .at-least .ensures, c .before .less .ensures)
+
+-- and the age counter is left with the rest
+left : Stops → tie.Need-returns-2
+left s c =
+    let c2 = c .before .before in
+    simp (ne-eqb _ _ (c2 .if2 .left), le-ltb _ _ (c2 .before .if1 .taken), s c)
 
 returns-3 : tie.Need-returns-3
 returns-3 c = simp (counts-up _ _ (c .if1 .left), lt-ltb _ _ (c .if1 .left))
 
 pub aged-spec : {M : Type 1} → statement M
-aged-spec = tie.close (tie.spec (λ c. search needs) (λ c κs. search needs) (λ c κs. search needs) (λ c. search needs) returns returns-2 returns-3)
+aged-spec = tie.close (tie.spec (λ c. search needs) (λ c κs. search needs) (λ c κs. search needs) (λ c. search needs) returns (left stops) returns-3)

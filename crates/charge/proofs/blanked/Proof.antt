@@ -1,16 +1,23 @@
-use mathlib.Core.Path.{sym, _∙_}
+use mathlib.Core.Path.{_≡_, sym, _∙_}
+use Prim.Native.Nat.{_+_, _-_}
+use Rattle.numbers.specs.Choice.{pick}
+use Rattle.numbers.specs.Offset.{zeroAt}
+use Rattle.profile.specs.Profile.{edgeOf}
 use Rattle.charge.proofs.Laws.{blanked-slight, blanked-strong}
 use borrow.Author.Needs.{needs}
 use Rattle.charge.proofs.blanked.Statement.{statement}
 use Rattle.charge.proofs.blanked.Tie as tie
 
+-- the lowest current that is blanked, by NBEN and the profile
+lowest : (c : tie.After-choose16) → let a = c .before .before .before .before .args in c .choose16 .result ≡ pick (a .nben) (zeroAt 15 + 1 - edgeOf (a .f)) (zeroAt 15)
+lowest c = simp (c .choose16 .ensures, c .before .edge .ensures .0)
+
 returns : tie.Need-returns
 returns c =
     let c1 = c .before in
-    let c2 = c1 .before in
-    let c3 = c2 .before in
+    let c3 = c1 .before .before in
     let c4 = c3 .before in
-    simp (c .choose162 .ensures, c1 .choose16 .ensures, c2 .edge .ensures .0) (blanked-slight (c4 .before .args .f) (c4 .before .args .nben) (c4 .before .args .c) (sym (c4 .and .ensures) ∙ c3 .if1 .taken))
+    simp (c .choose162 .ensures, lowest c1) (blanked-slight (c4 .before .args .f) (c4 .before .args .nben) (c4 .before .args .c) (sym (c4 .and .ensures) ∙ c3 .if1 .taken))
 
 returns-2 : tie.Need-returns-2
 returns-2 c =
