@@ -1,10 +1,11 @@
 use mathlib.Core.Path.{_≡_, refl, sym, _∙_, ap}
-use mathlib.Core.Bool.{Bool}
+use mathlib.Core.Bool.{Bool, false}
 use mathlib.Core.List.{List}
 use Prim.Native.Nat.{ℕ}
 use denote.Ref.{now}
 use Rattle.ticks.specs.declared.Tick.{Tick}
 use Rattle.events.specs.declared.Kind.{Kind}
+use Rattle.events.specs.declared.Kind.the-variants as kind
 use Rattle.events.specs.declared.Taken.{Taken}
 use Rattle.events.specs.Record.{takenBy, timedOf, fittedOf}
 use Rattle.events.proofs.Fits.{Stateless, passes, transaction-timely, sample-fits}
@@ -27,10 +28,14 @@ returns c =
     let a = c .before .before .before .before .before .args in
     stateless (a .room) (a .last) (a .again) (a .loaded) (now (a .p)) _ _ _ (c .before .before .k .given .1) tt (c .image-taken .ensures)
 
+-- a reading is taken by whether an image was accepted
+read : (c : tie.After-reading-taken) → let a = c .before .before .before .before .args in c .reading-taken .result ≡ takenBy false kind.Reading (a .loaded) (now (a .p))
+read c = c .reading-taken .ensures
+
 returns-2 : tie.Need-returns-2
 returns-2 c =
     let a = c .before .before .before .before .args in
-    stateless (a .room) (a .last) (a .again) (a .loaded) (now (a .p)) _ _ _ (c .before .enum-told .given .1) tt (c .reading-taken .ensures)
+    stateless (a .room) (a .last) (a .again) (a .loaded) (now (a .p)) _ _ _ (c .before .enum-told .given .1) tt (read c)
 
 returns-3 : tie.Need-returns-3
 returns-3 c =

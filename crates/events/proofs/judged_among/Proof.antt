@@ -1,12 +1,12 @@
 use mathlib.Core.Path.{_≡_, sym, ap, _∙_}
-use mathlib.Core.Bool.{Bool}
+use mathlib.Core.Bool.{Bool, false}
 use mathlib.Core.List.{List}
 use Prim.Native.Nat.{ℕ}
 use borrow.Author.Tests.{eq-eqb, ne-eqb, le-leb, lt-leb}
+use denote.Ref.{now}
 use Rattle.params.specs.declared.Breaks.{Breaks}
 use Rattle.params.specs.Params.{breaksOf}
-use Rattle.events.specs.Record.{orderedOf, judgedAmong}
--- what is told of the breakpoints of a block, by the calls that lead there
+use Rattle.events.specs.Record.{lockableOf, orderedOf, judgedAmong}
 use borrow.Author.Needs.{needs}
 use Rattle.events.proofs.judged_among.Statement.{statement}
 use Rattle.events.proofs.judged_among.Tie as tie
@@ -70,14 +70,25 @@ returns-3 c =
       c .if4 .left,
     )
 
-returns-4 : tie.Need-returns-4
+-- where the third test fails the lock byte is above 3 ..
+abbrev Above : tie.Else3 → Type 0
+Above c = lockableOf (now (c .before .before .before .before .before .before .before .before .args .p)) ≡ false
+
+above : (c : tie.Else3) → Above c
+above c = lt-leb _ _ (c .if3 .left)
+
+-- .. and there the answer is 7
+answered : ((c : tie.Else3) → Above c) → tie.Need-returns-4
 unfolding judgedAmong
-returns-4 c =
+answered over c =
     let c2 = c .before .before in
     let c3 = c2 .before in
     let c5 = c3 .before .before in
     let c6 = c5 .before in
-    simp (eq-eqb _ _ (c5 .if1 .taken ∙ c6 .size .ensures .0), sym (c3 .addressed .ensures) ∙ c2 .if2 .taken, lt-leb _ _ (c .if3 .left))
+    simp (eq-eqb _ _ (c5 .if1 .taken ∙ c6 .size .ensures .0), sym (c3 .addressed .ensures) ∙ c2 .if2 .taken, over c)
+
+returns-4 : tie.Need-returns-4
+returns-4 = answered above
 
 returns-5 : tie.Need-returns-5
 unfolding judgedAmong
