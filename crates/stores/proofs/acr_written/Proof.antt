@@ -1,4 +1,6 @@
-use mathlib.Core.Path.{sym, _∙_}
+use mathlib.Core.Path.{_≡_, sym, _∙_}
+use mathlib.Core.Bool.{false}
+use Rattle.charge.specs.Charge.{setOf, markedOf}
 use Rattle.stores.specs.Stores.{acrWrittenOf}
 use Rattle.numbers.proofs.Bounds.{both-true}
 use Rattle.charge.proofs.Laws.{set-wf, marked-wf}
@@ -16,13 +18,18 @@ byte-for-requires-2 c κs =
     let test = c .before .before in
     sym (test .before .reaches2 .ensures) ∙ both-true (test .before .before .reaches .result) _ (sym (test .and .ensures) ∙ c .before .if1 .taken) .1
 
+-- what is set has the mark, and LEARNF cleared
+marked : (c : tie.After-set) → let a = c .before .before .before .before .before .before .before .before .before .args in
+    c .set .result ≡ markedOf (setOf (a .g) (c .before .joined .result) false)
+marked c = c .set .ensures
+
 returns : tie.Need-returns
 unfolding acrWrittenOf
 returns c =
     let byte = c .before .before .before in
     let test = byte .before .before in (
       simp (sym (test .before .before .reaches .ensures), sym (test .before .reaches2 .ensures), sym (test .and .ensures) ∙ byte .before .if1 .taken)
-          (c .set .ensures ∙ simp (c .before .joined .ensures, c .before .before .byte-for2 .ensures, byte .byte-for .ensures)),
+          (marked c ∙ simp (c .before .joined .ensures, c .before .before .byte-for2 .ensures, byte .byte-for .ensures)),
       rw (c .set .ensures) (set-wf _ _ _ (search needs) (marked-wf _ (test .before .before .before .before .pre .1))),
     )
 
