@@ -1,9 +1,13 @@
 -- `transfer::label` meets its contract.
-use mathlib.Core.Path.{refl, sym, _∙_}
+use mathlib.Core.Path.{_≡_, refl, sym, _∙_}
+use mathlib.Core.Bool.{true}
+use mathlib.Core.List.{List}
+use Prim.Native.Nat.{ℕ}
 use native.Mathlib.Omega.{arith}
 use borrow.Author.Tests.{eq-eqb, ne-eqb}
 use denote.Ref.{now}
-use Rattle.transfer.specs.Export.{labelOf}
+use Rattle.events.specs.Image.{imageLabel, imageBl0}
+use Rattle.transfer.specs.Export.{bothAccepted, labelOf}
 use Rattle.transfer.proofs.Texts.{pack-sized, factory-sized}
 use borrow.Author.Needs.{needs}
 use Rattle.transfer.proofs.label.Statement.{statement}
@@ -24,9 +28,19 @@ part-result-start c = search needs
 part-result-end : tie.Need-part-result-end
 part-result-end c = omega (arith, pack-sized (now (c .before .before .before .before .before .before .args .pack)) (now (c .before .before .before .before .before .before .args .factory)) (sym (c .before .before .before .both-accepted .ensures) ∙ c .before .before .if1 .taken))
 
-returns : tie.Need-returns
+-- the label is the pack's where block 0 is locked there
+own : (pack factory : List ℕ) → bothAccepted pack factory ≡ true → imageBl0 pack ≡ true → labelOf pack factory ≡ imageLabel pack
 unfolding labelOf
-returns c = rw (sym (c .before .before .before .before .both-accepted .ensures) ∙ c .before .before .before .if1 .taken, eq-eqb _ _ (c .before .if2 .taken)) refl
+own pack factory accepted lock = rw (accepted, lock) refl
+
+-- so it is in the first arm
+locked : (c : tie.Then2) → imageBl0 (now (c .before .before .before .before .before .before .args .pack)) ≡ true
+locked c = eq-eqb _ _ (c .if2 .taken)
+
+returns : tie.Need-returns
+returns c =
+    let a = c .before .before .before .before .before .before .before .args in
+    sym (own (now (a .pack)) (now (a .factory)) (sym (c .before .before .before .before .both-accepted .ensures) ∙ c .before .before .before .if1 .taken) (locked (c .before)))
 
 sub-result-2 : tie.Need-sub-result-2
 sub-result-2 c = search needs

@@ -1,5 +1,5 @@
 -- `transfer::write` meets its contract.
-use mathlib.Core.Path.{sym, ap, _∙_}
+use mathlib.Core.Path.{_≡_, sym, ap, _∙_}
 use mathlib.Core.List.{List, _++_}
 use Prim.Native.Nat.{ℕ}
 use native.Mathlib.Omega.{arith}
@@ -45,13 +45,18 @@ enum-known-found c = search needs
 same-length : tie.Need-same-length
 same-length c = search needs
 
+-- the text of the label that was handed back and of the pack's block 1
+text : (c : tie.After-put-text) → let a = c .before .before .before .before .before .before .before .before .before .before .args in c .put-text .last .1 .1 .0 ≡ exportText (now (c .before .before .before .label .result)) (imageBlock (now (a .pack))) ++ drop exportSize (now (a .room))
+text c = c .put-text .ensures
+
 returns : tie.Need-returns
 returns c =
+    let a = c .before .before .before .before .before .before .before .before .before .before .before .before .args in
     let found = sym (c .before .before .before .before .before .before .before .before .export-answer .ensures) ∙ c .before .before .before .before .before .before .enum-told .given .1 in
     record {
       number = ap answerNumber (sym found);
       answer = sym found;
-      written = rw found (c .before .before .put-text .ensures ∙ ap (λ (l : List ℕ). exportText l (imageBlock (now (c .before .before .before .before .before .before .before .before .before .before .before .before .args .pack))) ++ drop exportSize (now (c .before .before .before .before .before .before .before .before .before .before .before .before .args .room))) (c .before .before .before .before .before .label .ensures));
+      written = rw found (text (c .before .before) ∙ ap (λ (l : List ℕ). exportText l (imageBlock (now (a .pack))) ++ drop exportSize (now (a .room))) (c .before .before .before .before .before .label .ensures));
     }
 
 returns-2 : tie.Need-returns-2
