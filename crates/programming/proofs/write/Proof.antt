@@ -1,10 +1,14 @@
 -- `programming::write` meets its contract.
-use mathlib.Core.Path.{sym, ap, _∙_}
+use mathlib.Core.Path.{_≡_, refl, sym, ap, _∙_}
+use mathlib.Core.List.{List}
+use Prim.Native.Nat.{ℕ}
 use lib.ListN.{length}
 use denote.Ref.{now}
 use Rattle.profile.specs.declared.Profile.the-variants.{Ds2781}
 use Rattle.events.proofs.Fits.{judged-sized}
-use Rattle.programming.specs.Programming.{writtenNumber}
+use Rattle.programming.specs.declared.Why.{Why}
+use Rattle.programming.specs.declared.Written.the-variants.{Refused}
+use Rattle.programming.specs.Programming.{writtenNumber, roomBy}
 use Rattle.programming.proofs.Laws.{granted}
 use borrow.Author.Needs.{needs}
 use Rattle.programming.proofs.write.Statement.{statement}
@@ -21,10 +25,15 @@ returns c =
     let found = sym (c .before .before .before .before .before .before .answer .ensures) ∙ c .before .before .before .before .enum-told .given .1 in
     record { number = ap writtenNumber (sym found); answer = sym found; written = rw found (c .before .before .put-session .ensures) }
 
+-- a refusal leaves the room as it is
+untouched : (why : Why) (image wanted room : List ℕ) → roomBy (Refused why) image wanted room ≡ room
+untouched why image wanted room = refl
+
 returns-2 : tie.Need-returns-2
 returns-2 c =
+    let a = c .before .before .before .before .before .before .before .args in
     let found = sym (c .before .before .before .answer .ensures) ∙ c .before .found .given .1 in
-    record { number = ap writtenNumber (sym found); answer = sym found; written = rw found }
+    record { number = ap writtenNumber (sym found); answer = sym found; written = rw found (sym (untouched (c .before .found .given .0 .0) (now (a .image)) (now (a .wanted)) (now (a .room)))) }
 
 pub write-spec : {M : Type 1} → statement M
 write-spec =
