@@ -1,5 +1,11 @@
 -- `mending::answer` meets its contract.
+use mathlib.Core.Path.{_≡_}
+use mathlib.Core.Bool.{true}
 use borrow.Author.Tests.{eq-eqb, ne-eqb, lt-ltb, le-ltb}
+use lib.Dec.{eqb, ltb}
+use lib.ListN.{getD}
+use denote.Ref.{now}
+use Rattle.events.specs.Image.{addressAt}
 use Rattle.mending.specs.Mending.{mendingAnswer}
 use borrow.Author.Needs.{needs}
 use Rattle.mending.proofs.answer.Statement.{statement}
@@ -9,17 +15,25 @@ returns : tie.Need-returns
 unfolding mendingAnswer
 returns c = simp (ne-eqb _ _ (c .if1 .taken))
 
+-- the room has too few bytes in the second arm
+small : (c : tie.Then2) → ltb (c .before .before .args .room) (c .before .before .args .least) ≡ true
+small c = lt-ltb _ _ (c .if2 .taken)
+
 returns-2 : tie.Need-returns-2
 unfolding mendingAnswer
-returns-2 c = simp (eq-eqb _ _ (c .before .if1 .left), lt-ltb _ _ (c .if2 .taken))
+returns-2 c = simp (eq-eqb _ _ (c .before .if1 .left), small c)
 
 returns-3 : tie.Need-returns-3
 unfolding mendingAnswer
 returns-3 c = simp (eq-eqb _ _ (c .before .before .before .if1 .left), le-ltb _ _ (c .before .before .if2 .left), ne-eqb _ _ (c .if3 .taken))
 
+-- the family is right in the last
+right : (c : tie.Else3) → eqb (getD (now (c .before .before .before .before .args .image)) addressAt 0) 0x3d ≡ true
+right c = eq-eqb _ _ (c .if3 .left)
+
 returns-4 : tie.Need-returns-4
 unfolding mendingAnswer
-returns-4 c = simp (eq-eqb _ _ (c .before .before .before .if1 .left), le-ltb _ _ (c .before .before .if2 .left), eq-eqb _ _ (c .if3 .left))
+returns-4 c = simp (eq-eqb _ _ (c .before .before .before .if1 .left), le-ltb _ _ (c .before .before .if2 .left), right c)
 
 pub answer-spec : {M : Type 1} → statement M
 answer-spec = tie.close (tie.spec returns returns-2 (λ c. search needs) returns-3 returns-4)

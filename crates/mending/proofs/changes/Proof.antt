@@ -1,8 +1,11 @@
 -- `mending::changes` meets its contract.
-use mathlib.Core.Path.{sym, ap, _∙_}
+use mathlib.Core.Path.{_≡_, refl, sym, ap, _∙_}
 use lib.ListN.{length}
 use denote.Ref.{now}
-use Rattle.mending.specs.Mending.{changesSize}
+use Rattle.mending.specs.declared.Why.{Why}
+use Rattle.mending.specs.declared.Mended.the-variants.{Refused}
+use Rattle.mending.specs.declared.Listed.the-variants as lines
+use Rattle.mending.specs.Mending.{mendedNumber, listedNumber, changesSize}
 use Rattle.mending.proofs.Laws.{granted, mended-length, listed}
 use borrow.Author.Needs.{needs}
 use Rattle.mending.proofs.changes.Statement.{statement}
@@ -20,10 +23,14 @@ put-changes-requires c κs =
 returns : tie.Need-returns
 returns c = listed _ (sym (c .before .before .before .before .before .before .before .before .answer .ensures) ∙ c .before .before .before .before .before .before .enum-told .given .1) (c .before .before .before .before .before .mended-image .ensures) (c .before .before .put-changes .ensures)
 
+-- a refusal has the number that it has in mending
+numbered : (why : Why) → listedNumber (lines.Refused why) ≡ mendedNumber (Refused why)
+numbered why = refl
+
 returns-2 : tie.Need-returns-2
 returns-2 c =
     let found = sym (c .before .before .before .answer .ensures) ∙ c .before .found .given .1 in
-    record { number = rw found; answer = rw found; written = rw found }
+    record { number = rw found (numbered (c .before .found .given .0 .0)); answer = rw found; written = rw found }
 
 pub changes-spec : {M : Type 1} → statement M
 changes-spec =

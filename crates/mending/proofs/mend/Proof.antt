@@ -1,8 +1,12 @@
 -- `mending::mend` meets its contract.
-use mathlib.Core.Path.{sym, ap, _∙_}
+use mathlib.Core.Path.{_≡_, refl, sym, ap, _∙_}
+use mathlib.Core.List.{List}
+use Prim.Native.Nat.{ℕ}
 use lib.ListN.{length}
 use denote.Ref.{now}
-use Rattle.mending.specs.Mending.{mendedNumber}
+use Rattle.mending.specs.declared.Why.{Why}
+use Rattle.mending.specs.declared.Mended.the-variants.{Refused}
+use Rattle.mending.specs.Mending.{mendedNumber, mendedRoom}
 use Rattle.mending.proofs.Laws.{granted}
 use borrow.Author.Needs.{needs}
 use Rattle.mending.proofs.mend.Statement.{statement}
@@ -19,10 +23,15 @@ returns c =
     let found = sym (c .before .before .before .before .before .before .answer .ensures) ∙ c .before .before .before .before .enum-told .given .1 in
     record { number = ap mendedNumber (sym found); answer = sym found; written = rw found (c .before .before .put-mended .ensures) }
 
+-- a refusal leaves the room as it is
+untouched : (why : Why) (image room : List ℕ) → mendedRoom (Refused why) image room ≡ room
+untouched why image room = refl
+
 returns-2 : tie.Need-returns-2
 returns-2 c =
+    let a = c .before .before .before .before .before .before .args in
     let found = sym (c .before .before .before .answer .ensures) ∙ c .before .found .given .1 in
-    record { number = ap mendedNumber (sym found); answer = sym found; written = rw found }
+    record { number = ap mendedNumber (sym found); answer = sym found; written = rw found (sym (untouched (c .before .found .given .0 .0) (now (a .image)) (now (a .room)))) }
 
 pub mend-spec : {M : Type 1} → statement M
 mend-spec =

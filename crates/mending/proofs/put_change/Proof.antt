@@ -1,4 +1,9 @@
 -- `mending::put_change` meets its contract.
+use mathlib.Core.Path.{_≡_, refl}
+use mathlib.Core.Bool.{true}
+use mathlib.Core.List.{[]}
+use Prim.Native.Nat.{ℕ}
+use lib.Dec.{eqb}
 use borrow.Author.Tests.{eq-eqb, ne-eqb}
 use Rattle.digits.proofs.Laws.{none, wider}
 use native.Mathlib.Omega.{arith}
@@ -8,9 +13,19 @@ use borrow.Author.Needs.{needs}
 use Rattle.mending.proofs.put_change.Statement.{statement}
 use Rattle.mending.proofs.put_change.Tie as tie
 
-returns : tie.Need-returns
+-- of a byte that is as it was there is no line
+no-line : (offset old new : ℕ) → eqb old new ≡ true → changeText offset old new ≡ []
 unfolding changeText
-returns c = rw (eq-eqb _ _ (c .if1 .taken)) (wider (none (now (c .before .before .args .room)) (c .before .before .args .at)) (omega arith))
+no-line offset old new same = rw same refl
+
+-- the first arm is for such a byte
+as-it-was : (c : tie.Then1) → eqb (c .before .before .args .old) (c .before .before .args .new) ≡ true
+as-it-was c = eq-eqb _ _ (c .if1 .taken)
+
+returns : tie.Need-returns
+returns c =
+    let a = c .before .before .args in
+    rw (no-line (a .offset) (a .old) (a .new) (as-it-was c)) (wider (none (now (a .room)) (a .at)) (omega arith))
 
 returns-2 : tie.Need-returns-2
 unfolding changeText
