@@ -1,6 +1,6 @@
 -- Laws of one record, of any state: what is read off it, and how large its answer and its reply are.
-use mathlib.Core.Path.{_≡_, refl, ap, _∙_}
-use mathlib.Core.Bool.{Bool, true, false}
+use mathlib.Core.Path.{_≡_, refl, ap}
+use mathlib.Core.Bool.{true, false}
 use mathlib.Core.List.{List}
 use Prim.Native.Nat.{ℕ, _+_, _-_, _≤_, _<_, zero-le}
 use native.Mathlib.Omega.{arith}
@@ -17,15 +17,13 @@ use Rattle.events.specs.declared.Event.{Event}
 use Rattle.events.specs.declared.Event.the-variants.{Image, Change, Transact}
 use Rattle.events.specs.declared.Taken.{Taken}
 use Rattle.events.specs.declared.Taken.the-variants as taken
-use Rattle.events.specs.Record.{refusalNumber, numberOf, masterOf, asksOf, fittedOf}
+use Rattle.events.specs.Record.{masterOf, asksOf, fittedOf}
 use Rattle.events.proofs.Fits.{refusal-range}
 use Rattle.runs.specs.Record.{Rec, whole, cut, wholeOf}
 use Rattle.runs.specs.Run.{Did}
 use Rattle.runs.proofs.Records.{rec-whole, size-whole, rec-cut, size-cut}
 use Rattle.runs.proofs.Lines.{Fits}
 use Rattle.steps.specs.declared.Session.{Session}
-use Rattle.steps.specs.declared.Asked.the-variants as asked
-use Rattle.steps.specs.declared.Record.{Record}
 use Rattle.steps.specs.Steps.{Steps, answeredBy, recordBy, refusedOf, takenRead, frontBy}
 use Rattle.steps.specs.Step.{eventDid, ofSession, didOf}
 

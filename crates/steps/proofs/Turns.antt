@@ -1,6 +1,6 @@
 -- What the arms of the match in a run's loop leave: the state and the room after the record at the front of l. Of any state, of which something
 -- holds that every record keeps.
-use mathlib.Core.Path.{_≡_, refl, sym, ap, subst, _∙_}
+use mathlib.Core.Path.{_≡_, refl, sym, ap, _∙_}
 use mathlib.Core.Logic.{_⊎_}
 use mathlib.Core.Bool.{true, false}
 use mathlib.Core.List.{List, [], _∷_, _++_}
@@ -13,7 +13,7 @@ use Rattle.parts.proofs.Laws.{part-rest, put-part}
 use Rattle.bus.specs.declared.Transaction.{Transaction}
 use Rattle.events.specs.declared.Event.{Event}
 use Rattle.events.specs.declared.Event.the-variants.{Transact}
-use Rattle.events.specs.Record.{Mastered, asksOf, masterOf}
+use Rattle.events.specs.Record.{Mastered}
 use Rattle.runs.specs.declared.Outcome.the-variants.{Done}
 use Rattle.runs.specs.Record.{Rec, recOf, sizeOf, wholeOf}
 use Rattle.runs.specs.Run.{Did, silently, codeOf, Running}

@@ -1,6 +1,6 @@
 -- What the arms of the match leave of a tray, and of the room.
 use mathlib.Core.Path.{_≡_, refl, sym, ap, subst, _∙_}
-use mathlib.Core.Bool.{Bool, true}
+use mathlib.Core.Bool.{true}
 use mathlib.Core.List.{List, [], _∷_, _++_}
 use Prim.Native.Nat.{ℕ, zero, suc, _+_, _-_, _≤_, _<_}
 use native.Mathlib.Omega.{arith}
@@ -36,7 +36,7 @@ use Rattle.steps.proofs.Fronts.{payloadOf, Ran, Front}
 use Rattle.steps.proofs.Turns as every
 use Rattle.steps.proofs.Turns.{master-part}
 use Rattle.slots.specs.declared.Tray.{Tray}
-use Rattle.slots.specs.Tray.{noGauge, packOf, storedOf, closedOf, packJoined, slotIn, againOf, namedSlot, trayReach, trayActed, trayReply, trayEvent, ofTray, trayDid, TrayWF}
+use Rattle.slots.specs.Tray.{noGauge, packOf, storedOf, closedOf, packJoined, slotIn, againOf, namedSlot, trayReach, trayActed, trayReply, ofTray, trayDid, TrayWF}
 use Rattle.slots.proofs.Laws.{within, set-each}
 use Rattle.slots.proofs.Hearing.{tray-replying}
 use Rattle.slots.proofs.Fronts.{named-slot}

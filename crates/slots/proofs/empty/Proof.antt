@@ -1,6 +1,5 @@
-use mathlib.Core.Path.{_≡_, refl, sym, subst}
+use mathlib.Core.Path.{refl, subst}
 use Rattle.gauge.specs.Gauge.{GaugeWF}
-use Rattle.slots.specs.Tray.{TrayWF}
 use Rattle.slots.proofs.Laws.{empty-wf}
 use borrow.Author.Needs.{needs}
 use Rattle.slots.proofs.empty.Statement.{statement}

@@ -1,6 +1,6 @@
-use mathlib.Core.Path.{_≡_, refl, sym, ap, _∙_}
+use mathlib.Core.Path.{sym, ap, _∙_}
 use native.Mathlib.Omega.{arith}
-use lib.ListN.{length, take, drop, length-take}
+use lib.ListN.{take, length-take}
 use lib.Seq.{length-take-le, take-at}
 use denote.Ref.{now}
 use Rattle.gauge.specs.Act.{replyOf}

@@ -1,4 +1,4 @@
-use mathlib.Core.Path.{refl, sym, ap, _∙_}
+use mathlib.Core.Path.{sym, ap, _∙_}
 use Rattle.slots.specs.Tray.{isFound}
 use borrow.Author.Needs.{needs}
 use Rattle.slots.proofs.known.Statement.{statement}

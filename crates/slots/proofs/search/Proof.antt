@@ -1,7 +1,7 @@
 use mathlib.Core.Path.{_≡_, sym, ap, _∙_}
 use Prim.Native.Nat.{_-_, _≤_}
 use native.Mathlib.Omega.{arith}
-use lib.ListN.{length, getD, drop}
+use lib.ListN.{drop}
 use denote.Ref.{now}
 use Rattle.bus.specs.Ask.{sameBytes}
 use Rattle.bus.proofs.Laws.{differs, agrees, ended}

@@ -1,10 +1,5 @@
-use mathlib.Core.Path.{_≡_, refl, sym, ap, _∙_}
-use mathlib.Core.Bool.{Bool}
-use mathlib.Core.List.{List}
+use mathlib.Core.Path.{refl, sym, ap, _∙_}
 use native.Mathlib.Omega.{arith}
-use lib.ListN.{length, getD}
-use denote.Ref.{now}
-use Rattle.gauge.specs.declared.Gauge.{Gauge}
 use Rattle.slots.specs.Tray.{packOf}
 use Prim.Native.Nat.{_<_}
 use Rattle.slots.proofs.Laws.{pack-at}

@@ -16,10 +16,10 @@ unfolding conversionOf
 found g raw = refl
 
 -- and the code sets it
-set : Found → tie.Need-returns
-set f c =
+sets : Found → tie.Need-returns
+sets f c =
     let a = c .before .args in
     ((λ i. withMeter (a .self) (c .convert .ensures .0 i)) ∙ f (a .self) (a .raw), record { meter = c .convert .ensures .1 })
 
 pub convert-spec : {M : Type 1} → statement M
-convert-spec = tie.close (tie.spec (λ c κs. search needs) (set found))
+convert-spec = tie.close (tie.spec (λ c κs. search needs) (sets found))

@@ -17,11 +17,11 @@ unfolding lockedOf
 found g a = refl
 
 -- and the code sets it
-set : Found → tie.Need-returns
-set f c =
+sets : Found → tie.Need-returns
+sets f c =
     let c1 = c .before in
     let a = c1 .before .args in
     ((λ i. record { common = c1 .locked .ensures i; label = a .self .label; meter = c .meter-locked .ensures .0 i }) ∙ f (a .self) (a .a), record { meter = c .meter-locked .ensures .1 })
 
 pub locked-spec : {M : Type 1} → statement M
-locked-spec = tie.close (tie.spec (λ c κs. search needs) (λ c κs. search needs) (set found))
+locked-spec = tie.close (tie.spec (λ c κs. search needs) (λ c κs. search needs) (sets found))

@@ -16,11 +16,11 @@ unfolding powerOnOf
 found g = refl
 
 -- and the code sets it
-set : Found → tie.Need-returns
-set f c =
+sets : Found → tie.Need-returns
+sets f c =
     let c1 = c .before in
     let g = c1 .before .args .self in
     ((λ i. withParts g (c1 .powered .ensures i) (c .restarted .ensures .0 i)) ∙ f g, record { meter = c .restarted .ensures .1 })
 
 pub power-on-spec : {M : Type 1} → statement M
-power-on-spec = tie.close (tie.spec (λ c κs. search needs) (λ c κs. search needs) (set found))
+power-on-spec = tie.close (tie.spec (λ c κs. search needs) (λ c κs. search needs) (sets found))
