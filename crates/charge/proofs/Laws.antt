@@ -10,11 +10,12 @@ use Rattle.numbers.specs.Choice.{pick, both, either, butNot}
 use Rattle.numbers.proofs.Bounds.{times, picked, both-true}
 use Rattle.numbers.proofs.Offset.{order}
 use Rattle.params.specs.declared.Counting.{Counting}
-use Rattle.profile.specs.declared.Profile.{Profile}
+use Rattle.state.specs.declared.Profile.{Profile}
 use Rattle.profile.specs.Profile.{edgeOf}
-use Rattle.charge.specs.declared.Charge.{Charge}
+use Rattle.state.specs.declared.Charge.{Charge}
 use Rattle.charge.specs.declared.Age.{Age}
-use Rattle.charge.specs.Charge.{acrOf, ChargeWF, setOf, withAs, markedOf, turnedOf, learningOf, blankedOf, grownOf, addedOf, fallOf, agedOf, newCount, newAge, countedOf, agedFullOf, shareOf, shareUpOf}
+use Rattle.state.specs.State.{ChargeWF}
+use Rattle.charge.specs.Charge.{acrOf, setOf, withAs, markedOf, turnedOf, learningOf, blankedOf, grownOf, addedOf, fallOf, agedOf, newCount, newAge, countedOf, agedFullOf, shareOf, shareUpOf}
 
 pub set-wf : (g : Charge) (acr : ℕ) (learnf : Bool) → acr ≤ 65535 → ChargeWF g → ChargeWF (setOf g acr learnf)
 set-wf g acr learnf h w = record { count = omega arith; age = w .age; low = w .low; high = w .high }

@@ -4,9 +4,9 @@ use Rattle.once.specs.Once.{Once}
 use Rattle.charge.proofs.current
 use Rattle.charge.proofs.blanked
 use Rattle.charge.proofs.fall
-use Rattle.charge.proofs.Trace.traced
-use Rattle.charge.proofs.Charge.counted
-use Rattle.charge.proofs.Charge.set
+use Rattle.charge.proofs.traced
+use Rattle.charge.proofs.counted
+use Rattle.charge.proofs.set
 use Rattle.charge.proofs.aged_full
 use Rattle.charge.proofs.share
 use Rattle.charge.proofs.share_up

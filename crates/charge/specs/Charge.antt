@@ -1,14 +1,14 @@
 -- The charge count: steps 1 to 5 of a conversion, and the count set outright; AF, and a share of Full40 as ACR. Currents are kept as z + 2^15.
 use mathlib.Core.Bool.{Bool, true, false, not}
-use Prim.Native.Nat.{ℕ, _+_, _-_, _*_, _/_, _%_, _^_, _≤_, _<_, min, max}
+use Prim.Native.Nat.{ℕ, _+_, _-_, _*_, _/_, _%_, _^_, min, max}
 use lib.Dec.{ltb, eqb}
 use Rattle.numbers.specs.Offset.{zeroAt}
 use Rattle.numbers.specs.Choice.{pick, both, either, butNot}
 use Rattle.params.specs.declared.Counting.{Counting}
-use Rattle.profile.specs.declared.Profile.{Profile}
+use Rattle.state.specs.declared.Profile.{Profile}
 use Rattle.profile.specs.Profile.{edgeOf}
-use Rattle.charge.specs.declared.Charge.{Charge}
-use Rattle.charge.specs.declared.Trace.{Trace}
+use Rattle.state.specs.declared.Charge.{Charge}
+use Rattle.state.specs.declared.Trace.{Trace}
 use Rattle.charge.specs.declared.Age.{Age}
 
 -- ACR and its fraction, of the count ACR × 4,096 + fraction
@@ -17,13 +17,6 @@ acrOf count = count / 4096
 
 abbrev pub fractionOf : ℕ → ℕ
 fractionOf count = count % 4096
-
--- what holds of every charge
-pub record ChargeWF (g : Charge) : Type 0 where
-  pub count : g .count < 2 ^ 28
-  pub age : g .age < 32 * 65535
-  pub low : 63 ≤ g .aging
-  pub high : g .aging ≤ 128
 
 -- ---- the count set outright, by a correction (full found, the empty point, an ACR that is above E) or over the bus
 

@@ -1,27 +1,12 @@
 // The charge count: steps 1 to 5 of a conversion, and the count set outright; AF, and a share of Full40 as ACR.
 use params::Counting;
-use profile::Profile;
+use state::Charge;
+use state::Profile;
+use state::Trace;
 ghost use mathlib.Core.Path.{_≡_};
 ghost use Prim.Native.Nat.{_*_, _≤_};
-ghost use Rattle.charge.specs.Charge.{ChargeWF, currentOf, tracedOf, blankedOf, grownOf, addedOf, fallOf, agedOf, learningOf, countedOf, setOf, agedFullOf, shareOf, shareUpOf};
-
-// ACR × 4,096 + fraction, AS, LEARNF, the mark after an ACR write and the age counter. (Side by side, count and age would be passed as one
-// number of eight bytes.)
-pub struct Charge {
-    pub aging: u8,
-    pub count: u32,
-    pub learnf: bool,
-    pub mark: bool,
-    pub age: u32,
-}
-
-// CURRENT and the c before it, and whether there is one, and two. (The order of fields: docs/SPEED.md.)
-pub struct Trace {
-    pub two: bool,
-    pub before: u16,
-    pub last: u16,
-    pub any: bool,
-}
+ghost use Rattle.state.specs.State.{ChargeWF};
+ghost use Rattle.charge.specs.Charge.{currentOf, tracedOf, blankedOf, grownOf, addedOf, fallOf, agedOf, learningOf, countedOf, setOf, agedFullOf, shareOf, shareUpOf};
 
 // The age counter and AS.
 struct Age {
@@ -108,46 +93,42 @@ fn learning(mut learnf: bool, last: u16, c: u16, count: u32) -> bool
     learnf
 }
 
-impl Trace {
-    // Step 1: CURRENT.
-    pub fn traced(self, c: u16) -> Trace
-        ensures { λ r. ⌜ r ≡ tracedOf self c ⌝ }
-    {
-        Trace {
-            last: c,
-            before: self.last,
-            any: true,
-            two: self.any,
-        }
+// Step 1: CURRENT.
+pub fn traced(trace: Trace, c: u16) -> Trace
+    ensures { λ r. ⌜ r ≡ tracedOf trace c ⌝ }
+{
+    Trace {
+        last: c,
+        before: trace.last,
+        any: true,
+        two: trace.any,
     }
 }
 
-impl Charge {
-    // Steps 1 to 5: last is the c before and c this one.
-    pub fn counted(self, f: Profile, p: Counting, last: u16, c: u16) -> Charge
-        requires { ⌜ ChargeWF self ⌝ }
-        ensures { λ r. ⌜ r ≡ countedOf f p self last c ⌝ }
-    {
-        let count = added(self.mark, self.count, blanked(f, p.nben, c), p.ab);
-        let a = aged(p.ac, self.age + fall(self.count, count), self.aging);
-        Charge {
-            count: count,
-            age: a.age,
-            aging: a.aging,
-            learnf: learning(self.learnf, last, c, count),
-            mark: false,
-        }
+// Steps 1 to 5: last is the c before and c this one.
+pub fn counted(charge: Charge, f: Profile, p: Counting, last: u16, c: u16) -> Charge
+    requires { ⌜ ChargeWF charge ⌝ }
+    ensures { λ r. ⌜ r ≡ countedOf f p charge last c ⌝ }
+{
+    let count = added(charge.mark, charge.count, blanked(f, p.nben, c), p.ab);
+    let a = aged(p.ac, charge.age + fall(charge.count, count), charge.aging);
+    Charge {
+        count: count,
+        age: a.age,
+        aging: a.aging,
+        learnf: learning(charge.learnf, last, c, count),
+        mark: false,
     }
+}
 
-    // ACR is set outright, the fraction 0.
-    pub fn set(mut self, acr: u16, learnf: bool) -> Charge
-        ensures { λ r. ⌜ r ≡ setOf self acr learnf ⌝ }
-    {
-        let count = (acr as u32) * 4096;
-        self.count = count;
-        self.learnf = learnf;
-        self
-    }
+// ACR is set outright, the fraction 0.
+pub fn set(mut charge: Charge, acr: u16, learnf: bool) -> Charge
+    ensures { λ r. ⌜ r ≡ setOf charge acr learnf ⌝ }
+{
+    let count = (acr as u32) * 4096;
+    charge.count = count;
+    charge.learnf = learnf;
+    charge
 }
 
 // AF, of FULL and AS.

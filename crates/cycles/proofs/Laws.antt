@@ -5,9 +5,9 @@ use Prim.Native.Nat.{ℕ, _+_, _*_, _/_, _%_, _<_, min}
 use native.Mathlib.Nat.{eq-zero-or-pos, add-assoc, div-zero, div-add-mod, mul-add-div, mod-add-mod}
 use native.Mathlib.Omega.{arith}
 use borrow.Author.Tests.{ne-eqb}
-use Rattle.profile.specs.declared.Profile.{Profile}
-use Rattle.profile.specs.declared.Profile.the-variants.{Ds2781, Ds2775}
-use Rattle.cycles.specs.declared.Cycles.{Cycles}
+use Rattle.state.specs.declared.Profile.{Profile}
+use Rattle.state.specs.declared.Profile.the-variants.{Ds2781, Ds2775}
+use Rattle.state.specs.declared.Cycles.{Cycles}
 use Rattle.cycles.specs.Cycles.{stepsOf, restOf, advancedOf, cycledOf}
 
 -- what a first fall leaves, with a second: the same rest, and together as many steps

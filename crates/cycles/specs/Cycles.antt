@@ -2,9 +2,9 @@
 use Prim.Native.Nat.{ℕ, _+_, _*_, _/_, _%_, min}
 use lib.Dec.{eqb}
 use Rattle.numbers.specs.Choice.{pick}
-use Rattle.profile.specs.declared.Profile.{Profile}
+use Rattle.state.specs.declared.Profile.{Profile}
 use Rattle.profile.specs.Profile.{countsCycles}
-use Rattle.cycles.specs.declared.Cycles.{Cycles}
+use Rattle.state.specs.declared.Cycles.{Cycles}
 
 -- "as many steps as fit", of what ACR fell since the last step; with Full40 = 0 none
 abbrev pub stepsOf : ℕ → ℕ → ℕ
@@ -21,7 +21,3 @@ advancedOf full40 count fallen = record { count = min (count + stepsOf full40 fa
 -- a conversion in which ACR fell so far
 unfoldable pub cycledOf : Profile → ℕ → Cycles → ℕ → Cycles
 cycledOf f full40 y fall = pick (countsCycles f) (advancedOf full40 (y .count) (y .rest + fall)) y
-
--- at power-on "the counter takes" its saved cell, and the rest is zeroed
-abbrev pub poweredCycles : ℕ → Cycles
-poweredCycles saved = record { count = saved; rest = 0 }

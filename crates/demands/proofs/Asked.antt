@@ -7,16 +7,16 @@ use native.Mathlib.Omega.{arith}
 use borrow.Author.Tests.{ltb-true, leb-false, not-true}
 use lib.Dec.{ltb, leb}
 use lib.ListN.{length, take, drop}
-use Rattle.profile.specs.declared.Profile.{Profile}
+use Rattle.state.specs.declared.Profile.{Profile}
 use Rattle.numbers.specs.Choice.{pick, either}
 use Rattle.numbers.proofs.Bounds.{picked}
 use Rattle.parts.specs.Parts.{pairAt}
-use Rattle.ticks.specs.declared.Tick.{Tick}
+use Rattle.state.specs.declared.Tick.{Tick}
 use Rattle.ticks.specs.Ticks.{timelyOf}
 use Rattle.bus.specs.declared.Rom.{Rom}
 use Rattle.bus.specs.declared.Rom.the-variants as rom
 use Rattle.bus.specs.declared.Transaction.{Transaction}
-use Rattle.label.specs.declared.Common.{Common}
+use Rattle.state.specs.declared.Common.{Common}
 use Rattle.events.specs.declared.Form.{Form}
 use Rattle.events.specs.declared.Kind.{Kind}
 use Rattle.events.specs.declared.Kind.the-variants as kind

@@ -7,11 +7,11 @@ use lib.ListN.{drop}
 use Rattle.numbers.specs.Choice.{pick}
 use Rattle.numbers.proofs.Bounds.{through}
 use Rattle.ticks.specs.Ticks.{elapsedOf}
-use Rattle.meter.specs.declared.Block.{Block}
-use Rattle.meter.specs.declared.Locks.{Locks}
-use Rattle.meter.specs.declared.Cells.{Cells}
-use Rattle.meter.specs.declared.Meter.{Meter}
-use Rattle.meter.specs.State.{poweredOf}
+use Rattle.state.specs.declared.Block.{Block}
+use Rattle.state.specs.declared.Locks.{Locks}
+use Rattle.state.specs.declared.Cells.{Cells}
+use Rattle.state.specs.declared.Meter.{Meter}
+use Rattle.state.specs.State.{poweredOf}
 use Rattle.meter.specs.Convert.{flowedOf, convertOf}
 use Rattle.meter.specs.Read.{shownOf, readOf}
 use Rattle.samples.specs.Samples.{sampledOf, sampleOf}

@@ -14,10 +14,10 @@ use Rattle.numbers.specs.Offset.{value, clampZ, joinedOf}
 use Rattle.numbers.proofs.Bounds.{picked, both-true}
 use Rattle.ticks.specs.Ticks.{elapsedOf}
 use Rattle.params.specs.Params.{countingOf}
-use Rattle.charge.specs.declared.Charge.{Charge}
+use Rattle.state.specs.declared.Charge.{Charge}
 use Rattle.charge.specs.Charge.{setOf, markedOf, countedOf}
 use Rattle.full.specs.Full.{settledOf}
-use Rattle.meter.specs.declared.Meter.{Meter}
+use Rattle.state.specs.declared.Meter.{Meter}
 use Rattle.meter.specs.Convert.{flowedOf, convertOf}
 use Rattle.meter.specs.Read.{shownOf, readOf}
 use Rattle.meter.specs.Signed.{orZero, blankedZ, addedZ}

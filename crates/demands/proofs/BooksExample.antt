@@ -6,10 +6,10 @@ use native.Mathlib.Omega.{arith}
 use lib.IntN.{pos-ne-negsuc}
 use lib.ListN.{length, getD, drop, replicate}
 use Rattle.crc.specs.Crc as crc
-use Rattle.profile.specs.declared.Profile.the-variants.{Ds2781, Ds2775}
+use Rattle.state.specs.declared.Profile.the-variants.{Ds2781, Ds2775}
 use Rattle.parts.specs.Parts.{laidOf}
 use Rattle.ticks.specs.Ticks.{timelyOf}
-use Rattle.meter.specs.State.{poweredOf}
+use Rattle.state.specs.State.{poweredOf}
 use Rattle.charge.specs.Charge.{countedOf, shareOf}
 use Rattle.full.specs.Full.{averagedOf, foundOf, settledOf}
 use Rattle.model.specs.Model.{slopesOver, linesOf}

@@ -6,7 +6,7 @@ use Prim.Native.Nat.{ℕ, _-_}
 use native.Mathlib.Omega.{arith}
 use lib.Dec.{eqb}
 use lib.ListN.{length}
-use Rattle.profile.specs.declared.Profile.{Profile}
+use Rattle.state.specs.declared.Profile.{Profile}
 use Rattle.profile.specs.Profile.{imageSizeOf}
 use Rattle.demands.specs.Images.{imageKind}
 use Rattle.demands.proofs.Images.{session-image}

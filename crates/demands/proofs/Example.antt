@@ -5,11 +5,11 @@ use mathlib.Core.List.{List, [], _∷_, _++_}
 use Prim.Native.Nat.{ℕ, _+_, _≤_}
 use native.Mathlib.Omega.{arith}
 use lib.ListN.{length, getD, take, replicate, length-take}
-use Rattle.profile.specs.declared.Profile.{Profile}
-use Rattle.profile.specs.declared.Profile.the-variants.{Ds2781, Ds2775}
+use Rattle.state.specs.declared.Profile.{Profile}
+use Rattle.state.specs.declared.Profile.the-variants.{Ds2781, Ds2775}
 use Rattle.demands.specs.Images.{imageKind, profileOf}
 use Rattle.crc.specs.Crc as crc
-use Rattle.meter.specs.State.{poweredOf}
+use Rattle.state.specs.State.{poweredOf}
 use Rattle.meter.specs.Convert.{flowedOf, convertOf}
 use Rattle.stores.specs.Stores.{meterWrittenOf, blockWrittenOf, meterCopiedOf, blockCopiedOf}
 use Rattle.parts.specs.Parts.{laidOf}

@@ -8,14 +8,14 @@ use native.Mathlib.Omega.{arith}
 use lib.Dec.{eqb}
 use lib.ListN.{length, drop}
 use Rattle.numbers.specs.Choice.{pick, either}
-use Rattle.meter.specs.declared.Meter.{Meter}
+use Rattle.state.specs.declared.Meter.{Meter}
 use Rattle.params.specs.Params.{rnaopOf}
 use Rattle.meter.specs.Convert.{convertOf}
 use Rattle.meter.specs.Read.{readOf}
 use Rattle.samples.specs.Samples.{sampleOf}
 use Rattle.ticks.specs.Ticks.{timelyOf}
-use Rattle.label.specs.declared.Common.{Common}
-use Rattle.label.specs.declared.Label.{Label}
+use Rattle.state.specs.declared.Common.{Common}
+use Rattle.state.specs.declared.Label.{Label}
 use Rattle.label.specs.Label.{inLabel, labelByte, labelWrittenOf, labelCopiedOf, labelRecalledOf}
 use Rattle.label.proofs.Addresses.{label-no-block}
 use Rattle.label.proofs.Kept.{label-written-elsewhere, label-copied-elsewhere, label-recalled-elsewhere, common-locked-elsewhere}

@@ -10,7 +10,7 @@ use lib.IntN.{_-ℤ_}
 use lib.ListN.{length, take, drop, take-append-drop}
 use Rattle.numbers.specs.Choice.{pick}
 use Rattle.numbers.proofs.Bounds.{picked, through}
-use Rattle.profile.specs.declared.Profile.{Profile}
+use Rattle.state.specs.declared.Profile.{Profile}
 use Rattle.gauge.specs.declared.Gauge.{Gauge}
 use Rattle.pack.specs.Image.{imageOf}
 use Rattle.events.specs.declared.Event.{Event}

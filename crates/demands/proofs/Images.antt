@@ -1,8 +1,8 @@
 -- Which kind of record is an image, of which profile.
 use mathlib.Core.Path.{_≡_, refl}
 use mathlib.Core.Bool.{true}
-use Rattle.profile.specs.declared.Profile.{Profile}
-use Rattle.profile.specs.declared.Profile.the-variants.{Ds2781, Ds2775}
+use Rattle.state.specs.declared.Profile.{Profile}
+use Rattle.state.specs.declared.Profile.the-variants.{Ds2781, Ds2775}
 use Rattle.events.specs.declared.Kind.the-variants as kind
 use Rattle.events.specs.Record.{kindOf}
 use Rattle.slots.specs.Tray.{trayKindOf}

@@ -8,7 +8,7 @@ use borrow.Author.Tests.{le-ltb, le-leb}
 use lib.Dec.{ltb}
 use lib.ListN.{length, drop, replicate}
 use Rattle.numbers.specs.Choice.{pick, either}
-use Rattle.ticks.specs.Ticks.{noTick}
+use Rattle.state.specs.State.{noTick}
 use Rattle.bus.specs.declared.Rom.{Rom}
 use Rattle.bus.specs.declared.Rom.the-variants as rom
 use Rattle.bus.specs.declared.Transaction.{Transaction}

@@ -10,7 +10,7 @@ use lib.ListN.{length, take, drop}
 use Rattle.numbers.proofs.Bounds.{picked}
 use Rattle.demands.specs.Images.{imageKind, isImage}
 use Rattle.demands.proofs.Images.{tray-image}
-use Rattle.profile.specs.declared.Profile.{Profile}
+use Rattle.state.specs.declared.Profile.{Profile}
 use Rattle.numbers.specs.Choice.{pick, both}
 use Rattle.bus.specs.declared.Transaction.{Transaction}
 use Rattle.gauge.specs.declared.Gauge.{Gauge}

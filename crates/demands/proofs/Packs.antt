@@ -11,7 +11,7 @@ use lib.Seq.{getD-set-same, ext-getD}
 use Rattle.numbers.specs.Choice.{pick}
 use Rattle.bus.specs.declared.Transaction.{Transaction}
 use Rattle.bus.specs.Ask.{sameBytes}
-use Rattle.label.specs.declared.Common.{Common}
+use Rattle.state.specs.declared.Common.{Common}
 use Rattle.gauge.specs.declared.Gauge.{Gauge}
 use Rattle.gauge.specs.Act.{actOf, replyOf}
 use Rattle.slots.specs.declared.Tray.{Tray}

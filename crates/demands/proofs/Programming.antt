@@ -9,12 +9,12 @@ use borrow.Author.Tests.{le-leb, le-ltb, lt-ltb, ltb-true, ltb-false}
 use lib.Dec.{ltb}
 use lib.ListN.{length, take, drop}
 use lib.Seq.{take-at, take-all, ext-getD}
-use Rattle.profile.specs.declared.Profile.the-variants.{Ds2781}
+use Rattle.state.specs.declared.Profile.the-variants.{Ds2781}
 use Rattle.parts.specs.Parts.{laidOf}
 use Rattle.parts.proofs.Laws.{put-whole}
 use Rattle.label.proofs.Kept.{label-written-elsewhere, label-copied-elsewhere}
 use Rattle.stores.proofs.Kept.{written-above}
-use Rattle.meter.specs.State.{poweredOf}
+use Rattle.state.specs.State.{poweredOf}
 use Rattle.label.specs.Label.{inLabel, inBlock}
 use Rattle.stores.specs.Stores.{reachesOf, lockWrittenOf, blockWrittenOf, blockCopiedOf, meterCopiedOf, reblockedOf}
 use Rattle.map.specs.Registers.{meterByte}

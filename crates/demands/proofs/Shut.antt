@@ -8,12 +8,13 @@ use native.Mathlib.Omega.{arith}
 use borrow.Author.Tests.{ltb-true, le-leb}
 use lib.Dec.{leb, eqb}
 use lib.ListN.{length, getD, drop}
-use Rattle.profile.specs.declared.Profile.{Profile}
+use Rattle.state.specs.declared.Profile.{Profile}
 use Rattle.profile.specs.Profile.{imageSizeOf}
 use Rattle.numbers.specs.Choice.{pick}
 use Rattle.numbers.proofs.Bounds.{picked}
-use Rattle.ticks.specs.declared.Tick.{Tick}
-use Rattle.ticks.specs.Ticks.{noTick, timelyOf}
+use Rattle.state.specs.declared.Tick.{Tick}
+use Rattle.state.specs.State.{noTick}
+use Rattle.ticks.specs.Ticks.{timelyOf}
 use Rattle.gauge.specs.declared.Gauge.{Gauge}
 use Rattle.events.specs.declared.Change.the-variants as change
 use Rattle.events.specs.declared.Kind.{Kind}

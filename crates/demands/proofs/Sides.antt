@@ -10,9 +10,9 @@ use lib.Dec.{eqb}
 use lib.ListN.{length}
 use lib.Seq.{ext-getD}
 use Rattle.numbers.specs.Choice.{pick, either}
-use Rattle.meter.specs.declared.Meter.{Meter}
-use Rattle.label.specs.declared.Common.{Common}
-use Rattle.label.specs.declared.Label.{Label}
+use Rattle.state.specs.declared.Meter.{Meter}
+use Rattle.state.specs.declared.Common.{Common}
+use Rattle.state.specs.declared.Label.{Label}
 use Rattle.bus.specs.declared.Transaction.{Transaction}
 use Rattle.replies.specs.Reply.{selectedOf}
 use Rattle.gauge.specs.declared.Gauge.{Gauge}

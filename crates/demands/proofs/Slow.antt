@@ -6,9 +6,9 @@ use Prim.Native.Nat.{ℕ, zero, suc, _-_, zero-le}
 use borrow.Author.Tests.{le-ltb}
 use native.Mathlib.Nat.{sub-zero}
 use lib.ListN.{replicate}
-use Rattle.ticks.specs.Ticks.{noTick, elapsedOf, timelyOf}
-use Rattle.meter.specs.declared.Meter.{Meter}
-use Rattle.meter.specs.State.{withFlow, withTick}
+use Rattle.state.specs.State.{noTick, withFlow, withTick}
+use Rattle.ticks.specs.Ticks.{elapsedOf, timelyOf}
+use Rattle.state.specs.declared.Meter.{Meter}
 use Rattle.meter.specs.Convert.{flowedOf, convertOf}
 use Rattle.samples.specs.Samples.{sampledOf, sampleOf}
 use Rattle.samples.proofs.Laws.{sampled-first}

@@ -6,14 +6,14 @@ use Prim.Native.Nat.{ℕ}
 use lib.ListN.{drop}
 use Rattle.numbers.specs.Choice.{pick, both, butNot}
 use Rattle.numbers.proofs.Bounds.{through}
-use Rattle.profile.specs.declared.Profile.{Profile}
-use Rattle.meter.specs.State.{poweredOf}
+use Rattle.state.specs.declared.Profile.{Profile}
+use Rattle.state.specs.State.{poweredOf}
 use Rattle.meter.specs.Convert.{flowedOf, convertOf}
 use Rattle.meter.specs.Read.{shownOf, readOf}
-use Rattle.label.specs.declared.Label.{Label}
+use Rattle.state.specs.declared.Label.{Label}
 use Rattle.label.specs.Label.{inLabel, inBlock, labelCopiedOf}
 use Rattle.label.proofs.Kept.{label-written-eeprom, label-recalled-eeprom}
-use Rattle.meter.specs.declared.Block.{Block}
+use Rattle.state.specs.declared.Block.{Block}
 use Rattle.stores.specs.Stores.{blockCopiedOf, meterWrittenOf, meterCopiedOf, meterRecalledOf, meterLockedOf}
 use Rattle.stores.proofs.Kept.{written-eeprom, recalled-eeprom}
 use Rattle.bus.specs.declared.Command.{Command}

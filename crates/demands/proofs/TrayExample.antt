@@ -4,12 +4,12 @@ use mathlib.Core.List.{List, [], _∷_, _++_, zip, zipWith}
 use Prim.Native.Nat.{ℕ, _≤_}
 use native.Mathlib.Omega.{arith}
 use lib.ListN.{length, getD, replicate}
-use Rattle.profile.specs.declared.Profile.{Profile}
-use Rattle.profile.specs.declared.Profile.the-variants.{Ds2781, Ds2775}
+use Rattle.state.specs.declared.Profile.{Profile}
+use Rattle.state.specs.declared.Profile.the-variants.{Ds2781, Ds2775}
 use Rattle.crc.specs.Crc as crc
 use Rattle.parts.specs.Parts.{laidOf}
 use Rattle.ticks.specs.Ticks.{timelyOf}
-use Rattle.meter.specs.State.{poweredOf}
+use Rattle.state.specs.State.{poweredOf}
 use Rattle.meter.specs.Convert.{flowedOf, convertOf}
 use Rattle.stores.specs.Stores.{meterWrittenOf, blockWrittenOf}
 use Rattle.label.specs.Label.{inLabel, inBlock, labelByte, labelWrittenOf}

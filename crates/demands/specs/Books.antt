@@ -15,13 +15,13 @@ use lib.Signed.{leZ}
 use lib.ListN.{drop, replicate}
 use Rattle.numbers.specs.Choice.{pick, both}
 use Rattle.numbers.specs.Offset.{value, clampZ, joinedOf}
-use Rattle.profile.specs.declared.Profile.{Profile}
-use Rattle.ticks.specs.declared.Tick.{Tick}
+use Rattle.state.specs.declared.Profile.{Profile}
+use Rattle.state.specs.declared.Tick.{Tick}
 use Rattle.ticks.specs.Ticks.{tickOf, elapsedOf}
 use Rattle.params.specs.Params.{nbenOf, countingOf, capacityOf}
 use Rattle.charge.specs.Charge.{acrOf, fractionOf, setOf, markedOf}
 use Rattle.full.specs.Full.{filledOf}
-use Rattle.meter.specs.declared.Meter.{Meter}
+use Rattle.state.specs.declared.Meter.{Meter}
 use Rattle.meter.specs.Convert.{convertOf}
 use Rattle.meter.specs.Read.{readOf}
 use Rattle.meter.specs.Corrections.{chargeIn, correctsFull, correctsEmpty, emptiedIn}

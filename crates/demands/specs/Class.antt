@@ -19,7 +19,7 @@ use Rattle.events.specs.declared.Taken.{Taken}
 use Rattle.events.specs.declared.Taken.the-variants.{Run, Refused}
 use Rattle.runs.specs.Record.{Rec, whole, cut}
 use Rattle.events.specs.Record.{refusalNumber, masterOf, takenOf}
-use Rattle.ticks.specs.Ticks.{noTick}
+use Rattle.state.specs.State.{noTick}
 use Rattle.slots.specs.Tray.{trayAskedAt}
 use Rattle.demands.specs.Sections.{Class, labelling, gauging, fence}
 

@@ -6,7 +6,7 @@ use mathlib.Core.List.{List, [], _∷_}
 use Prim.Native.Nat.{ℕ, zero, suc, _+_}
 use lib.Dec.{eqb}
 use lib.ListN.{length}
-use Rattle.profile.specs.declared.Profile.{Profile}
+use Rattle.state.specs.declared.Profile.{Profile}
 use Rattle.demands.specs.Images.{imageKind, isImage}
 use Rattle.numbers.specs.Choice.{pick, both}
 use Rattle.events.specs.declared.Form.{Form}

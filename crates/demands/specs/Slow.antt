@@ -6,9 +6,9 @@ use mathlib.Core.Bool.{true}
 use mathlib.Core.List.{List, [], _∷_, _++_, map}
 use Prim.Native.Nat.{ℕ, _+_, _*_}
 use lib.ListN.{replicate}
-use Rattle.ticks.specs.declared.Tick.{Tick}
-use Rattle.ticks.specs.Ticks.{tickOf, noTick, elapsedOf, timelyOf}
-use Rattle.meter.specs.State.{withFlow, withTick}
+use Rattle.state.specs.declared.Tick.{Tick}
+use Rattle.state.specs.State.{noTick, withFlow, withTick}
+use Rattle.ticks.specs.Ticks.{tickOf, elapsedOf, timelyOf}
 use Rattle.gauge.specs.declared.Gauge.{Gauge}
 use Rattle.gauge.specs.Gauge.{withMeter}
 use Rattle.runs.specs.Record.{Rec, whole}

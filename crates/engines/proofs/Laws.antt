@@ -16,12 +16,10 @@ use Rattle.parts.proofs.Laws.{part-rest}
 use Rattle.digits.specs.Digits.{Writing}
 use Rattle.streams.specs.declared.Stream.the-variants.{Output}
 use Rattle.streams.specs.Streams.{error, refusedText, Saying}
-use Rattle.charge.specs.declared.Charge.{Charge}
-use Rattle.charge.specs.Charge.{ChargeWF}
-use Rattle.full.specs.declared.Average.{Average}
-use Rattle.full.specs.Full.{AverageWF}
-use Rattle.meter.specs.declared.Meter.{Meter}
-use Rattle.meter.specs.State.{MeterWF}
+use Rattle.state.specs.declared.Charge.{Charge}
+use Rattle.state.specs.State.{ChargeWF, AverageWF, MeterWF}
+use Rattle.state.specs.declared.Average.{Average}
+use Rattle.state.specs.declared.Meter.{Meter}
 use Rattle.gauge.specs.declared.Gauge.{Gauge}
 use Rattle.runs.specs.Record.{recsOf}
 use Rattle.runs.specs.Run.{endAfter, Runs}

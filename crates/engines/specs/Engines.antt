@@ -9,12 +9,12 @@ use Rattle.numbers.specs.Offset.{zeroAt, offset32Of}
 use Rattle.parts.specs.Parts.{pairAt, quadAt}
 use Rattle.digits.specs.Digits.{lower, hexText}
 use Rattle.streams.specs.Streams.{Speech, output, error, unreadText, refusedText}
-use Rattle.charge.specs.declared.Charge.{Charge}
-use Rattle.full.specs.declared.Average.{Average}
-use Rattle.full.specs.Full.{runOf}
-use Rattle.meter.specs.declared.Meter.{Meter}
+use Rattle.state.specs.declared.Charge.{Charge}
+use Rattle.state.specs.declared.Average.{Average}
+use Rattle.state.specs.State.{runOf}
+use Rattle.state.specs.declared.Meter.{Meter}
 use Rattle.samples.specs.Samples.{sampledOf}
-use Rattle.label.specs.declared.Common.{Common}
+use Rattle.state.specs.declared.Common.{Common}
 use Rattle.map.specs.Registers.{registersOf}
 use Rattle.gauge.specs.declared.Gauge.{Gauge}
 use Rattle.runs.specs.Record.{recsOf}

@@ -1,8 +1,8 @@
 // engines: runs the session on standard input behind 6 bytes, a raw current and n, and shows what both sampling engines make of its end
-use full::Average;
 use gauge::Gauge;
-use label::Common;
-use meter::Meter;
+use state::Average;
+use state::Common;
+use state::Meter;
 use streams::Input;
 use streams::Said;
 use streams::Stream;
@@ -10,7 +10,7 @@ ghost use mathlib.Core.Path.{_≡_};
 ghost use mathlib.Core.List.{List};
 ghost use Prim.Native.Nat.{ℕ, _+_, _≤_};
 ghost use lib.ListN.{length};
-ghost use Rattle.meter.specs.State.{MeterWF};
+ghost use Rattle.state.specs.State.{MeterWF};
 ghost use Rattle.digits.specs.Digits.{Writing};
 ghost use Rattle.streams.specs.Streams.{Front, Saying};
 ghost use Rattle.engines.specs.Engines.{averageSound, soundOf, registersText, lineText, linesText, comparedSpeech, comparedOf};

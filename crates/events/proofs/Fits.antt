@@ -9,9 +9,9 @@ use lib.Dec.{leb, eqb, ltb}
 use lib.ListN.{length, drop}
 use Rattle.numbers.proofs.Bounds.{picked, both-true}
 use Rattle.parts.specs.Parts.{pairAt}
-use Rattle.ticks.specs.declared.Tick.{Tick}
+use Rattle.state.specs.declared.Tick.{Tick}
 use Rattle.ticks.specs.Ticks.{timelyOf}
-use Rattle.profile.specs.declared.Profile.{Profile}
+use Rattle.state.specs.declared.Profile.{Profile}
 use Rattle.profile.specs.Profile.{imageSizeOf}
 use Rattle.bus.specs.declared.Transaction.{Transaction}
 use Rattle.bus.proofs.Laws.{asked-placed}

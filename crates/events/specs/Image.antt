@@ -8,7 +8,7 @@ use lib.Dec.{eqb}
 use lib.ListN.{getD}
 use Rattle.parts.specs.Parts.{part, pairAt}
 use Rattle.numbers.specs.Choice.{pick}
-use Rattle.profile.specs.declared.Profile.{Profile}
+use Rattle.state.specs.declared.Profile.{Profile}
 use Rattle.profile.specs.Profile.{countsCycles}
 use Rattle.params.specs.declared.Breaks.{Breaks}
 use Rattle.params.specs.Params.{breaksOf}

@@ -8,11 +8,11 @@ use lib.ListN.{length, getD, drop}
 use Rattle.numbers.specs.Choice.{pick, both}
 use Rattle.numbers.specs.Offset.{zeroAt, offset32Of}
 use Rattle.parts.specs.Parts.{part, pairAt, quadAt}
-use Rattle.ticks.specs.declared.Tick.{Tick}
+use Rattle.state.specs.declared.Tick.{Tick}
 use Rattle.ticks.specs.Ticks.{timelyOf}
 use Rattle.crc.specs.Crc.{crcOf}
-use Rattle.profile.specs.declared.Profile.{Profile}
-use Rattle.profile.specs.declared.Profile.the-variants.{Ds2781, Ds2775}
+use Rattle.state.specs.declared.Profile.{Profile}
+use Rattle.state.specs.declared.Profile.the-variants.{Ds2781, Ds2775}
 use Rattle.profile.specs.Profile.{familyOf, imageSizeOf}
 use Rattle.params.specs.declared.Breaks.{Breaks}
 use Rattle.bus.specs.declared.Transaction.{Transaction}

@@ -1,8 +1,8 @@
 // What a record asks: the event of a kind and a payload, or the first refusal that applies, and its number.
 use bus::Transaction;
 use params::Breaks;
-use profile::Profile;
-use ticks::Tick;
+use state::Profile;
+use state::Tick;
 ghost use mathlib.Core.Bool.{false};
 ghost use mathlib.Core.Path.{_≡_};
 ghost use Prim.Native.Nat.{_≤_};
@@ -289,7 +289,7 @@ fn sample_taken(loaded: bool, last: Tick, p: &[u8]) -> Taken
     if loaded {
         let current = numbers::offset32(parts::quad(p, 0));
         let tick = parts::pair(p, 4);
-        if last.timely(tick) {
+        if ticks::timely(last, tick) {
             return Taken::Run(Event::Change(Change::Sample(current, tick)));
         }
         return Taken::Refused(Refusal::Interval);

@@ -7,11 +7,12 @@ use lib.Dec.{ltb}
 use borrow.Author.Tests.{eqb-true, eqb-false}
 use Rattle.numbers.specs.Choice.{pick, both}
 use Rattle.numbers.proofs.Bounds.{picked}
-use Rattle.charge.specs.declared.Charge.{Charge}
-use Rattle.charge.specs.Charge.{ChargeWF, acrOf, agedFullOf, shareUpOf}
+use Rattle.state.specs.declared.Charge.{Charge}
+use Rattle.state.specs.State.{ChargeWF, AverageWF, runOf}
+use Rattle.charge.specs.Charge.{acrOf, agedFullOf, shareUpOf}
 use Rattle.charge.proofs.Laws.{set-wf, with-as-wf, aged-full-high, share-up-high}
-use Rattle.full.specs.declared.Average.{Average}
-use Rattle.full.specs.Full.{AverageWF, nextMade, runOf, eighth, averagedOf, learntOf, taughtOf, filledOf, settledOf}
+use Rattle.state.specs.declared.Average.{Average}
+use Rattle.full.specs.Full.{nextMade, eighth, averagedOf, learntOf, taughtOf, filledOf, settledOf}
 
 -- ACR at full: AF × Full40 / 16,384 rounded up
 pub filled-acr : (g : Charge) (full full40 : ℕ)

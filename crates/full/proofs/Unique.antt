@@ -1,9 +1,9 @@
 -- The contracts of this crate's public functions leave no choice.
 use mathlib.Core.Path.{refl, sym, _∙_}
 use Rattle.once.specs.Once.{Once}
-use Rattle.full.proofs.Average.averaged
-use Rattle.full.proofs.Average.found
-use Rattle.full.proofs.Since.lowered
+use Rattle.full.proofs.averaged
+use Rattle.full.proofs.found
+use Rattle.full.proofs.lowered
 use Rattle.full.proofs.filled
 
 pub averaged-once : Once averaged.ended averaged.Reads.Pre averaged.Reads.Learnt

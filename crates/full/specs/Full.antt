@@ -1,14 +1,15 @@
 -- Full detection: step 6 of a conversion. Currents are kept as z + 2^15.
 use mathlib.Core.Bool.{Bool, true, false}
-use Prim.Native.Nat.{ℕ, _+_, _*_, _/_, _%_, _^_, _≤_, _<_, min}
+use Prim.Native.Nat.{ℕ, _+_, _*_, _/_, _%_, _^_, min}
 use lib.Dec.{ltb, eqb}
 use Rattle.numbers.specs.Offset.{zeroAt, movedInto}
 use Rattle.numbers.specs.Choice.{pick, both}
 use Rattle.params.specs.declared.Limits.{Limits}
-use Rattle.charge.specs.declared.Charge.{Charge}
+use Rattle.state.specs.declared.Charge.{Charge}
 use Rattle.charge.specs.Charge.{acrOf, setOf, withAs, agedFullOf, shareUpOf}
-use Rattle.full.specs.declared.Average.{Average}
-use Rattle.full.specs.declared.Since.{Since}
+use Rattle.state.specs.declared.Average.{Average}
+use Rattle.state.specs.declared.Since.{Since}
+use Rattle.state.specs.State.{runOf}
 
 -- ---- conversions since power-on, modulo 1,024
 
@@ -20,20 +21,11 @@ nextMade made = (made + 1) % 1024
 abbrev pub offsetTurn : Average → Bool
 offsetTurn a = eqb (a .made) 1023
 
--- how many the run of eight has: both are counted from power-on, and 8 divides 1,024
-abbrev pub runOf : Average → ℕ
-runOf a = a .made % 8
-
 -- the eighth conversion of a run
 abbrev pub eighth : Average → Bool
 eighth a = eqb (runOf a) 7
 
 -- ---- the average
-
--- what holds of every average
-pub record AverageWF (a : Average) : Type 0 where
-  pub made : a .made < 1024
-  pub sum : a .sum ≤ 65535 * runOf a
 
 -- the sum of eight c divided by 8, rounded down
 abbrev pub meanOf : Average → ℕ → ℕ

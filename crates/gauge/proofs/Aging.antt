@@ -8,13 +8,13 @@ use Rattle.numbers.specs.Choice.{both, either, butNot}
 use Rattle.numbers.specs.Offset.{joinedOf}
 use Rattle.numbers.proofs.Bounds.{picked}
 use Rattle.params.specs.Params.{countingOf}
-use Rattle.charge.specs.declared.Charge.{Charge}
+use Rattle.state.specs.declared.Charge.{Charge}
 use Rattle.charge.specs.Charge.{acrOf, setOf, markedOf}
 use Rattle.charge.proofs.Laws.{counted-stays}
 use Rattle.full.specs.Full.{filledOf, settledOf}
 use Rattle.ticks.specs.Ticks.{elapsedOf}
-use Rattle.meter.specs.declared.Meter.{Meter}
-use Rattle.meter.specs.State.{poweredOf}
+use Rattle.state.specs.declared.Meter.{Meter}
+use Rattle.state.specs.State.{poweredOf}
 use Rattle.meter.specs.Convert.{flowedOf, convertOf}
 use Rattle.meter.specs.Corrections.{currentIn, chargeIn}
 use Rattle.meter.specs.Read.{readOf, drainedOf, shownOf}

@@ -5,20 +5,20 @@ use mathlib.Core.List.{List}
 use Prim.Native.Nat.{ℕ, zero, suc}
 use lib.ListN.{drop}
 use Rattle.numbers.proofs.Bounds.{picked}
-use Rattle.profile.specs.declared.Profile.{Profile}
+use Rattle.state.specs.declared.Profile.{Profile}
 use Rattle.cycles.specs.Cycles.{cycledOf}
-use Rattle.charge.specs.declared.Charge.{Charge}
-use Rattle.reading.specs.declared.Saved.{Saved}
+use Rattle.state.specs.declared.Charge.{Charge}
+use Rattle.state.specs.declared.Saved.{Saved}
 use Rattle.reading.specs.Reading.{keptOf}
-use Rattle.meter.specs.declared.Locks.{Locks}
-use Rattle.meter.specs.declared.Block.{Block}
-use Rattle.meter.specs.State.{withCells, withLocks, poweredOf}
+use Rattle.state.specs.declared.Locks.{Locks}
+use Rattle.state.specs.declared.Block.{Block}
+use Rattle.state.specs.State.{withCells, withLocks, poweredOf}
 use Rattle.meter.specs.Convert.{flowedOf, convertOf}
 use Rattle.meter.specs.Read.{readOf, drainedOf, shownOf}
 use Rattle.ticks.specs.Ticks.{elapsedOf}
 use Rattle.samples.specs.Samples.{sampledOf, tickedOf, sampleOf}
-use Rattle.label.specs.declared.Common.{Common}
-use Rattle.label.specs.declared.Label.{Label}
+use Rattle.state.specs.declared.Common.{Common}
+use Rattle.state.specs.declared.Label.{Label}
 use Rattle.label.specs.Label.{inLabel, inBlock, commonLockedOf}
 use Rattle.label.proofs.Kept.{label-written-sized, label-written-eeprom, label-copied-sized, label-copied-locked, label-copied-elsewhere, label-recalled-sized, label-recalled-eeprom, label-recalled-elsewhere, common-locked-elsewhere}
 use Rattle.stores.specs.Stores.{meterWrittenOf, meterCopiedOf, meterRecalledOf, meterLockedOf}

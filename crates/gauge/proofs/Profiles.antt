@@ -11,25 +11,25 @@ use borrow.Author.Tests.{eqb-false, ltb-true, ltb-false, lt-ltb, le-ltb}
 use Rattle.numbers.specs.Choice.{pick, both}
 use Rattle.numbers.specs.Offset.{zeroAt}
 use Rattle.numbers.proofs.Bounds.{through}
-use Rattle.profile.specs.declared.Profile.{Profile}
-use Rattle.profile.specs.declared.Profile.the-variants.{Ds2781, Ds2775}
+use Rattle.state.specs.declared.Profile.{Profile}
+use Rattle.state.specs.declared.Profile.the-variants.{Ds2781, Ds2775}
 use Rattle.profile.specs.Profile.{countsCycles}
 use Rattle.params.specs.declared.Counting.{Counting}
 use Rattle.params.specs.Params.{countingOf}
-use Rattle.charge.specs.declared.Charge.{Charge}
+use Rattle.state.specs.declared.Charge.{Charge}
 use Rattle.charge.specs.Charge.{blankedOf, countedOf}
 use Rattle.cycles.specs.Cycles.{cycledOf}
 use Rattle.ticks.specs.Ticks.{elapsedOf}
 use Rattle.reading.specs.Reading.{keptOf}
-use Rattle.meter.specs.declared.Meter.{Meter}
-use Rattle.meter.specs.State.{withCharge, poweredOf}
+use Rattle.state.specs.declared.Meter.{Meter}
+use Rattle.state.specs.State.{withCharge, poweredOf}
 use Rattle.meter.specs.Convert.{flowedOf, convertOf}
 use Rattle.meter.specs.Corrections.{currentIn}
 use Rattle.meter.specs.Read.{readOf, drainedOf, shownOf}
 use Rattle.samples.specs.Samples.{sampledOf, tickedOf, sampleOf}
 use Rattle.samples.proofs.Laws.{neither}
-use Rattle.label.specs.declared.Common.{Common}
-use Rattle.label.specs.declared.Label.{Label}
+use Rattle.state.specs.declared.Common.{Common}
+use Rattle.state.specs.declared.Label.{Label}
 use Rattle.map.specs.Registers.{registersOf, meterByte}
 use Rattle.stores.specs.Stores.{meterWrittenOf, meterCopiedOf, meterRecalledOf, meterLockedOf}
 use Rattle.stores.proofs.Kept.{cycles-uncounted}

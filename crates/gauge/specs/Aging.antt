@@ -8,8 +8,8 @@ use Rattle.numbers.specs.Choice.{both, either, butNot}
 use Rattle.params.specs.Params.{countingOf, capacityOf}
 use Rattle.charge.specs.Charge.{fallOf}
 use Rattle.ticks.specs.Ticks.{elapsedOf}
-use Rattle.meter.specs.declared.Meter.{Meter}
-use Rattle.meter.specs.State.{asIn}
+use Rattle.state.specs.declared.Meter.{Meter}
+use Rattle.state.specs.State.{asIn}
 use Rattle.meter.specs.Corrections.{chargeIn, correctsFull}
 use Rattle.samples.specs.Samples.{sampledOf}
 use Rattle.bus.specs.declared.Transaction.{Transaction}

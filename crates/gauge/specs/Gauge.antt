@@ -5,13 +5,13 @@ use mathlib.Core.Bool.{false}
 use mathlib.Core.List.{List}
 use lib.ListN.{length}
 use Rattle.profile.specs.Profile.{countsCycles}
-use Rattle.meter.specs.declared.Meter.{Meter}
-use Rattle.meter.specs.State.{MeterWF, restartedOf}
+use Rattle.state.specs.declared.Meter.{Meter}
+use Rattle.state.specs.State.{MeterWF, restartedOf, LabelSized}
 use Rattle.meter.specs.Convert.{convertOf}
 use Rattle.meter.specs.Read.{readOf}
 use Rattle.samples.specs.Samples.{sampleOf}
-use Rattle.label.specs.declared.Label.{Label}
-use Rattle.label.specs.Label.{LabelSized, labelWrittenOf, labelCopiedOf, labelPoweredOf, labelRecalledOf, commonLockedOf}
+use Rattle.state.specs.declared.Label.{Label}
+use Rattle.label.specs.Label.{labelWrittenOf, labelCopiedOf, labelPoweredOf, labelRecalledOf, commonLockedOf}
 use Rattle.stores.specs.Stores.{BlockSized, meterWrittenOf, meterCopiedOf, meterRecalledOf, meterLockedOf}
 use Rattle.gauge.specs.declared.Gauge.{Gauge}
 

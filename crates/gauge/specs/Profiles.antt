@@ -8,13 +8,13 @@ use lib.Dec.{eqb}
 use lib.ListN.{length, getD}
 use Rattle.numbers.specs.Choice.{both, either}
 use Rattle.numbers.specs.Offset.{zeroAt}
-use Rattle.profile.specs.declared.Profile.the-variants.{Ds2781}
+use Rattle.state.specs.declared.Profile.the-variants.{Ds2781}
 use Rattle.params.specs.Params.{countingOf}
-use Rattle.charge.specs.declared.Charge.{Charge}
+use Rattle.state.specs.declared.Charge.{Charge}
 use Rattle.ticks.specs.Ticks.{elapsedOf}
-use Rattle.meter.specs.declared.Cells.{Cells}
-use Rattle.meter.specs.declared.Meter.{Meter}
-use Rattle.meter.specs.State.{withCharge}
+use Rattle.state.specs.declared.Cells.{Cells}
+use Rattle.state.specs.declared.Meter.{Meter}
+use Rattle.state.specs.State.{withCharge}
 use Rattle.meter.specs.Corrections.{currentIn}
 use Rattle.samples.specs.Samples.{sampledOf}
 use Rattle.bus.specs.declared.Transaction.{Transaction}

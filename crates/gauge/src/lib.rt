@@ -1,9 +1,9 @@
 // The gauge: its events and what a transaction does.
 use bus::Command;
 use bus::Transaction;
-use label::Common;
-use label::Label;
-use meter::Meter;
+use state::Common;
+use state::Label;
+use state::Meter;
 ghost use mathlib.Core.Path.{_≡_};
 ghost use mathlib.Core.List.{_++_};
 ghost use Prim.Native.Nat.{_≤_, _<_};
@@ -27,7 +27,7 @@ impl Gauge {
         ensures { λ r. ⌜ r ≡ conversionOf self raw ⌝ }
         ensures kept { λ r. ⌜ GaugeWF r ⌝ }
     {
-        let converted = self.meter.convert(raw);
+        let converted = meter::convert(self.meter, raw);
         self.meter = converted;
         self
     }
@@ -49,7 +49,7 @@ impl Gauge {
         ensures { λ r. ⌜ r ≡ readingOf self volt temp ⌝ }
         ensures kept { λ r. ⌜ GaugeWF r ⌝ }
     {
-        let measured = self.meter.read(volt, temp);
+        let measured = meter::read(self.meter, volt, temp);
         self.meter = measured;
         self
     }
@@ -58,7 +58,7 @@ impl Gauge {
         ensures { λ r. ⌜ r ≡ powerOnOf self ⌝ }
         ensures kept { λ r. ⌜ GaugeWF r ⌝ }
     {
-        let powered = self.label.powered();
+        let powered = label::powered(self.label);
         let restarted = self.meter.restarted();
         self.label = powered;
         self.meter = restarted;
@@ -90,7 +90,7 @@ impl Gauge {
         ensures { λ r. ⌜ r ≡ writtenOf self a (now (bytes .entry)) ⌝ }
         ensures kept { λ r. ⌜ GaugeWF r ⌝ }
     {
-        let label = self.label.written(self.common.bl0, a, bytes);
+        let label = label::written(self.label, self.common.bl0, a, bytes);
         let meter = stores::meter_written(self.meter, a, bytes);
         self.label = label;
         self.meter = meter;
@@ -103,7 +103,7 @@ impl Gauge {
         ensures { λ r. ⌜ r ≡ copiedOf self a ⌝ }
         ensures kept { λ r. ⌜ GaugeWF r ⌝ }
     {
-        let label = self.label.copied(self.common.bl0, a);
+        let label = label::copied(self.label, self.common.bl0, a);
         let meter = stores::meter_copied(self.meter, a);
         self.label = label;
         self.meter = meter;
@@ -116,7 +116,7 @@ impl Gauge {
         ensures { λ r. ⌜ r ≡ recalledOf self a ⌝ }
         ensures kept { λ r. ⌜ GaugeWF r ⌝ }
     {
-        let label = self.label.recalled(a);
+        let label = label::recalled(self.label, a);
         let meter = stores::meter_recalled(self.meter, a);
         self.label = label;
         self.meter = meter;
@@ -129,7 +129,7 @@ impl Gauge {
         ensures { λ r. ⌜ r ≡ lockedOf self a ⌝ }
         ensures kept { λ r. ⌜ GaugeWF r ⌝ }
     {
-        let common = self.common.locked(self.meter.cells.locks.lock, a);
+        let common = label::locked(self.common, self.meter.cells.locks.lock, a);
         let used = stores::meter_locked(self.meter, a);
         self.common = common;
         self.meter = used;

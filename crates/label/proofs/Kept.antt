@@ -7,9 +7,10 @@ use lib.ListN.{length}
 use Rattle.numbers.specs.Choice.{both, either, butNot}
 use Rattle.numbers.proofs.Bounds.{picked}
 use Rattle.parts.proofs.Laws.{laid-none, laid-length}
-use Rattle.label.specs.declared.Common.{Common}
-use Rattle.label.specs.declared.Label.{Label}
-use Rattle.label.specs.Label.{LabelSized, inLabel, labelWrittenOf, labelCopiedOf, labelRecalledOf, commonLockedOf}
+use Rattle.state.specs.declared.Common.{Common}
+use Rattle.state.specs.declared.Label.{Label}
+use Rattle.state.specs.State.{LabelSized}
+use Rattle.label.specs.Label.{inLabel, labelWrittenOf, labelCopiedOf, labelRecalledOf, commonLockedOf}
 
 pub but-none : (t : Bool) → butNot false t ≡ false
 but-none true = refl

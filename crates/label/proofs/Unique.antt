@@ -3,11 +3,11 @@ use mathlib.Core.Path.{refl, sym, _∙_}
 use Rattle.once.specs.Once.{Once}
 use Rattle.label.proofs.in_label
 use Rattle.label.proofs.in_block
-use Rattle.label.proofs.Label.written as label_written
-use Rattle.label.proofs.Label.copied as label_copied
-use Rattle.label.proofs.Label.powered as label_powered
-use Rattle.label.proofs.Label.recalled as label_recalled
-use Rattle.label.proofs.Common.locked as common_locked
+use Rattle.label.proofs.written as label_written
+use Rattle.label.proofs.copied as label_copied
+use Rattle.label.proofs.powered as label_powered
+use Rattle.label.proofs.recalled as label_recalled
+use Rattle.label.proofs.locked as common_locked
 
 pub in-label-once : Once in_label.ended in_label.Reads.Pre in_label.Reads.Learnt
 in-label-once κs a r r′ w w′ p h h′ = (h ∙ sym h′, refl)

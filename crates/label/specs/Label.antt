@@ -1,15 +1,14 @@
 -- Where the two blocks stand, and block 0, the label: what a write, a copy, a recall, a lock and a power-on do to it. What label events touch
 -- is a function of the common part and the label.
 use Prim.Native.Nat.{ℕ, _-_}
-use mathlib.Core.Path.{_≡_}
 use mathlib.Core.Bool.{Bool}
 use mathlib.Core.List.{List}
 use lib.Dec.{ltb, leb}
-use lib.ListN.{length, getD}
+use lib.ListN.{getD}
 use Rattle.numbers.specs.Choice.{pick, both, either, butNot}
 use Rattle.parts.specs.Parts.{laidOf}
-use Rattle.label.specs.declared.Common.{Common}
-use Rattle.label.specs.declared.Label.{Label}
+use Rattle.state.specs.declared.Common.{Common}
+use Rattle.state.specs.declared.Label.{Label}
 
 -- 20h..2Fh: block 0, the label
 unfoldable pub inLabel : ℕ → Bool
@@ -18,10 +17,6 @@ inLabel a = both (leb 0x20 a) (ltb a 0x30)
 -- 60h..7Fh: block 1, the parameters
 unfoldable pub inBlock : ℕ → Bool
 inBlock a = both (leb 0x60 a) (ltb a 0x80)
-
-pub record LabelSized (l : Label) : Type 0 where
-  pub shadow : length (l .shadow) ≡ 16
-  pub eeprom : length (l .eeprom) ≡ 16
 
 -- the byte at an address of the label
 unfoldable pub labelByte : Label → ℕ → ℕ

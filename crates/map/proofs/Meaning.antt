@@ -7,9 +7,9 @@ use lib.IntN.{ℤ, pos, subℕ, _*ℤ_}
 use lib.ListN.{length, getD}
 use Rattle.numbers.specs.Offset.{value, signed, joinedOf}
 use Rattle.numbers.proofs.Offset.{order, sub-eq, sub-pos, sub-neg, neg-sub, word, word-fits}
-use Rattle.meter.specs.declared.Meter.{Meter}
-use Rattle.meter.specs.State.{MeterWF}
-use Rattle.label.specs.declared.Common.{Common}
+use Rattle.state.specs.declared.Meter.{Meter}
+use Rattle.state.specs.State.{MeterWF}
+use Rattle.state.specs.declared.Common.{Common}
 use Rattle.map.specs.Registers.{upperOf, lowerOf, wordOf, tempRegister, registersOf}
 
 -- two's complement: the register of a number kept as z + 2^15 is z

@@ -6,14 +6,14 @@ use lib.Dec.{ltb}
 use lib.ListN.{getD, set}
 use Rattle.numbers.specs.Choice.{pick}
 use Rattle.numbers.specs.Offset.{zeroAt}
-use Rattle.reading.specs.declared.Flags.{Flags}
+use Rattle.state.specs.declared.Flags.{Flags}
 use Rattle.profile.specs.Profile.{countsCycles}
-use Rattle.cycles.specs.declared.Cycles.{Cycles}
-use Rattle.meter.specs.declared.Cells.{Cells}
-use Rattle.meter.specs.declared.Locks.{Locks}
-use Rattle.meter.specs.declared.Meter.{Meter}
+use Rattle.state.specs.declared.Cycles.{Cycles}
+use Rattle.state.specs.declared.Cells.{Cells}
+use Rattle.state.specs.declared.Locks.{Locks}
+use Rattle.state.specs.declared.Meter.{Meter}
 use Rattle.charge.specs.Charge.{acrOf, fractionOf}
-use Rattle.label.specs.declared.Common.{Common}
+use Rattle.state.specs.declared.Common.{Common}
 use Rattle.label.specs.Label.{inBlock}
 use Rattle.map.specs.declared.Pair.{Pair}
 

@@ -1,13 +1,13 @@
 // The memory map: what a read of the registers finds.
-use cycles::Cycles;
-use label::Common;
-use meter::Cells;
-use meter::Locks;
-use meter::Meter;
-use reading::Flags;
+use state::Cells;
+use state::Common;
+use state::Cycles;
+use state::Flags;
+use state::Locks;
+use state::Meter;
 ghost use mathlib.Core.Path.{_≡_};
 ghost use Prim.Native.Nat.{_*_, _%_, _≤_, _<_};
-ghost use Rattle.meter.specs.State.{MeterWF};
+ghost use Rattle.state.specs.State.{MeterWF};
 ghost use Rattle.map.specs.Registers.{wordOf, tempWordOf, flagOf, statusOf, cycleByte, eepromOf, pairOf, twoOf, putOf, registersOf, registerOf};
 
 // A signed number kept as z + 2^15, in two's complement.

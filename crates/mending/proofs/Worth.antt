@@ -18,7 +18,7 @@ use Rattle.numbers.proofs.Bounds.{both-true}
 use Rattle.parts.specs.Parts.{part}
 use Rattle.crc.specs.Crc.{crcOf}
 use Rattle.params.specs.declared.Breaks.{Breaks}
-use Rattle.profile.specs.declared.Profile.the-variants.{Ds2781}
+use Rattle.state.specs.declared.Profile.the-variants.{Ds2781}
 use Rattle.events.specs.declared.Event.the-variants.{Image}
 use Rattle.events.specs.declared.Taken.the-variants.{Run, Refused}
 use Rattle.events.specs.declared.Refusal.the-variants as refusal

@@ -7,12 +7,12 @@ use Rattle.numbers.specs.Choice.{pick, either, butNot}
 use Rattle.numbers.specs.Offset.{value}
 use Rattle.numbers.proofs.Bounds.{through}
 use Rattle.params.specs.Params.{capacityOf}
-use Rattle.charge.specs.declared.Charge.{Charge}
+use Rattle.state.specs.declared.Charge.{Charge}
 use Rattle.charge.specs.Charge.{acrOf, setOf, currentOf}
 use Rattle.full.specs.Full.{offsetTurn, settledOf}
 use Rattle.reading.specs.Reading.{emptiedOf}
-use Rattle.meter.specs.declared.Flow.{Flow}
-use Rattle.meter.specs.declared.Meter.{Meter}
+use Rattle.state.specs.declared.Flow.{Flow}
+use Rattle.state.specs.declared.Meter.{Meter}
 use Rattle.meter.specs.Convert.{convertedOf, flowedOf, convertOf}
 use Rattle.meter.specs.Read.{drainedOf, shownOf, readOf}
 use Rattle.meter.specs.Signed.{currentZ}

@@ -1,12 +1,12 @@
 -- What request [12] says of the cycle counter of a meter: which events move it, and by how much.
-use mathlib.Core.Path.{_≡_, refl, ap}
+use mathlib.Core.Path.{_≡_, refl}
 use Prim.Native.Nat.{ℕ}
 use Rattle.params.specs.Params.{countingOf, capacityOf}
 use Rattle.charge.specs.Charge.{fallOf, countedOf}
-use Rattle.cycles.specs.Cycles.{poweredCycles, cycledOf}
-use Rattle.meter.specs.declared.Cells.{Cells}
-use Rattle.meter.specs.declared.Meter.{Meter}
-use Rattle.meter.specs.State.{poweredOf, restartedOf}
+use Rattle.state.specs.State.{poweredCycles, poweredOf}
+use Rattle.cycles.specs.Cycles.{cycledOf}
+use Rattle.state.specs.declared.Cells.{Cells}
+use Rattle.state.specs.declared.Meter.{Meter}
 use Rattle.meter.specs.Convert.{convertedOf, flowedOf, convertOf}
 use Rattle.meter.specs.Read.{shownOf, readOf}
 
@@ -32,7 +32,3 @@ read-cycles m v t = refl
 pub powered-cycles : (c : Cells) → poweredOf c .cycles ≡ poweredCycles (c .saved .cycles)
 unfolding poweredOf
 powered-cycles c = refl
-
--- and meters with the same cells power on to the same: nothing else outlives it, the rest neither
-pub restarted-alike : (m n : Meter) → m .cells ≡ n .cells → restartedOf m ≡ restartedOf n
-restarted-alike m n e = ap poweredOf e

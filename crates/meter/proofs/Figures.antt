@@ -6,17 +6,17 @@ use mathlib.Core.List.{List, [], _∷_, map}
 use Prim.Native.Nat.{ℕ, _+_, _-_, _*_}
 use lib.ListN.{set}
 use Rattle.numbers.specs.Offset.{zeroAt}
-use Rattle.profile.specs.declared.Profile.{Profile}
-use Rattle.profile.specs.declared.Profile.the-variants.{Ds2781, Ds2775}
-use Rattle.cycles.specs.declared.Cycles.{Cycles}
+use Rattle.state.specs.declared.Profile.{Profile}
+use Rattle.state.specs.declared.Profile.the-variants.{Ds2781, Ds2775}
+use Rattle.state.specs.declared.Cycles.{Cycles}
 use Rattle.cycles.specs.Cycles.{cycledOf}
-use Rattle.charge.specs.declared.Charge.{Charge}
+use Rattle.state.specs.declared.Charge.{Charge}
 use Rattle.charge.specs.Charge.{acrOf, fractionOf, countedOf, agedFullOf, shareOf, shareUpOf}
 use Rattle.full.specs.Full.{averagedOf, renewedOf, foundOf, learntOf, filledOf, settledOf, loweredOf}
 use Rattle.model.specs.Model.{slopesOver, linesOf}
 use Rattle.reading.specs.Reading.{degreesOf, drainingOf, pointOf, emptiedOf, leftOf, usableOf, percentOf, amountOf, resultsOf, ratedOf, flaggedOf, keptOf, seenOf}
-use Rattle.meter.specs.declared.Meter.{Meter}
-use Rattle.meter.specs.State.{withCharge, withCycles, poweredOf}
+use Rattle.state.specs.declared.Meter.{Meter}
+use Rattle.state.specs.State.{withCharge, withCycles, poweredOf}
 use Rattle.meter.specs.Convert.{flowedOf, convertOf}
 use Rattle.meter.specs.Read.{drainedOf, shownOf, readOf}
 

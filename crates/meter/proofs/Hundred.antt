@@ -8,16 +8,16 @@ use native.Mathlib.Omega.{arith}
 use Rattle.numbers.specs.Choice.{both}
 use Rattle.params.specs.declared.Capacity.{Capacity}
 use Rattle.params.specs.Params.{countingOf, limitsOf, capacityOf, curvesOf}
-use Rattle.charge.specs.declared.Charge.{Charge}
+use Rattle.state.specs.declared.Charge.{Charge}
 use Rattle.charge.specs.Charge.{acrOf, agedFullOf, countedOf}
 use Rattle.charge.proofs.Laws.{share-up-covers}
 use Rattle.full.specs.Full.{eighth, foundOf, filledOf, settledOf}
 use Rattle.full.proofs.Laws.{filled-acr}
-use Rattle.model.specs.declared.Model.{Model}
+use Rattle.state.specs.declared.Model.{Model}
 use Rattle.reading.specs.declared.Seen.{Seen}
 use Rattle.reading.proofs.Laws.{percent-full, percent-none}
 use Rattle.reading.specs.Reading.{leftOf, usableOf, percentOf, resultsOf, ratedOf, flaggedOf, seenOf}
-use Rattle.meter.specs.declared.Meter.{Meter}
+use Rattle.state.specs.declared.Meter.{Meter}
 use Rattle.meter.specs.Convert.{convertedOf, flowedOf, convertOf}
 use Rattle.meter.specs.Read.{drainedOf, shownOf, readOf}
 

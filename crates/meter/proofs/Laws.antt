@@ -5,21 +5,20 @@ use Prim.Native.Nat.{ℕ, _+_, _≤_}
 use native.Mathlib.Omega.{arith}
 use Rattle.numbers.specs.Choice.{pick, both}
 use Rattle.params.specs.declared.Limits.{Limits}
-use Rattle.charge.specs.declared.Charge.{Charge}
-use Rattle.charge.specs.Charge.{ChargeWF, fallOf}
+use Rattle.state.specs.declared.Charge.{Charge}
+use Rattle.state.specs.State.{ChargeWF, MeterWF, withCharge, withCycles}
+use Rattle.charge.specs.Charge.{fallOf}
 use Rattle.charge.proofs.Laws.{share-high}
 use Rattle.profile.specs.Profile.{countsCycles}
-use Rattle.cycles.specs.declared.Cycles.{Cycles}
+use Rattle.state.specs.declared.Cycles.{Cycles}
 use Rattle.cycles.specs.Cycles.{advancedOf, cycledOf}
 use Rattle.full.specs.Full.{eighth, foundOf}
 use Rattle.full.proofs.Laws.{settled-wf, averaged-wf}
-use Rattle.reading.specs.declared.Results.{Results}
+use Rattle.state.specs.declared.Results.{Results}
 use Rattle.reading.specs.declared.Seen.{Seen}
 use Rattle.reading.specs.Reading.{SeenWF, pointOf}
 use Rattle.reading.proofs.Laws.{emptied-wf}
-use Rattle.meter.specs.declared.Cells.{Cells}
-use Rattle.meter.specs.declared.Meter.{Meter}
-use Rattle.meter.specs.State.{MeterWF, withCharge, withCycles, poweredOf}
+use Rattle.state.specs.declared.Meter.{Meter}
 use Rattle.meter.specs.Convert.{chargedOf, flowedOf}
 use Rattle.meter.specs.Read.{drainedOf, shownOf}
 
@@ -66,9 +65,3 @@ drained-wf m p full40 s h seen w =
 pub shown-wf : (m : Meter) (s : Seen) (g : Charge) (r : Results) → SeenWF s → ChargeWF g → MeterWF m → MeterWF (shownOf m s g r)
 unfolding shownOf
 shown-wf m s g r seen h w = record { charge = h; average = w .average; full = seen .full; volt = seen .volt; temp = seen .temp }
-
--- ---- power-on
-
-pub power-wf : (c : Cells) → c .saved .acr ≤ 65535 → MeterWF (poweredOf c)
-unfolding poweredOf
-power-wf c h = omega arith

@@ -19,13 +19,14 @@ use Rattle.params.specs.declared.Counting.{Counting}
 use Rattle.params.specs.declared.Breaks.{Breaks}
 use Rattle.params.specs.declared.Slopes.{Slopes}
 use Rattle.params.specs.Params.{byteAt, signedAt}
-use Rattle.charge.specs.declared.Charge.{Charge}
-use Rattle.profile.specs.declared.Profile.{Profile}
-use Rattle.profile.specs.declared.Profile.the-variants.{Ds2781, Ds2775}
+use Rattle.state.specs.declared.Charge.{Charge}
+use Rattle.state.specs.declared.Profile.{Profile}
+use Rattle.state.specs.declared.Profile.the-variants.{Ds2781, Ds2775}
 use Rattle.profile.specs.Profile.{edgeOf}
 use Rattle.charge.specs.Charge.{acrOf, currentOf, negative, turnedOf, blankedOf, grownOf, newCount, fallOf}
-use Rattle.full.specs.declared.Average.{Average}
-use Rattle.full.specs.Full.{nextMade, runOf, averagedOf, tapersOf}
+use Rattle.state.specs.declared.Average.{Average}
+use Rattle.state.specs.State.{runOf}
+use Rattle.full.specs.Full.{nextMade, averagedOf, tapersOf}
 use Rattle.model.specs.Model.{slopeOf, forty, slopesOver, slopesTo, fullLineOf}
 use Rattle.reading.specs.Reading.{voltOf, tempOf, degreesOf, drainsOf, leftOf, usableOf, percentOf, amountOf}
 use Rattle.meter.specs.Signed.{minus, orZero, atMostZ, atLeastZ, currentZ, negativeZ, turnedZ, slightZ, blankedZ, grownZ, addedZ, fallZ, sumZ, meanZ, tapersZ, voltZ, tempZ, degreesZ, slopeZ, slopesOverZ, slopesZ, fullLineZ, averagedOver, drainsZ, leftZ, usableZ, percentZ, amountZ}

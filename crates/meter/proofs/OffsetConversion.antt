@@ -10,14 +10,14 @@ use borrow.Author.Tests.{eq-eqb, ne-eqb}
 use Rattle.numbers.specs.Choice.{butNot}
 use Rattle.numbers.proofs.Bounds.{picked}
 use Rattle.params.specs.Params.{countingOf}
-use Rattle.charge.specs.declared.Charge.{Charge}
+use Rattle.state.specs.declared.Charge.{Charge}
 use Rattle.charge.specs.Charge.{acrOf, setOf, currentOf, countedOf}
 use Rattle.full.specs.Full.{nextMade, filledOf, settledOf}
 use Rattle.full.proofs.Laws.{averaged-made}
 use Rattle.reading.specs.Reading.{emptiedOf}
-use Rattle.meter.specs.declared.Cells.{Cells}
-use Rattle.meter.specs.declared.Meter.{Meter}
-use Rattle.meter.specs.State.{poweredOf}
+use Rattle.state.specs.declared.Cells.{Cells}
+use Rattle.state.specs.declared.Meter.{Meter}
+use Rattle.state.specs.State.{poweredOf}
 use Rattle.meter.specs.Convert.{convertedOf, flowedOf, convertOf}
 use Rattle.meter.specs.Read.{drainedOf, shownOf, readOf}
 use Rattle.meter.proofs.Figures.{converted}

@@ -4,14 +4,14 @@ use mathlib.Core.Bool.{Bool}
 use Rattle.numbers.specs.Choice.{pick, both, either}
 use Rattle.params.specs.declared.Limits.{Limits}
 use Rattle.params.specs.Params.{countingOf, limitsOf, capacityOf}
-use Rattle.charge.specs.declared.Charge.{Charge}
+use Rattle.state.specs.declared.Charge.{Charge}
 use Rattle.charge.specs.Charge.{currentOf, tracedOf, fallOf, countedOf}
 use Rattle.cycles.specs.Cycles.{cycledOf}
 use Rattle.full.specs.Full.{offsetTurn, eighth, averagedOf, renewedOf, foundOf, settledOf}
-use Rattle.reading.specs.declared.Flags.{Flags}
-use Rattle.meter.specs.declared.Flow.{Flow}
-use Rattle.meter.specs.declared.Meter.{Meter}
-use Rattle.meter.specs.State.{withFlags}
+use Rattle.state.specs.declared.Flags.{Flags}
+use Rattle.state.specs.declared.Flow.{Flow}
+use Rattle.state.specs.declared.Meter.{Meter}
+use Rattle.state.specs.State.{withFlags}
 
 -- step 1: c. "On the 1024th, the previous c is shown, averaged and counted; the raw value is ignored."
 abbrev pub convertedOf : Flow → ℕ → ℕ → ℕ

@@ -4,12 +4,12 @@ use mathlib.Core.Bool.{Bool}
 use lib.Dec.{ltb}
 use Rattle.numbers.specs.Choice.{pick, both, either, butNot}
 use Rattle.params.specs.Params.{countingOf, limitsOf, capacityOf, curvesOf}
-use Rattle.charge.specs.declared.Charge.{Charge}
+use Rattle.state.specs.declared.Charge.{Charge}
 use Rattle.charge.specs.Charge.{acrOf, setOf, countedOf, shareOf}
 use Rattle.full.specs.Full.{eighth, foundOf}
 use Rattle.reading.specs.declared.Seen.{Seen}
 use Rattle.reading.specs.Reading.{pointOf, seenOf}
-use Rattle.meter.specs.declared.Meter.{Meter}
+use Rattle.state.specs.declared.Meter.{Meter}
 use Rattle.meter.specs.Convert.{convertedOf}
 
 -- ---- a conversion of a raw current

@@ -1,4 +1,3 @@
-pub mod State
 pub mod Convert
 pub mod Read
 pub mod Signed

@@ -3,14 +3,14 @@ use Prim.Native.Nat.{ℕ}
 use mathlib.Core.Bool.{true}
 use Rattle.params.specs.declared.Limits.{Limits}
 use Rattle.params.specs.Params.{limitsOf, capacityOf, curvesOf}
-use Rattle.charge.specs.declared.Charge.{Charge}
+use Rattle.state.specs.declared.Charge.{Charge}
 use Rattle.charge.specs.Charge.{shareOf}
 use Rattle.full.specs.Full.{loweredOf}
-use Rattle.reading.specs.declared.Results.{Results}
+use Rattle.state.specs.declared.Results.{Results}
 use Rattle.reading.specs.declared.Seen.{Seen}
 use Rattle.reading.specs.Reading.{pointOf, emptiedOf, ratedOf, flaggedOf, savesOf, keptOf, seenOf}
-use Rattle.meter.specs.declared.Meter.{Meter}
-use Rattle.meter.specs.State.{withSaved, withSince}
+use Rattle.state.specs.declared.Meter.{Meter}
+use Rattle.state.specs.State.{withSaved, withSince}
 
 -- step 3, with E = AE × Full40 / 16,384 rounded down
 unfoldable pub drainedOf : Meter → Limits → ℕ → Seen → Charge

@@ -9,9 +9,9 @@ use Rattle.numbers.specs.Choice.{pick, both, either}
 use Rattle.numbers.specs.Offset.{value, clampZ, divZ}
 use Rattle.params.specs.declared.Breaks.{Breaks}
 use Rattle.params.specs.declared.Slopes.{Slopes}
-use Rattle.profile.specs.declared.Profile.{Profile}
-use Rattle.profile.specs.declared.Profile.the-variants.{Ds2781, Ds2775}
-use Rattle.full.specs.declared.Average.{Average}
+use Rattle.state.specs.declared.Profile.{Profile}
+use Rattle.state.specs.declared.Profile.the-variants.{Ds2781, Ds2775}
+use Rattle.state.specs.declared.Average.{Average}
 use Rattle.full.specs.Full.{averagedOf}
 
 -- ---- integers

@@ -6,7 +6,7 @@ use Rattle.numbers.specs.Offset.{zeroAt}
 use Rattle.params.specs.declared.Breaks.{Breaks}
 use Rattle.params.specs.declared.Slopes.{Slopes}
 use Rattle.params.specs.declared.Curves.{Curves}
-use Rattle.model.specs.declared.Model.{Model}
+use Rattle.state.specs.declared.Model.{Model}
 
 -- the segment's slope of the step from t + 1 to t
 abbrev pub slopeOf : Breaks → Slopes → ℕ → ℕ

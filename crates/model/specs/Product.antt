@@ -4,7 +4,7 @@ use Prim.Native.Nat.{ℕ, _+_, _-_, _*_, min, max}
 use Rattle.params.specs.declared.Breaks.{Breaks}
 use Rattle.params.specs.declared.Slopes.{Slopes}
 use Rattle.params.specs.declared.Curves.{Curves}
-use Rattle.model.specs.declared.Model.{Model}
+use Rattle.state.specs.declared.Model.{Model}
 use Rattle.model.specs.declared.Degrees.{Degrees}
 use Rattle.model.specs.Model.{forty, fullLineOf, emptyLineOf}
 

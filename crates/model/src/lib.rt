@@ -2,18 +2,12 @@
 use params::Breaks;
 use params::Curves;
 use params::Slopes;
+use state::Model;
 ghost use mathlib.Core.Path.{_≡_};
 ghost use Prim.Native.Nat.{_*_, _^_, _≤_, _<_};
 ghost use Rattle.numbers.specs.Offset.{movedInto};
 ghost use Rattle.model.specs.Model.{fullLineOf, emptyLineOf, linesOf};
 ghost use Rattle.model.specs.Product.{segmentsOf, weighedOf};
-
-// FULL, AE and SE.
-pub struct Model {
-    pub full: u16,
-    pub ae: u16,
-    pub se: u16,
-}
 
 // How many of the degrees from t up to 39 each segment has.
 struct Degrees {

@@ -1,6 +1,6 @@
 -- An accepted image sets AS from its saved cell.
 use mathlib.Core.Path.{refl}
-use Rattle.meter.specs.State.{poweredOf}
+use Rattle.state.specs.State.{poweredOf}
 use Rattle.gauge.proofs.Aging.{own-aging}
 use Rattle.pack.specs.Image.{imageOf}
 use Rattle.pack.specs.Aging.{PackAging}

@@ -12,10 +12,10 @@ use Rattle.numbers.specs.Choice.{pick}
 use Rattle.parts.specs.Parts.{part, put, pairAt}
 use Rattle.parts.proofs.Laws.{put-next, put-front}
 use Rattle.params.specs.Params.{breaksOf}
-use Rattle.profile.specs.declared.Profile.{Profile}
-use Rattle.profile.specs.declared.Profile.the-variants.{Ds2781, Ds2775}
+use Rattle.state.specs.declared.Profile.{Profile}
+use Rattle.state.specs.declared.Profile.the-variants.{Ds2781, Ds2775}
 use Rattle.profile.specs.Profile.{imageSizeOf, countsCycles}
-use Rattle.meter.specs.State.{poweredOf}
+use Rattle.state.specs.State.{poweredOf}
 use Rattle.gauge.specs.declared.Gauge.{Gauge}
 use Rattle.events.specs.declared.Event.the-variants.{Image}
 use Rattle.events.specs.declared.Refusal.the-variants.{Breaks}

@@ -8,11 +8,11 @@ use lib.ListN.{length, getD, take, drop, length-drop, List·getD-append}
 use lib.Seq.{take-append-le, drop-append-le}
 use Rattle.parts.specs.Parts.{part}
 use Rattle.numbers.proofs.Bounds.{through}
-use Rattle.profile.specs.declared.Profile.{Profile}
-use Rattle.profile.specs.declared.Profile.the-variants.{Ds2781, Ds2775}
+use Rattle.state.specs.declared.Profile.{Profile}
+use Rattle.state.specs.declared.Profile.the-variants.{Ds2781, Ds2775}
 use Rattle.profile.specs.Profile.{countsCycles}
-use Rattle.meter.specs.declared.Meter.{Meter}
-use Rattle.meter.specs.State.{poweredOf}
+use Rattle.state.specs.declared.Meter.{Meter}
+use Rattle.state.specs.State.{poweredOf}
 use Rattle.events.specs.Image.{imageSize, imageLocks, imageBreaks}
 use Rattle.events.specs.Record.{numberOf, judgedAmong}
 use Rattle.gauge.specs.Gauge.{NoCycles}

@@ -12,10 +12,10 @@ use Rattle.numbers.specs.Choice.{pick}
 use Rattle.parts.specs.Parts.{part}
 use Rattle.parts.proofs.Laws.{part-length}
 use Rattle.params.specs.Params.{breaksOf}
-use Rattle.profile.specs.declared.Profile.{Profile}
+use Rattle.state.specs.declared.Profile.{Profile}
 use Rattle.profile.specs.Profile.{imageSizeOf}
 use Rattle.profile.proofs.Laws.{sixty}
-use Rattle.meter.specs.State.{poweredOf}
+use Rattle.state.specs.State.{poweredOf}
 use Rattle.gauge.specs.declared.Gauge.{Gauge}
 use Rattle.gauge.specs.Gauge.{Sized, Uncounted, powerOnOf}
 use Rattle.gauge.specs.Kept.{Kept}

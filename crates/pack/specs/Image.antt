@@ -6,11 +6,11 @@ use Prim.Native.Nat.{ℕ, _+_, _/_, _%_}
 use lib.Dec.{leb}
 use lib.ListN.{length, drop}
 use Rattle.numbers.specs.Choice.{pick}
-use Rattle.profile.specs.declared.Profile.{Profile}
+use Rattle.state.specs.declared.Profile.{Profile}
 use Rattle.profile.specs.Profile.{imageSizeOf, countsCycles}
 use Rattle.events.specs.Image.{imageAddress, imageLabel, imageBlock, imageAcr, imageAging, imageCycles, imageBl0, imageBl1}
-use Rattle.reading.specs.declared.Saved.{Saved}
-use Rattle.meter.specs.State.{poweredOf}
+use Rattle.state.specs.declared.Saved.{Saved}
+use Rattle.state.specs.State.{poweredOf}
 use Rattle.map.specs.Registers.{flagOf}
 use Rattle.gauge.specs.declared.Gauge.{Gauge}
 

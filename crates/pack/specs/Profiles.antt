@@ -6,8 +6,8 @@ use mathlib.Core.List.{List, _++_}
 use Prim.Native.Nat.{ℕ}
 use lib.Dec.{eqb}
 use lib.ListN.{length}
-use Rattle.profile.specs.declared.Profile.{Profile}
-use Rattle.profile.specs.declared.Profile.the-variants.{Ds2781}
+use Rattle.state.specs.declared.Profile.{Profile}
+use Rattle.state.specs.declared.Profile.the-variants.{Ds2781}
 use Rattle.profile.specs.Profile.{imageSizeOf, countsCycles}
 use Rattle.events.specs.Image.{imageSize, imageAddress, imageLocks, imageBreaks}
 use Rattle.events.specs.Record.{numberOf, addressedOf, judgedAmong}

@@ -10,7 +10,7 @@ use Rattle.streams.specs.declared.Said.{Said}
 use Rattle.streams.specs.declared.Stream.the-variants.{Output}
 use Rattle.streams.specs.Streams.{Front, Within, Saying, error, refusedText}
 use Rattle.streams.proofs.Laws.{cut, seen}
-use Rattle.profile.specs.declared.Profile.the-variants.{Ds2781}
+use Rattle.state.specs.declared.Profile.the-variants.{Ds2781}
 use Rattle.events.specs.declared.Refusal.the-variants.{Size}
 use Rattle.events.specs.declared.Taken.{Taken}
 use Rattle.events.specs.declared.Taken.the-variants as taken

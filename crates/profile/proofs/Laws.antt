@@ -1,8 +1,8 @@
 -- An image of either profile has the 60 bytes that document 01 names.
 use Prim.Native.Nat.{_≤_}
 use native.Mathlib.Omega.{arith}
-use Rattle.profile.specs.declared.Profile.{Profile}
-use Rattle.profile.specs.declared.Profile.the-variants.{Ds2781, Ds2775}
+use Rattle.state.specs.declared.Profile.{Profile}
+use Rattle.state.specs.declared.Profile.the-variants.{Ds2781, Ds2775}
 use Rattle.profile.specs.Profile.{imageSizeOf}
 
 pub sixty : (f : Profile) → 60 ≤ imageSizeOf f

@@ -1,8 +1,8 @@
 -- The part that a pack has, the DS2781 of document 01 or the DS2775 of request [12]: all that tells the two apart, and nothing else does.
 use mathlib.Core.Bool.{Bool, true, false}
 use Prim.Native.Nat.{ℕ}
-use Rattle.profile.specs.declared.Profile.{Profile}
-use Rattle.profile.specs.declared.Profile.the-variants.{Ds2781, Ds2775}
+use Rattle.state.specs.declared.Profile.{Profile}
+use Rattle.state.specs.declared.Profile.the-variants.{Ds2781, Ds2775}
 
 -- "its family code .. as in 000": the first byte of the net address
 abbrev pub familyOf : Profile → ℕ

@@ -1,12 +1,8 @@
 // The two parts that a pack may have, and what tells them apart.
+use state::Profile;
 ghost use mathlib.Core.Path.{_≡_};
 ghost use Prim.Native.Nat.{_≤_};
 ghost use Rattle.profile.specs.Profile.{familyOf, imageSizeOf, edgeOf, countsCycles};
-
-pub enum Profile {
-    Ds2781,
-    Ds2775,
-}
 
 // The first byte of the net address.
 pub fn family(f: Profile) -> u8

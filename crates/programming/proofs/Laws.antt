@@ -10,7 +10,7 @@ use lib.ListN.{length, take, drop, length-append}
 use Rattle.numbers.specs.Choice.{pick}
 use Rattle.parts.specs.Parts.{put}
 use Rattle.parts.proofs.Laws.{put-next, put-front, put-whole}
-use Rattle.profile.specs.declared.Profile.the-variants.{Ds2781}
+use Rattle.state.specs.declared.Profile.the-variants.{Ds2781}
 use Rattle.events.specs.declared.Taken.{Taken}
 use Rattle.events.specs.declared.Taken.the-variants as taken
 use Rattle.events.specs.Image.{imageSize, imageBl1}

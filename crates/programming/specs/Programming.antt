@@ -6,7 +6,7 @@ use Prim.Native.Nat.{ℕ, _≤_}
 use lib.Dec.{eqb, ltb}
 use lib.ListN.{length, drop}
 use Rattle.numbers.specs.Choice.{pick}
-use Rattle.profile.specs.declared.Profile.the-variants.{Ds2781}
+use Rattle.state.specs.declared.Profile.the-variants.{Ds2781}
 use Rattle.events.specs.declared.Event.the-variants as event
 use Rattle.events.specs.declared.Taken.{Taken}
 use Rattle.events.specs.declared.Taken.the-variants as taken

@@ -10,8 +10,9 @@ use Rattle.numbers.specs.Choice.{pick, butNot}
 use Rattle.numbers.proofs.Bounds.{picked}
 use Rattle.params.specs.declared.Curves.{Curves}
 use Rattle.params.specs.declared.Limits.{Limits}
-use Rattle.charge.specs.declared.Charge.{Charge}
-use Rattle.charge.specs.Charge.{acrOf, ChargeWF}
+use Rattle.state.specs.declared.Charge.{Charge}
+use Rattle.state.specs.State.{ChargeWF}
+use Rattle.charge.specs.Charge.{acrOf}
 use Rattle.charge.proofs.Laws.{set-wf}
 use Rattle.model.proofs.Laws.{lines-full, lines-ae}
 use Rattle.reading.specs.Reading.{SeenWF, tempOf, degreesOf, emptiedOf, percentOf, seenOf}

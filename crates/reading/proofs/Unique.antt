@@ -2,11 +2,11 @@
 use mathlib.Core.Path.{refl, sym, _∙_}
 use Rattle.once.specs.Once.{Once}
 use Rattle.reading.proofs.Seen.of as seen
-use Rattle.reading.proofs.Reading.point
+use Rattle.reading.proofs.point
 use Rattle.reading.proofs.emptied
 use Rattle.reading.proofs.rated
-use Rattle.reading.proofs.Flags.flagged
-use Rattle.reading.proofs.Saved.kept
+use Rattle.reading.proofs.flagged
+use Rattle.reading.proofs.kept
 
 pub seen-once : Once seen.ended seen.Reads.Pre seen.Reads.Learnt
 seen-once κs a r r′ w w′ p h h′ = (h .0 ∙ sym (h′ .0), refl)

@@ -7,15 +7,15 @@ use Rattle.numbers.specs.Offset.{zeroAt}
 use Rattle.params.specs.declared.Curves.{Curves}
 use Rattle.params.specs.declared.Limits.{Limits}
 use Rattle.params.specs.declared.Capacity.{Capacity}
-use Rattle.charge.specs.declared.Charge.{Charge}
-use Rattle.charge.specs.declared.Trace.{Trace}
+use Rattle.state.specs.declared.Charge.{Charge}
+use Rattle.state.specs.declared.Trace.{Trace}
 use Rattle.charge.specs.Charge.{acrOf, setOf, agedFullOf}
-use Rattle.model.specs.declared.Model.{Model}
+use Rattle.state.specs.declared.Model.{Model}
 use Rattle.model.specs.Model.{linesOf}
-use Rattle.reading.specs.declared.Results.{Results}
-use Rattle.reading.specs.declared.Reading.{Reading}
-use Rattle.reading.specs.declared.Flags.{Flags}
-use Rattle.reading.specs.declared.Saved.{Saved}
+use Rattle.state.specs.declared.Results.{Results}
+use Rattle.state.specs.declared.Reading.{Reading}
+use Rattle.state.specs.declared.Flags.{Flags}
+use Rattle.state.specs.declared.Saved.{Saved}
 use Rattle.reading.specs.declared.Seen.{Seen}
 
 -- ---- step 1

@@ -1,42 +1,18 @@
 // A reading: what it sees, the empty point, the results, the flags and the saved cells.
-use charge::Charge;
-use charge::Trace;
-use model::Model;
 use params::Capacity;
 use params::Curves;
 use params::Limits;
+use state::Charge;
+use state::Flags;
+use state::Model;
+use state::Reading;
+use state::Results;
+use state::Saved;
+use state::Trace;
 ghost use mathlib.Core.Path.{_≡_};
 ghost use Prim.Native.Nat.{_*_, _≤_};
-ghost use Rattle.charge.specs.Charge.{ChargeWF};
+ghost use Rattle.state.specs.State.{ChargeWF};
 ghost use Rattle.reading.specs.Reading.{SeenWF, voltOf, tempOf, seenOf, drainingOf, pointOf, emptiedOf, leftOf, usableOf, percentOf, amountOf, resultsOf, ratedOf, flaggedOf, keptOf};
-
-pub struct Results {
-    pub rarc: u8,
-    pub rsrc: u8,
-    pub raac: u16,
-    pub rsac: u16,
-}
-
-// VOLT and TEMP as counts, and whether there was a reading since power-on.
-pub struct Reading {
-    pub volt: u16,
-    pub temp: u16,
-    pub known: bool,
-}
-
-pub struct Flags {
-    pub aef: bool,
-    pub chgtf: bool,
-    pub sef: bool,
-    pub porf: bool,
-}
-
-// The saved cells: ACR, AS and the cycle counter.
-pub struct Saved {
-    pub acr: u16,
-    pub aging: u8,
-    pub cycles: u8,
-}
 
 // What a reading sees: steps 1 and 2, and whether VOLT ≥ 4 × VAE.
 pub struct Seen {
@@ -87,14 +63,12 @@ fn draining(trace: Trace, iae: u8) -> bool
     numbers::and(there, numbers::and(trace.last < top, trace.before < top))
 }
 
-impl Reading {
-    // Step 3: the empty point is found.
-    pub fn point(self, trace: Trace, p: Limits) -> bool
-        ensures { λ r. ⌜ r ≡ pointOf self trace p ⌝ }
-    {
-        let held = numbers::and(self.known, 4 * (p.vae as u16) <= self.volt);
-        numbers::and(held, draining(trace, p.iae))
-    }
+// Step 3: the empty point is found.
+pub fn point(reading: Reading, trace: Trace, p: Limits) -> bool
+    ensures { λ r. ⌜ r ≡ pointOf reading trace p ⌝ }
+{
+    let held = numbers::and(reading.known, 4 * (p.vae as u16) <= reading.volt);
+    numbers::and(held, draining(trace, p.iae))
 }
 
 // Step 3: holds says that VOLT ≥ 4 × VAE, point that the empty point is found, and e is E.
@@ -105,7 +79,7 @@ pub fn emptied(mut g: Charge, holds: bool, point: bool, e: u16) -> Charge
         return g;
     }
     if point {
-        return g.set(e, 0 < e);
+        return charge::set(g, e, 0 < e);
     }
     if numbers::and_not((e as u32) < g.count / 4096, g.learnf) {
         g.count = (e as u32) * 4096;
@@ -146,19 +120,17 @@ fn amount(n: u32, rsnsp: u8) -> u16
     ((n as u64) * (rsnsp as u64) / 4194304) as u16
 }
 
-impl Results {
-    // Step 4: the four results, of the lines, ACR and AF.
-    fn of(lines: Model, acr: u16, af: u16, p: Capacity) -> Results
-        ensures { λ r. ⌜ r ≡ resultsOf lines acr af p ⌝ }
-    {
-        let active = left(acr, lines.ae, p.full40);
-        let standby = left(acr, lines.se, p.full40);
-        Results {
-            rarc: percent(active, usable(af, lines.ae, p.full40)),
-            rsrc: percent(standby, usable(af, lines.se, p.full40)),
-            raac: amount(active, p.rsnsp),
-            rsac: amount(standby, p.rsnsp),
-        }
+// Step 4: the four results, of the lines, ACR and AF.
+fn results_of(lines: Model, acr: u16, af: u16, p: Capacity) -> Results
+    ensures { λ r. ⌜ r ≡ resultsOf lines acr af p ⌝ }
+{
+    let active = left(acr, lines.ae, p.full40);
+    let standby = left(acr, lines.se, p.full40);
+    Results {
+        rarc: percent(active, usable(af, lines.ae, p.full40)),
+        rsrc: percent(standby, usable(af, lines.se, p.full40)),
+        raac: amount(active, p.rsnsp),
+        rsac: amount(standby, p.rsnsp),
     }
 }
 
@@ -170,36 +142,32 @@ pub fn rated(g: Charge, lines: Model, p: Capacity) -> Results
 {
     let acr = (g.count / 4096) as u16;
     let af = charge::aged_full(lines.full, g.aging) as u16;
-    Results::of(lines, acr, af, p)
+    results_of(lines, acr, af, p)
 }
 
-impl Flags {
-    // Step 5, and AEF of step 3.
-    pub fn flagged(self, holds: bool, r: Results) -> Flags
-        ensures { λ f. ⌜ f ≡ flaggedOf self holds r ⌝ }
-    {
-        let aef = numbers::and_not(self.aef, 5 < r.rarc);
-        let sef = numbers::and_not(self.sef, 15 < r.rsrc);
-        Flags {
-            porf: self.porf,
-            chgtf: numbers::and_not(self.chgtf, r.rarc < 90),
-            aef: numbers::choose_bool(holds, aef, true),
-            sef: numbers::or(r.rsrc < 10, sef),
-        }
+// Step 5, and AEF of step 3.
+pub fn flagged(flags: Flags, holds: bool, r: Results) -> Flags
+    ensures { λ f. ⌜ f ≡ flaggedOf flags holds r ⌝ }
+{
+    let aef = numbers::and_not(flags.aef, 5 < r.rarc);
+    let sef = numbers::and_not(flags.sef, 15 < r.rsrc);
+    Flags {
+        porf: flags.porf,
+        chgtf: numbers::and_not(flags.chgtf, r.rarc < 90),
+        aef: numbers::choose_bool(holds, aef, true),
+        sef: numbers::or(r.rsrc < 10, sef),
     }
 }
 
-impl Saved {
-    // Step 6.
-    pub fn kept(self, save: bool, g: Charge, cycles: u8) -> Saved
-        requires { ⌜ ChargeWF g ⌝ }
-        ensures { λ r. ⌜ r ≡ keptOf self save g cycles ⌝ }
-    {
-        let acr = (g.count / 4096) as u16;
-        Saved {
-            acr: numbers::choose16(save, acr, self.acr),
-            aging: numbers::choose8(save, g.aging, self.aging),
-            cycles: numbers::choose8(save, cycles, self.cycles),
-        }
+// Step 6.
+pub fn kept(saved: Saved, save: bool, g: Charge, cycles: u8) -> Saved
+    requires { ⌜ ChargeWF g ⌝ }
+    ensures { λ r. ⌜ r ≡ keptOf saved save g cycles ⌝ }
+{
+    let acr = (g.count / 4096) as u16;
+    Saved {
+        acr: numbers::choose16(save, acr, saved.acr),
+        aging: numbers::choose8(save, g.aging, saved.aging),
+        cycles: numbers::choose8(save, cycles, saved.cycles),
     }
 }

@@ -6,7 +6,7 @@ use Prim.Native.Nat.{ℕ}
 use lib.Dec.{leb}
 use lib.ListN.{length, replicate}
 use Rattle.numbers.specs.Choice.{pick}
-use Rattle.profile.specs.declared.Profile.the-variants.{Ds2781}
+use Rattle.state.specs.declared.Profile.the-variants.{Ds2781}
 use Rattle.pack.specs.Image.{imageOf, sizeFor, roomAfter}
 use Rattle.events.specs.declared.Refusal.the-variants.{Order, Room}
 use Rattle.events.specs.Image.{imageSize}

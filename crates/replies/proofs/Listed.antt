@@ -15,9 +15,9 @@ use Rattle.numbers.specs.Choice.{pick, both}
 use Rattle.numbers.proofs.Bounds.{picked}
 use Rattle.parts.specs.Parts.{put, laidOf}
 use Rattle.parts.proofs.Laws.{put-whole, laid-length, laid-reached, laid-missed}
-use Rattle.meter.specs.declared.Meter.{Meter}
-use Rattle.label.specs.declared.Common.{Common}
-use Rattle.label.specs.declared.Label.{Label}
+use Rattle.state.specs.declared.Meter.{Meter}
+use Rattle.state.specs.declared.Common.{Common}
+use Rattle.state.specs.declared.Label.{Label}
 use Rattle.label.specs.Label.{inLabel, inBlock, labelByte}
 use Rattle.map.specs.declared.Pair.{Pair}
 use Rattle.map.specs.Registers.{registersOf, registerOf, meterByte}

@@ -6,10 +6,10 @@ use lib.Dec.{ltb, eqb}
 use lib.ListN.{length, getD}
 use Rattle.numbers.specs.Choice.{pick}
 use Rattle.parts.specs.Parts.{laidOf}
-use Rattle.meter.specs.declared.Meter.{Meter}
+use Rattle.state.specs.declared.Meter.{Meter}
 use Rattle.params.specs.Params.{rnaopOf}
-use Rattle.label.specs.declared.Common.{Common}
-use Rattle.label.specs.declared.Label.{Label}
+use Rattle.state.specs.declared.Common.{Common}
+use Rattle.state.specs.declared.Label.{Label}
 use Rattle.label.specs.Label.{inLabel, labelByte}
 use Rattle.map.specs.declared.Pair.{Pair}
 use Rattle.map.specs.Registers.{meterByte}

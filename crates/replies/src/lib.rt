@@ -2,16 +2,16 @@
 use bus::Command;
 use bus::Rom;
 use bus::Transaction;
-use label::Common;
-use label::Label;
 use map::Pair;
-use meter::Block;
-use meter::Meter;
+use state::Block;
+use state::Common;
+use state::Label;
+use state::Meter;
 ghost use mathlib.Core.Path.{_≡_};
 ghost use mathlib.Core.List.{_++_};
 ghost use Prim.Native.Nat.{_+_, _%_, _≤_, _<_};
 ghost use lib.ListN.{length, getD, drop};
-ghost use Rattle.meter.specs.State.{MeterWF};
+ghost use Rattle.state.specs.State.{MeterWF};
 ghost use Rattle.map.specs.Registers.{registersOf};
 ghost use Rattle.replies.specs.Reply.{selectedOf, readSourceOf, netSourceOf, replySourceOf, readByte, netByte, overOf, sourceByte, listed, repliedOf};
 

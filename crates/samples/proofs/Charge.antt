@@ -10,9 +10,10 @@ use borrow.Author.Tests.{lt-ltb, le-ltb, eq-eqb, ne-eqb, eqb-true}
 use Rattle.numbers.specs.Offset.{zeroAt}
 use Rattle.numbers.specs.Choice.{both, either, butNot}
 use Rattle.params.specs.declared.Counting.{Counting}
-use Rattle.profile.specs.declared.Profile.{Profile}
-use Rattle.charge.specs.declared.Charge.{Charge}
-use Rattle.charge.specs.Charge.{ChargeWF, acrOf, fallOf, grownOf, addedOf, agedOf, turnedOf, negative, countedOf, blankedOf}
+use Rattle.state.specs.declared.Profile.{Profile}
+use Rattle.state.specs.declared.Charge.{Charge}
+use Rattle.state.specs.State.{ChargeWF}
+use Rattle.charge.specs.Charge.{acrOf, fallOf, grownOf, addedOf, agedOf, turnedOf, negative, countedOf, blankedOf}
 use Rattle.charge.proofs.Laws.{counted-wf}
 use Rattle.samples.specs.Stretch.{grownOver, addsOver, dropsOver, ageOver, agingOver, wornOver, countOver, fallenOver, emptyOver, chargeOver, learnfOver}
 use Rattle.samples.proofs.Numbers.{either-way, reached, clamped-more, rises, falls, rises-on, falls-on, lost, lost-fits, lost-due, lost-still}

@@ -2,8 +2,8 @@
 -- from 1 to 64."
 use mathlib.Core.Path.{_≡_}
 use Prim.Native.Nat.{ℕ, _≤_}
-use Rattle.meter.specs.declared.Meter.{Meter}
-use Rattle.meter.specs.State.{MeterWF}
+use Rattle.state.specs.declared.Meter.{Meter}
+use Rattle.state.specs.State.{MeterWF}
 
 -- an engine, as its contract tells of it: the meters that it may give for a meter, a raw current and n
 abbrev pub Engine : Type 1

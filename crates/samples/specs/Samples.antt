@@ -1,8 +1,8 @@
 -- Slow sampling: "A sample of n ticks means n conversions of that reading, averages, ageing and full detection along the way."
 use Prim.Native.Nat.{ℕ, zero, suc}
 use Rattle.ticks.specs.Ticks.{tickOf, elapsedOf}
-use Rattle.meter.specs.declared.Meter.{Meter}
-use Rattle.meter.specs.State.{withFlow, withTick}
+use Rattle.state.specs.declared.Meter.{Meter}
+use Rattle.state.specs.State.{withFlow, withTick}
 use Rattle.meter.specs.Convert.{convertOf}
 
 -- n conversions

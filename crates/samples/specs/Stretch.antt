@@ -9,15 +9,15 @@ use Rattle.numbers.specs.Choice.{pick, both, either, butNot}
 use Rattle.params.specs.declared.Counting.{Counting}
 use Rattle.params.specs.declared.Limits.{Limits}
 use Rattle.params.specs.Params.{countingOf, limitsOf, capacityOf}
-use Rattle.profile.specs.declared.Profile.{Profile}
-use Rattle.charge.specs.declared.Charge.{Charge}
-use Rattle.charge.specs.declared.Trace.{Trace}
+use Rattle.state.specs.declared.Profile.{Profile}
+use Rattle.state.specs.declared.Charge.{Charge}
+use Rattle.state.specs.declared.Trace.{Trace}
 use Rattle.charge.specs.Charge.{acrOf, turnedOf, blankedOf, fallOf}
-use Rattle.full.specs.declared.Average.{Average}
-use Rattle.full.specs.Full.{offsetTurn, runOf, renewedOf, foundOf, settledOf}
-use Rattle.meter.specs.declared.Flow.{Flow}
-use Rattle.meter.specs.declared.Meter.{Meter}
-use Rattle.meter.specs.State.{withFlags}
+use Rattle.state.specs.declared.Average.{Average}
+use Rattle.state.specs.State.{runOf, withFlags}
+use Rattle.full.specs.Full.{offsetTurn, renewedOf, foundOf, settledOf}
+use Rattle.state.specs.declared.Flow.{Flow}
+use Rattle.state.specs.declared.Meter.{Meter}
 use Rattle.meter.specs.Convert.{convertedOf, filledFlags, chargedOf}
 use Rattle.samples.specs.declared.Worn.{Worn}
 

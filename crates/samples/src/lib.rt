@@ -1,17 +1,15 @@
 // Slow sampling: n conversions of one raw current, one by one or in stretches.
-use charge::Charge;
-use charge::Trace;
-use full::Average;
-use meter::Meter;
 use params::Capacity;
 use params::Counting;
 use params::Limits;
-use profile::Profile;
+use state::Average;
+use state::Charge;
+use state::Meter;
+use state::Profile;
+use state::Trace;
 ghost use mathlib.Core.Path.{_≡_};
 ghost use Prim.Native.Nat.{_≤_};
-ghost use Rattle.charge.specs.Charge.{ChargeWF};
-ghost use Rattle.full.specs.Full.{AverageWF};
-ghost use Rattle.meter.specs.State.{MeterWF};
+ghost use Rattle.state.specs.State.{ChargeWF, AverageWF, MeterWF};
 ghost use Rattle.samples.specs.Samples.{sampledOf, sampleOf};
 ghost use Rattle.samples.specs.Stretch.{grownOver, addsOver, countOver, dropsOver, ageOver, agingOver, wornOver, learnfOver, chargeOver, traceOver, seventhOf, averageOver, flowedOver, stretchedOf, reachOf};
 
@@ -191,7 +189,7 @@ fn flowed_over(mut m: Meter, p: Limits, full40: u16, c: u16, k: u16) -> Meter
     let average = average_over(flow.average, c, k);
     if 8 <= (flow.average.made % 8) as u32 + (k as u32) {
         let seven = seventh(flow.average, c);
-        if seven.found(flow.since, p, c) {
+        if full::found(seven, flow.since, p, c) {
             m.charge = full::filled(m.charge, m.shown.model.full, full40);
             m.shown.flags.chgtf = true;
         }
@@ -220,7 +218,7 @@ fn stretch(m: Meter, raw: u32, k: u16) -> Meter
     let cells = m.cells;
     let f = cells.profile;
     let charge = charge_over(f, p, m.charge, m.flow.trace.last, c, k);
-    flowed_over(m.charged(charge), limits, full.full40, c, k)
+    flowed_over(meter::charged(m, charge), limits, full.full40, c, k)
 }
 
 // How many of the conversions that are left a stretch takes: up to the end of the run of eight, where full may be found or a 1024th is made,
@@ -245,7 +243,7 @@ pub fn plain(mut m: Meter, raw: u32, n: u16) -> Meter
 {
     let mut i: u16 = 0;
     while i < n {
-        m = m.convert(raw);
+        m = meter::convert(m, raw);
         i += 1;
     }
     m
@@ -272,7 +270,7 @@ pub fn sample(mut m: Meter, raw: u32, tick: u16) -> Meter
     ensures { λ r. ⌜ r ≡ sampleOf m raw tick ⌝ }
     ensures kept { λ r. ⌜ MeterWF r ⌝ }
 {
-    let n = m.flow.tick.elapsed(tick);
+    let n = ticks::elapsed(m.flow.tick, tick);
     m = quick(m, raw, n);
     m.flow.tick.any = true;
     m.flow.tick.last = tick;

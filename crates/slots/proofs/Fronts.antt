@@ -12,11 +12,11 @@ use lib.Seq.{getD-take, getD-drop, take-take}
 use Rattle.numbers.specs.Choice.{pick, either}
 use Rattle.numbers.proofs.Bounds.{picked}
 use Rattle.parts.specs.Parts.{part, pairAt}
-use Rattle.ticks.specs.declared.Tick.{Tick}
-use Rattle.profile.specs.declared.Profile.{Profile}
+use Rattle.state.specs.declared.Tick.{Tick}
+use Rattle.state.specs.declared.Profile.{Profile}
 use Rattle.profile.specs.Profile.{imageSizeOf}
 use Rattle.profile.proofs.Laws.{sixty}
-use Rattle.meter.specs.declared.Meter.{Meter}
+use Rattle.state.specs.declared.Meter.{Meter}
 use Rattle.events.specs.declared.Kind.{Kind}
 use Rattle.events.specs.declared.Kind.the-variants as kind
 use Rattle.events.specs.declared.Refusal.the-variants.{Order, Size}

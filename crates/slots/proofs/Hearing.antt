@@ -7,9 +7,9 @@ use native.Mathlib.Numerals.{add-one}
 use lib.ListN.{length, getD, take, drop, length-append}
 use lib.Seq.{drop-at, length-take-le}
 use Rattle.bus.specs.declared.Transaction.{Transaction}
-use Rattle.label.specs.declared.Common.{Common}
-use Rattle.label.specs.declared.Label.{Label}
-use Rattle.meter.specs.declared.Meter.{Meter}
+use Rattle.state.specs.declared.Common.{Common}
+use Rattle.state.specs.declared.Label.{Label}
+use Rattle.state.specs.declared.Meter.{Meter}
 use Rattle.replies.specs.Reply.{listed}
 use Rattle.replies.proofs.Listed.{listed-length}
 use Rattle.gauge.specs.declared.Gauge.{Gauge}

@@ -8,16 +8,16 @@ use borrow.Author.Tests.{le-leb, lt-leb}
 use lib.Dec.{ltb}
 use lib.Seq.{getD-set-other}
 use lib.ListN.{length, getD, set, take, drop, replicate, length-set}
-use Rattle.ticks.specs.declared.Tick.{Tick}
-use Rattle.meter.specs.State.{MeterWF}
+use Rattle.state.specs.declared.Tick.{Tick}
+use Rattle.state.specs.State.{MeterWF}
 use Rattle.gauge.specs.declared.Gauge.{Gauge}
 use Rattle.gauge.specs.Gauge.{GaugeWF}
 use Rattle.gauge.specs.Act.{actOf}
 use Rattle.bus.specs.declared.Transaction.{Transaction}
 use Rattle.bus.specs.Ask.{sameBytes}
-use Rattle.label.specs.declared.Common.{Common}
-use Rattle.label.specs.declared.Label.{Label}
-use Rattle.meter.specs.declared.Meter.{Meter}
+use Rattle.state.specs.declared.Common.{Common}
+use Rattle.state.specs.declared.Label.{Label}
+use Rattle.state.specs.declared.Meter.{Meter}
 use Rattle.numbers.specs.Choice.{pick}
 use Rattle.numbers.proofs.Bounds.{picked}
 use Rattle.bus.specs.declared.Rom.{Rom}

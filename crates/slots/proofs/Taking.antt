@@ -9,7 +9,7 @@ use lib.Dec.{ltb, leb}
 use lib.ListN.{length, drop}
 use Rattle.numbers.specs.Choice.{either}
 use Rattle.numbers.proofs.Bounds.{picked}
-use Rattle.ticks.specs.declared.Tick.{Tick}
+use Rattle.state.specs.declared.Tick.{Tick}
 use Rattle.events.specs.declared.Kind.{Kind}
 use Rattle.events.specs.declared.Kind.the-variants as kind
 use Rattle.events.specs.declared.Event.the-variants.{Image, Change, Transact}

@@ -7,13 +7,13 @@ use lib.Dec.{ltb, leb, eqb}
 use lib.ListN.{length, getD, set, take, drop, replicate}
 use Rattle.numbers.specs.Choice.{pick, either}
 use Rattle.parts.specs.Parts.{pairAt}
-use Rattle.ticks.specs.declared.Tick.{Tick}
+use Rattle.state.specs.declared.Tick.{Tick}
 use Rattle.bus.specs.declared.Rom.{Rom}
 use Rattle.bus.specs.declared.Rom.the-variants as rom
 use Rattle.bus.specs.declared.Transaction.{Transaction}
 use Rattle.bus.specs.Ask.{sameBytes}
-use Rattle.profile.specs.declared.Profile.the-variants.{Ds2781, Ds2775}
-use Rattle.label.specs.declared.Common.{Common}
+use Rattle.state.specs.declared.Profile.the-variants.{Ds2781, Ds2775}
+use Rattle.state.specs.declared.Common.{Common}
 use Rattle.replies.specs.Reply.{listed}
 use Rattle.gauge.specs.declared.Gauge.{Gauge}
 use Rattle.gauge.specs.Gauge.{GaugeWF}

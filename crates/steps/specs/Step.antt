@@ -2,7 +2,7 @@
 use mathlib.Core.Bool.{Bool, true}
 use mathlib.Core.List.{List}
 use Prim.Native.Nat.{ℕ}
-use Rattle.ticks.specs.declared.Tick.{Tick}
+use Rattle.state.specs.declared.Tick.{Tick}
 use Rattle.gauge.specs.declared.Gauge.{Gauge}
 use Rattle.gauge.specs.Gauge.{GaugeWF}
 use Rattle.gauge.specs.Change.{changedOf}

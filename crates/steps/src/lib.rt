@@ -3,7 +3,7 @@ use events::Event;
 use events::Refusal;
 use events::Taken;
 use gauge::Gauge;
-use ticks::Tick;
+use state::Tick;
 ghost use mathlib.Core.Path.{_≡_};
 ghost use Rattle.steps.specs.Steps.{refusedOf, takenRead, frontBy};
 ghost use Rattle.steps.specs.Step.{toldOf};

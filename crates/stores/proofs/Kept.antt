@@ -11,11 +11,11 @@ use Rattle.numbers.specs.Choice.{both, butNot}
 use Rattle.numbers.proofs.Bounds.{picked}
 use Rattle.parts.proofs.Laws.{laid-none, laid-length}
 use Rattle.profile.specs.Profile.{countsCycles}
-use Rattle.cycles.specs.declared.Cycles.{Cycles}
-use Rattle.meter.specs.declared.Block.{Block}
-use Rattle.meter.specs.declared.Cells.{Cells}
-use Rattle.meter.specs.declared.Meter.{Meter}
-use Rattle.meter.specs.State.{withCells}
+use Rattle.state.specs.declared.Cycles.{Cycles}
+use Rattle.state.specs.declared.Block.{Block}
+use Rattle.state.specs.declared.Cells.{Cells}
+use Rattle.state.specs.declared.Meter.{Meter}
+use Rattle.state.specs.State.{withCells}
 use Rattle.label.specs.Label.{inLabel, inBlock}
 use Rattle.label.proofs.Kept.{but-none, or-none}
 use Rattle.stores.specs.Stores.{reachesOf, porfWrittenOf, acrWrittenOf, lockWrittenOf, cyclesWrittenOf, blockWrittenOf, cellsWrittenOf, meterWrittenOf, blockCopiedOf, blockRecalledOf, meterCopiedOf, meterRecalledOf, meterLockedOf, BlockSized}

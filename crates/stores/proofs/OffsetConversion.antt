@@ -8,12 +8,12 @@ use Rattle.numbers.specs.Choice.{pick, both}
 use Rattle.numbers.specs.Offset.{zeroAt}
 use Rattle.numbers.proofs.Bounds.{picked}
 use Rattle.parts.specs.Parts.{laidOf}
-use Rattle.charge.specs.declared.Charge.{Charge}
+use Rattle.state.specs.declared.Charge.{Charge}
 use Rattle.charge.specs.Charge.{countedOf}
 use Rattle.full.specs.Full.{averagedOf, foundOf, settledOf}
 use Rattle.reading.specs.Reading.{emptiedOf, seenOf}
-use Rattle.meter.specs.declared.Meter.{Meter}
-use Rattle.meter.specs.State.{withCharge, withFlow, noFlow, poweredOf}
+use Rattle.state.specs.declared.Meter.{Meter}
+use Rattle.state.specs.State.{withCharge, withFlow, noFlow, poweredOf}
 use Rattle.meter.specs.Convert.{flowedOf, convertOf}
 use Rattle.meter.specs.Read.{drainedOf, shownOf, readOf}
 use Rattle.meter.proofs.Figures.{M, withByte, plus, powered, readAt, Figure, _is_, Hold}

@@ -8,16 +8,16 @@ use lib.ListN.{length, getD}
 use Rattle.numbers.specs.Choice.{pick, both, either, butNot}
 use Rattle.numbers.specs.Offset.{joinedOf}
 use Rattle.parts.specs.Parts.{laidOf}
-use Rattle.charge.specs.declared.Charge.{Charge}
+use Rattle.state.specs.declared.Charge.{Charge}
 use Rattle.charge.specs.Charge.{setOf, markedOf}
 use Rattle.profile.specs.Profile.{countsCycles}
-use Rattle.cycles.specs.declared.Cycles.{Cycles}
-use Rattle.reading.specs.declared.Flags.{Flags}
-use Rattle.meter.specs.declared.Block.{Block}
-use Rattle.meter.specs.declared.Locks.{Locks}
-use Rattle.meter.specs.declared.Cells.{Cells}
-use Rattle.meter.specs.declared.Meter.{Meter}
-use Rattle.meter.specs.State.{withCells, withBlock, withLocks, withFlags}
+use Rattle.state.specs.declared.Cycles.{Cycles}
+use Rattle.state.specs.declared.Flags.{Flags}
+use Rattle.state.specs.declared.Block.{Block}
+use Rattle.state.specs.declared.Locks.{Locks}
+use Rattle.state.specs.declared.Cells.{Cells}
+use Rattle.state.specs.declared.Meter.{Meter}
+use Rattle.state.specs.State.{withCells, withBlock, withLocks, withFlags}
 use Rattle.label.specs.Label.{inLabel, inBlock}
 
 -- ---- 6Ch: bytes written from the address a upward. A write runs upward and nothing wraps, so that it reaches each address at most once

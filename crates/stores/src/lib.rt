@@ -1,15 +1,14 @@
 // What a write, a copy, a recall and a lock do to the meter.
-use charge::Charge;
-use cycles::Cycles;
-use meter::Block;
-use meter::Cells;
-use meter::Locks;
-use meter::Meter;
+use state::Block;
+use state::Cells;
+use state::Charge;
+use state::Cycles;
+use state::Locks;
+use state::Meter;
 ghost use mathlib.Core.Path.{_≡_};
 ghost use mathlib.Core.Bool.{true};
 ghost use Prim.Native.Nat.{_<_};
-ghost use Rattle.charge.specs.Charge.{ChargeWF};
-ghost use Rattle.meter.specs.State.{MeterWF};
+ghost use Rattle.state.specs.State.{ChargeWF, MeterWF};
 ghost use Rattle.stores.specs.Stores.{reachesOf, byteFor, porfWrittenOf, acrWrittenOf, lockWrittenOf, cyclesWrittenOf, blockWrittenOf, cellsWrittenOf, meterWrittenOf, blockCopiedOf, blockRecalledOf, reblockedOf, meterCopiedOf, meterRecalledOf, locksLockedOf, meterLockedOf};
 
 // ---- 6Ch: bytes written from the address a upward
@@ -51,7 +50,7 @@ fn acr_written(mut g: Charge, a: usize, bytes: &[u8]) -> Charge
     if numbers::and(reaches(a, bytes, 0x10), reaches(a, bytes, 0x11)) {
         let acr = numbers::joined(byte_for(a, bytes, 0x10), byte_for(a, bytes, 0x11));
         g.mark = true;
-        return g.set(acr, false);
+        return charge::set(g, acr, false);
     }
     g
 }

@@ -1,8 +1,8 @@
 -- The contracts of this crate's public functions leave no choice.
 use mathlib.Core.Path.{refl, sym, _∙_}
 use Rattle.once.specs.Once.{Once}
-use Rattle.ticks.proofs.Tick.elapsed
-use Rattle.ticks.proofs.Tick.timely
+use Rattle.ticks.proofs.elapsed
+use Rattle.ticks.proofs.timely
 
 pub elapsed-once : Once elapsed.ended elapsed.Reads.Pre elapsed.Reads.Learnt
 elapsed-once κs a r r′ w w′ p h h′ = (h ∙ sym h′, refl)

@@ -1,16 +1,13 @@
 -- The ticks of samples: a 16-bit counter of intervals of 3600/1024 s, which goes round.
 use Prim.Native.Nat.{ℕ, _+_, _-_, _%_, _^_}
-use mathlib.Core.Bool.{Bool, true, false}
+use mathlib.Core.Bool.{Bool, true}
 use lib.Dec.{leb}
 use Rattle.numbers.specs.Choice.{pick, both}
-use Rattle.ticks.specs.declared.Tick.{Tick}
+use Rattle.state.specs.declared.Tick.{Tick}
 
 -- the tick remembered after a sample, and after a power-on
 abbrev pub tickOf : ℕ → Tick
 tickOf now = record { any = true; last = now }
-
-abbrev pub noTick : Tick
-noTick = record { any = false; last = 0 }
 
 -- "The elapsed ticks are the difference taken round the 16-bit counter, from the last kind 6 since power-on; the first counts as one."
 abbrev pub elapsedOf : Tick → ℕ → ℕ

@@ -12,7 +12,7 @@ use Rattle.numbers.proofs.Bounds.{picked, both-true}
 use Rattle.parts.specs.Parts.{part, put}
 use Rattle.parts.proofs.Laws.{part-length, put-front}
 use Rattle.digits.specs.Digits.{Writing}
-use Rattle.profile.specs.declared.Profile.the-variants.{Ds2781}
+use Rattle.state.specs.declared.Profile.the-variants.{Ds2781}
 use Rattle.events.specs.declared.Taken.{Taken}
 use Rattle.events.specs.declared.Taken.the-variants as taken
 use Rattle.events.specs.Image.{imageSize, imageLabel, imageBlock, imageBl0}

@@ -10,8 +10,8 @@ use lib.ListN.{length, getD}
 use Rattle.numbers.specs.Choice.{pick}
 use Rattle.numbers.proofs.Bounds.{both-true}
 use Rattle.profile.specs.Profile.{imageSizeOf}
-use Rattle.meter.specs.declared.Meter.{Meter}
-use Rattle.meter.specs.State.{poweredOf}
+use Rattle.state.specs.declared.Meter.{Meter}
+use Rattle.state.specs.State.{poweredOf}
 use Rattle.gauge.specs.declared.Gauge.{Gauge}
 use Rattle.pack.specs.Image.{imageOf, sizeFor, roomAfter, ImageOut}
 use Rattle.slots.specs.Tray.{noGauge, packOf}

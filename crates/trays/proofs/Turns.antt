@@ -7,17 +7,17 @@ use native.Mathlib.Omega.{arith}
 use lib.ListN.{length, getD, set, take, drop, length-set}
 use Rattle.parts.specs.Parts.{part, pairAt}
 use Rattle.bus.specs.declared.Transaction.{Transaction}
-use Rattle.label.specs.declared.Label.{Label}
+use Rattle.state.specs.declared.Label.{Label}
 use Rattle.label.specs.Label.{labelPoweredOf}
-use Rattle.meter.specs.declared.Meter.{Meter}
-use Rattle.meter.specs.State.{MeterWF, restartedOf}
+use Rattle.state.specs.declared.Meter.{Meter}
+use Rattle.state.specs.State.{MeterWF, restartedOf}
 use Rattle.gauge.specs.declared.Gauge.{Gauge}
 use Rattle.meter.specs.Convert.{convertOf}
 use Rattle.meter.specs.Read.{readOf}
 use Rattle.samples.specs.Samples.{sampleOf}
 use Rattle.gauge.specs.Gauge.{GaugeWF, withMeter, conversionOf, samplingOf, readingOf, powerOnOf}
 use Rattle.gauge.specs.Change.{changedOf}
-use Rattle.profile.specs.declared.Profile.{Profile}
+use Rattle.state.specs.declared.Profile.{Profile}
 use Rattle.pack.specs.Image.{imageOf}
 use Rattle.events.specs.declared.Change.{Change as Changes}
 use Rattle.events.specs.declared.Change.the-variants.{Reading, Conversion, Sample, PowerOn}

@@ -4,14 +4,14 @@ use events::Event;
 use events::Refusal;
 use events::Taken;
 use gauge::Gauge;
-use label::Common;
-use label::Label;
-use meter::Meter;
-use profile::Profile;
 use runs::Outcome;
 use slots::Tray;
+use state::Common;
+use state::Label;
+use state::Meter;
+use state::Profile;
+use state::Tick;
 use steps::Asked;
-use ticks::Tick;
 ghost use mathlib.Core.Path.{_≡_};
 ghost use Prim.Native.Nat.{_+_, _/_, _≤_, _<_};
 ghost use lib.ListN.{length};
@@ -86,12 +86,12 @@ fn run_all(s: &[u8], room: &mut [u8], answers: &mut [u64]) -> Ran
                     match c {
                         Change::Reading(volt, temp) => {
                             let m = tray.meters[slot];
-                            let next = m.read(volt, temp);
+                            let next = meter::read(m, volt, temp);
                             tray.meters[slot] = next;
                         }
                         Change::Conversion(raw) => {
                             let m = tray.meters[slot];
-                            let next = m.convert(raw);
+                            let next = meter::convert(m, raw);
                             tray.meters[slot] = next;
                         }
                         Change::Sample(raw, tick) => {
@@ -102,7 +102,7 @@ fn run_all(s: &[u8], room: &mut [u8], answers: &mut [u64]) -> Ran
                         Change::PowerOn => {
                             let k = tray.labels[slot];
                             let m = tray.meters[slot];
-                            let label = k.powered();
+                            let label = label::powered(k);
                             let next = m.restarted();
                             tray.labels[slot] = label;
                             tray.meters[slot] = next;

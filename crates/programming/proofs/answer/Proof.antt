@@ -1,6 +1,6 @@
 use mathlib.Core.Path.{sym, _∙_}
 use denote.Ref.{now}
-use Rattle.profile.specs.declared.Profile.the-variants.{Ds2781}
+use Rattle.state.specs.declared.Profile.the-variants.{Ds2781}
 use Rattle.events.proofs.Fits.{judged-sized}
 use Rattle.programming.specs.Programming.{answerOf}
 use borrow.Author.Needs.{needs}

@@ -4,7 +4,7 @@ use mathlib.Core.List.{List}
 use Prim.Native.Nat.{ℕ}
 use lib.ListN.{length}
 use denote.Ref.{now}
-use Rattle.profile.specs.declared.Profile.the-variants.{Ds2781}
+use Rattle.state.specs.declared.Profile.the-variants.{Ds2781}
 use Rattle.events.proofs.Fits.{judged-sized}
 use Rattle.programming.specs.declared.Why.{Why}
 use Rattle.programming.specs.declared.Written.the-variants.{Refused}

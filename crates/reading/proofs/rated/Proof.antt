@@ -12,7 +12,7 @@ cast-af c =
 
 returns : tie.Need-returns
 unfolding ratedOf
-returns c = simp (c .of .ensures, c .before .aged-full .ensures)
+returns c = simp (c .results-of .ensures, c .before .aged-full .ensures)
 
 pub rated-spec : {M : Type 1} → statement M
 rated-spec = tie.close (tie.spec (λ c. search needs) (λ c κs. search needs) cast-af (λ c κs. search needs) returns)

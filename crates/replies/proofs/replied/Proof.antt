@@ -6,9 +6,9 @@ use Prim.Native.Nat.{ℕ, _≤_}
 use lib.ListN.{length, take, drop}
 use lib.Seq.{length-take-le}
 use denote.Ref.{now}
-use Rattle.meter.specs.declared.Meter.{Meter}
-use Rattle.label.specs.declared.Common.{Common}
-use Rattle.label.specs.declared.Label.{Label}
+use Rattle.state.specs.declared.Meter.{Meter}
+use Rattle.state.specs.declared.Common.{Common}
+use Rattle.state.specs.declared.Label.{Label}
 use Rattle.bus.specs.declared.Transaction.{Transaction}
 use Rattle.replies.specs.declared.Source.{Source}
 use Rattle.replies.specs.Reply.{replySourceOf, sourceByte, listed, repliedOf}

@@ -3,7 +3,7 @@ use mathlib.Core.Logic.{⊎-elim}
 use borrow.Author.Tests.{le-leb, lt-leb}
 use Rattle.numbers.proofs.Bounds.{also}
 use Rattle.full.specs.Full.{renewedOf, settledOf}
-use Rattle.meter.specs.State.{MeterWF}
+use Rattle.state.specs.State.{MeterWF}
 use Rattle.samples.specs.Stretch.{flowOver, flowedOver}
 use Rattle.samples.proofs.Laws.{flowed-over-wf}
 use borrow.Author.Needs.{needs}

@@ -1,8 +1,8 @@
 use mathlib.Core.Path.{_≡_, refl, sym, ap, _∙_}
 use Prim.Native.Nat.{_-_, _≤_}
 use native.Mathlib.Omega.{arith}
-use Rattle.meter.specs.declared.Meter.{Meter}
-use Rattle.meter.specs.State.{MeterWF}
+use Rattle.state.specs.declared.Meter.{Meter}
+use Rattle.state.specs.State.{MeterWF}
 use Rattle.meter.specs.Convert.{convertOf}
 use Rattle.samples.specs.Samples.{sampledOf}
 use Rattle.samples.proofs.Laws.{sampled-more}

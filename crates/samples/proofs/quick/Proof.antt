@@ -1,6 +1,6 @@
 use mathlib.Core.Path.{_≡_, refl, ap, _∙_}
 use native.Mathlib.Omega.{arith}
-use Rattle.meter.specs.State.{MeterWF}
+use Rattle.state.specs.State.{MeterWF}
 use Rattle.samples.specs.Samples.{sampledOf}
 use Rattle.samples.proofs.Laws.{reached-more}
 use borrow.Author.Needs.{needs}

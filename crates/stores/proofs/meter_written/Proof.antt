@@ -2,8 +2,8 @@ use mathlib.Core.Path.{_≡_, refl}
 use mathlib.Core.List.{List}
 use Prim.Native.Nat.{ℕ}
 use denote.Ref.{now}
-use Rattle.meter.specs.declared.Meter.{Meter}
-use Rattle.meter.specs.State.{withFlags}
+use Rattle.state.specs.declared.Meter.{Meter}
+use Rattle.state.specs.State.{withFlags}
 use Rattle.stores.specs.Stores.{cyclesWrittenOf, cellsWrittenOf, flagsWrittenOf, meterWrittenOf}
 use Rattle.stores.proofs.Kept.{written-above}
 use borrow.Author.Needs.{needs}

@@ -2,7 +2,7 @@ use mathlib.Core.Path.{ap, sym, _∙_}
 use Prim.Native.Nat.{ℕ}
 use native.Mathlib.Omega.{arith}
 use Rattle.profile.specs.Profile.{imageSizeOf}
-use Rattle.meter.specs.declared.Meter.{Meter}
+use Rattle.state.specs.declared.Meter.{Meter}
 use Rattle.pack.specs.Image.{sizeFor}
 use Rattle.slots.specs.Tray.{noGauge, packOf}
 use Rattle.slots.proofs.Laws.{within}

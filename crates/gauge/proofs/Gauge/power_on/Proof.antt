@@ -1,5 +1,5 @@
 use mathlib.Core.Path.{_≡_, refl, _∙_}
-use Rattle.meter.specs.State.{restartedOf}
+use Rattle.state.specs.State.{restartedOf}
 use Rattle.label.specs.Label.{labelPoweredOf}
 use Rattle.gauge.specs.declared.Gauge.{Gauge}
 use Rattle.gauge.specs.Gauge.{withParts, powerOnOf}

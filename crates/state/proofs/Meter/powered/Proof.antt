@@ -1,0 +1,15 @@
+use Rattle.numbers.proofs.Bounds.{also}
+use Rattle.state.specs.State.{MeterWF, poweredOf}
+use Rattle.state.proofs.Laws.{power-wf}
+use borrow.Author.Needs.{needs}
+use Rattle.state.proofs.Meter.powered.Statement.{statement}
+use Rattle.state.proofs.Meter.powered.Tie as tie
+
+returns : tie.Need-returns
+unfolding poweredOf
+returns c =
+    let c5 = c .before .before .before .before .before in
+    also MeterWF (simp (c .moved-into .ensures)) (power-wf (c5 .args .cells) (search needs))
+
+pub powered-spec : {M : Type 1} → statement M
+powered-spec = tie.close (tie.spec (λ c. search needs) (λ c. search needs) (λ c. search needs) (λ c κs. search needs) returns)

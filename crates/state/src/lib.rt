@@ -1,0 +1,235 @@
+// What the gauge keeps: every struct below `Gauge`, and a power-on.
+ghost use mathlib.Core.Path.{_≡_};
+ghost use Rattle.state.specs.State.{MeterWF, poweredOf, restartedOf};
+
+pub enum Profile {
+    Ds2781,
+    Ds2775,
+}
+
+// The tick that is remembered, and whether one is.
+pub struct Tick {
+    pub any: bool,
+    pub last: u16,
+}
+
+// The counter, and how far ACR fell since its last step.
+pub struct Cycles {
+    pub count: u8,
+    pub rest: u32,
+}
+
+// What only fences change.
+pub struct Common {
+    pub address: [u8; 8],
+    pub bl0: bool,
+}
+
+// What label events touch: block 0.
+pub struct Label {
+    pub shadow: [u8; 16],
+    pub eeprom: [u8; 16],
+}
+
+// ACR × 4,096 + fraction, AS, LEARNF, the mark after an ACR write and the age counter. (Side by side, count and age would be passed as one
+// number of eight bytes.)
+pub struct Charge {
+    pub aging: u8,
+    pub count: u32,
+    pub learnf: bool,
+    pub mark: bool,
+    pub age: u32,
+}
+
+// CURRENT and the c before it, and whether there is one, and two. (The order of fields: docs/SPEED.md.)
+pub struct Trace {
+    pub two: bool,
+    pub before: u16,
+    pub last: u16,
+    pub any: bool,
+}
+
+// The conversions since power-on, modulo 1,024, which modulo 8 are those of the run of eight; the sum of their c; IAVG, and whether there is one.
+pub struct Average {
+    pub sum: u32,
+    pub made: u16,
+    pub known: bool,
+    pub iavg: u16,
+}
+
+// The readings since the previous IAVG: whether there is one, and their lowest VOLT.
+pub struct Since {
+    pub any: bool,
+    pub lowest: u16,
+}
+
+// FULL, AE and SE.
+pub struct Model {
+    pub full: u16,
+    pub ae: u16,
+    pub se: u16,
+}
+
+pub struct Results {
+    pub rarc: u8,
+    pub rsrc: u8,
+    pub raac: u16,
+    pub rsac: u16,
+}
+
+// VOLT and TEMP as counts, and whether there was a reading since power-on.
+pub struct Reading {
+    pub volt: u16,
+    pub temp: u16,
+    pub known: bool,
+}
+
+pub struct Flags {
+    pub aef: bool,
+    pub chgtf: bool,
+    pub sef: bool,
+    pub porf: bool,
+}
+
+// The saved cells: ACR, AS and the cycle counter.
+pub struct Saved {
+    pub acr: u16,
+    pub aging: u8,
+    pub cycles: u8,
+}
+
+// Block 1.
+pub struct Block {
+    pub shadow: [u8; 32],
+    pub eeprom: [u8; 32],
+}
+
+// LOCK and BL1.
+pub struct Locks {
+    pub lock: bool,
+    pub bl1: bool,
+}
+
+// What writes, copy, recall, lock and the save change, and the profile, which nothing changes. (The order of fields, here and below: docs/SPEED.md.)
+pub struct Cells {
+    pub saved: Saved,
+    pub profile: Profile,
+    pub locks: Locks,
+    pub block: Block,
+}
+
+// The flow of currents: the last two, how many and the run of eight, the readings since it began, and the tick of the last sample.
+pub struct Flow {
+    pub trace: Trace,
+    pub since: Since,
+    pub average: Average,
+    pub tick: Tick,
+}
+
+// What a reading shows, and the flags.
+pub struct Shown {
+    pub model: Model,
+    pub results: Results,
+    pub reading: Reading,
+    pub flags: Flags,
+}
+
+pub struct Meter {
+    pub cells: Cells,
+    pub charge: Charge,
+    pub flow: Flow,
+    pub cycles: Cycles,
+    pub shown: Shown,
+}
+
+impl Meter {
+    // The meter that cells power on to: of them it takes the profile, the EEPROM, BL1 and what is saved.
+    pub fn powered(cells: Cells) -> Meter
+        ensures { λ r. ⌜ r ≡ poweredOf cells ⌝ }
+        ensures kept { λ r. ⌜ MeterWF r ⌝ }
+    {
+        let eeprom = cells.block.eeprom;
+        let saved = cells.saved;
+        let f = cells.profile;
+        Meter {
+            cells: Cells {
+                profile: f,
+                block: Block {
+                    shadow: eeprom,
+                    eeprom: eeprom,
+                },
+                locks: Locks {
+                    lock: false,
+                    bl1: cells.locks.bl1,
+                },
+                saved: saved,
+            },
+            charge: Charge {
+                count: (saved.acr as u32) * 4096,
+                age: 0,
+                aging: numbers::moved_into(63, 128, saved.aging as u64),
+                learnf: false,
+                mark: false,
+            },
+            cycles: Cycles {
+                count: saved.cycles,
+                rest: 0,
+            },
+            flow: Flow {
+                trace: Trace {
+                    last: numbers::ZERO15,
+                    before: numbers::ZERO15,
+                    any: false,
+                    two: false,
+                },
+                average: Average {
+                    made: 0,
+                    sum: 0,
+                    iavg: numbers::ZERO15,
+                    known: false,
+                },
+                since: Since {
+                    any: false,
+                    lowest: 0,
+                },
+                tick: Tick {
+                    any: false,
+                    last: 0,
+                },
+            },
+            shown: Shown {
+                model: Model {
+                    full: 0,
+                    ae: 0,
+                    se: 0,
+                },
+                results: Results {
+                    rarc: 0,
+                    rsrc: 0,
+                    raac: 0,
+                    rsac: 0,
+                },
+                reading: Reading {
+                    volt: 0,
+                    temp: numbers::ZERO10,
+                    known: false,
+                },
+                flags: Flags {
+                    porf: true,
+                    chgtf: false,
+                    aef: false,
+                    sef: false,
+                },
+            },
+        }
+    }
+
+    // A power-on of the meter as it stands.
+    pub fn restarted(self) -> Meter
+        ensures { λ r. ⌜ r ≡ restartedOf self ⌝ }
+        ensures kept { λ r. ⌜ MeterWF r ⌝ }
+    {
+        let cells = self.cells;
+        Meter::powered(cells)
+    }
+}
