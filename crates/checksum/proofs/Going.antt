@@ -5,8 +5,8 @@ use Prim.Native.Nat.{ℕ, _+_, _*_, _≤_}
 use native.Mathlib.Nat.{zero-add}
 use native.Mathlib.Omega.{arith}
 use lib.ListN.{length, drop, length-append, drop-of-length-le}
-use Rattle.parts.specs.Parts.{put}
-use Rattle.parts.proofs.Laws.{put-length, put-next}
+use Rattle.slices.specs.Slices.{put}
+use Rattle.slices.proofs.Laws.{put-length, put-next}
 use Rattle.digits.specs.Digits.{Writing}
 use Rattle.checksum.specs.Sums.{sumsText, Summed}
 

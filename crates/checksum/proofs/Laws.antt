@@ -11,7 +11,7 @@ use lib.ListN.{length, getD, take, drop, length-drop}
 use lib.Seq.{take-at, drop-cons, drop-drop, drop-length}
 use Rattle.numbers.proofs.Bounds.{both-true}
 use Rattle.crc.specs.Crc.{crcOf}
-use Rattle.parts.specs.Parts.{part}
+use Rattle.slices.specs.Slices.{part}
 use Rattle.checksum.specs.Sums.{sumOf, cutText, thereOf, sumsFrom, sumsText, checkedText, Summed}
 
 -- a message that is there whole has its bytes

@@ -34,7 +34,7 @@ fn message_at(s: &[u8], at: usize) -> Message
     requires { ⌜ at < length (now s) ⌝ }
     ensures { λ r. ⌜ Summed (now (s .entry)) at (r .line) (r .next) ⌝ }
 {
-    let n = parts::wide(s[at]);
+    let n = slices::wide(s[at]);
     let from = at + 1;
     if there(n, s.len() - from) {
         let end = from + n;
@@ -58,7 +58,7 @@ fn put_sums(s: &[u8], out: &mut [u8]) -> usize
     while at < s.len() {
         let r = message_at(s, at);
         let l = r.line;
-        parts::store(&l, out, used);
+        slices::store(&l, out, used);
         used += 3;
         at = r.next;
     }

@@ -10,22 +10,22 @@ use Rattle.numbers.specs.Choice.{either}
 use Rattle.bus.specs.declared.Transaction.{Transaction}
 use Rattle.gauge.specs.Change.{changedOf}
 use Rattle.gauge.specs.Act.{actOf}
-use Rattle.events.specs.declared.Form.{Form}
-use Rattle.events.specs.declared.Form.the-variants.{Short, Long}
-use Rattle.events.specs.declared.Kind.{Kind}
-use Rattle.events.specs.declared.Kind.the-variants as kind
-use Rattle.events.specs.declared.Event.the-variants.{Image, Change, Transact}
-use Rattle.events.specs.declared.Taken.{Taken}
-use Rattle.events.specs.declared.Taken.the-variants.{Run, Refused}
-use Rattle.events.specs.Record.{kindOf, transactionIn, masterOf}
+use Rattle.record.specs.declared.Form.{Form}
+use Rattle.record.specs.declared.Form.the-variants.{Short, Long}
+use Rattle.record.specs.declared.Kind.{Kind}
+use Rattle.record.specs.declared.Kind.the-variants as kind
+use Rattle.record.specs.declared.Event.the-variants.{Image, Change, Transact}
+use Rattle.record.specs.declared.Taken.{Taken}
+use Rattle.record.specs.declared.Taken.the-variants.{Run, Refused}
+use Rattle.record.specs.Record.{kindOf, transactionIn, masterOf}
 use Rattle.steps.specs.Steps.{answeredBy}
-use Rattle.slots.specs.declared.Tray.{Tray}
-use Rattle.slots.specs.Tray.{packOf, trayKindOf, aheadOf, slotIn, Reach, one, trayReach, trayActed, trayTold, ofTray, trayDid}
+use Rattle.tray_record.specs.declared.Tray.{Tray}
+use Rattle.tray_record.specs.Tray.{packOf, trayKindOf, aheadOf, slotIn, Reach, one, trayReach, trayActed, trayTold, ofTray, trayDid}
 use Rattle.demands.specs.Longer.{formKind}
 use Rattle.demands.specs.Alone.{slotEvent, reachIn, slotted, matched, Alone}
 use Rattle.demands.proofs.Choice.{contrary}
 use Rattle.demands.proofs.Fitted.{fitted-has}
-use Rattle.slots.proofs.Laws.{stored-other}
+use Rattle.tray_record.proofs.Laws.{stored-other}
 use Rattle.demands.proofs.Asked.{Heard, Asks, tray-asks}
 
 -- A slot's event has a slot byte ahead

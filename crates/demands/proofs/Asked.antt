@@ -10,28 +10,28 @@ use lib.ListN.{length, take, drop}
 use Rattle.state.specs.declared.Profile.{Profile}
 use Rattle.numbers.specs.Choice.{pick, either}
 use Rattle.numbers.proofs.Bounds.{picked}
-use Rattle.parts.specs.Parts.{pairAt}
+use Rattle.slices.specs.Slices.{pairAt}
 use Rattle.state.specs.declared.Tick.{Tick}
 use Rattle.ticks.specs.Ticks.{timelyOf}
 use Rattle.bus.specs.declared.Rom.{Rom}
 use Rattle.bus.specs.declared.Rom.the-variants as rom
 use Rattle.bus.specs.declared.Transaction.{Transaction}
 use Rattle.state.specs.declared.Common.{Common}
-use Rattle.events.specs.declared.Form.{Form}
-use Rattle.events.specs.declared.Kind.{Kind}
-use Rattle.events.specs.declared.Kind.the-variants as kind
-use Rattle.events.specs.declared.Refusal.{Refusal}
-use Rattle.events.specs.declared.Refusal.the-variants as refusal
-use Rattle.events.specs.declared.Event.{Event}
-use Rattle.events.specs.declared.Event.the-variants.{Image, Change, Transact}
-use Rattle.events.specs.declared.Taken.{Taken}
-use Rattle.events.specs.declared.Taken.the-variants.{Run, Refused}
-use Rattle.events.specs.Record.{knownOf, limitOf, readCount, sizedOf, dueOf, judgedAmong, judgedBy, transactionIn, eventOf, eventTimely, timedOf}
-use Rattle.events.proofs.Fits.{Taking, timed-by, judged-alone}
-use Rattle.slots.specs.declared.Tray.{Tray}
-use Rattle.slots.specs.declared.Found.{Found}
-use Rattle.slots.specs.declared.Found.the-variants.{At, Nowhere}
-use Rattle.slots.specs.Tray.{noGauge, searchOf, trayKindOf, aheadOf, slotIn, acceptedFor, trayAskedBy, againOf, slotTick, trayTold, reachFound, matchedOf, aimedBy, trayReach}
+use Rattle.record.specs.declared.Form.{Form}
+use Rattle.record.specs.declared.Kind.{Kind}
+use Rattle.record.specs.declared.Kind.the-variants as kind
+use Rattle.record.specs.declared.Refusal.{Refusal}
+use Rattle.record.specs.declared.Refusal.the-variants as refusal
+use Rattle.record.specs.declared.Event.{Event}
+use Rattle.record.specs.declared.Event.the-variants.{Image, Change, Transact}
+use Rattle.record.specs.declared.Taken.{Taken}
+use Rattle.record.specs.declared.Taken.the-variants.{Run, Refused}
+use Rattle.record.specs.Record.{knownOf, limitOf, readCount, sizedOf, dueOf, judgedAmong, judgedBy, transactionIn, eventOf, eventTimely, timedOf}
+use Rattle.record.proofs.Fits.{Taking, timed-by, judged-alone}
+use Rattle.tray_record.specs.declared.Tray.{Tray}
+use Rattle.tray_record.specs.declared.Found.{Found}
+use Rattle.tray_record.specs.declared.Found.the-variants.{At, Nowhere}
+use Rattle.tray_record.specs.Tray.{noGauge, searchOf, trayKindOf, aheadOf, slotIn, acceptedFor, trayAskedBy, againOf, slotTick, trayTold, reachFound, matchedOf, aimedBy, trayReach}
 use Rattle.demands.proofs.Choice.{contrary}
 use Rattle.demands.proofs.Packs.{There, FoundAt, search-found}
 

@@ -16,7 +16,7 @@ use Rattle.meter.specs.Convert.{flowedOf, convertOf}
 use Rattle.meter.specs.Read.{shownOf, readOf}
 use Rattle.samples.specs.Samples.{sampledOf, sampleOf}
 use Rattle.label.specs.Label.{commonLockedOf}
-use Rattle.stores.specs.Stores.{lockWrittenOf, blockWrittenOf, blockCopiedOf, blockRecalledOf, locksLockedOf, meterWrittenOf, meterCopiedOf, meterRecalledOf, meterLockedOf}
+use Rattle.block1.specs.Block1.{lockWrittenOf, blockWrittenOf, blockCopiedOf, blockRecalledOf, locksLockedOf, meterWrittenOf, meterCopiedOf, meterRecalledOf, meterLockedOf}
 use Rattle.bus.specs.declared.Command.{Command}
 use Rattle.bus.specs.declared.Command.the-variants.{Read, Write, Copy, Recall, Lock, Nothing}
 use Rattle.replies.specs.Reply.{selectedOf}
@@ -24,7 +24,7 @@ use Rattle.gauge.specs.declared.Gauge.{Gauge}
 use Rattle.gauge.specs.Gauge.{conversionOf, samplingOf, readingOf, powerOnOf, writtenOf, copiedOf, recalledOf, lockedOf}
 use Rattle.gauge.specs.Act.{ranBy, ranOf, actOf}
 use Rattle.pack.specs.Image.{imageOf}
-use Rattle.events.specs.declared.Change.the-variants.{Reading, Conversion, Sample, PowerOn}
+use Rattle.record.specs.declared.Change.the-variants.{Reading, Conversion, Sample, PowerOn}
 use Rattle.demands.specs.History.{Happening, imaged, changed, transacted, happened}
 use Rattle.demands.specs.Books.{Entry, conversionsIn, bookedSum, entriesOf, ledgerOf, recounted, FromEvents}
 

@@ -27,7 +27,7 @@ use Rattle.meter.proofs.OffsetConversion.{convert-made}
 use Rattle.meter.proofs.Corrections.{converted-means, converted-charge, uncorrected, read-charge}
 use Rattle.samples.specs.Samples.{sampledOf, sampleOf}
 use Rattle.samples.proofs.Laws.{sampled-first}
-use Rattle.stores.specs.Stores.{reachesOf, byteFor, acrWrittenOf, meterWrittenOf, meterCopiedOf, meterRecalledOf, meterLockedOf}
+use Rattle.block1.specs.Block1.{reachesOf, byteFor, acrWrittenOf, meterWrittenOf, meterCopiedOf, meterRecalledOf, meterLockedOf}
 use Rattle.bus.specs.declared.Command.{Command}
 use Rattle.bus.specs.declared.Command.the-variants.{Read, Write, Copy, Recall, Lock, Nothing}
 use Rattle.bus.specs.declared.Transaction.{Transaction}
@@ -35,7 +35,7 @@ use Rattle.replies.specs.Reply.{selectedOf}
 use Rattle.gauge.specs.declared.Gauge.{Gauge}
 use Rattle.gauge.specs.Gauge.{conversionOf, samplingOf, readingOf, writtenOf, copiedOf, recalledOf, lockedOf}
 use Rattle.gauge.specs.Act.{ranBy, ranOf, actOf}
-use Rattle.events.specs.declared.Change.the-variants.{Reading, Conversion, Sample, PowerOn}
+use Rattle.record.specs.declared.Change.the-variants.{Reading, Conversion, Sample, PowerOn}
 use Rattle.demands.specs.History.{Happening, imaged, changed, transacted, happened, lived}
 use Rattle.demands.specs.Books.{Converts, conversionsBy, tickAfter, conversionsIn, Ledger, bookedC, booked, ledgerAfter, bookedSum, entriesOf, ledgerOf, sumOver, countIn, unclamped, convertsNow, steady, isWrite, writesAcr, acrWritten, keepsBooks, NoWider, BooksKept}
 use Rattle.demands.proofs.Choice.{contrary}

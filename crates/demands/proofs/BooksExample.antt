@@ -7,7 +7,7 @@ use lib.IntN.{pos-ne-negsuc}
 use lib.ListN.{length, getD, drop, replicate}
 use Rattle.crc.specs.Crc as crc
 use Rattle.state.specs.declared.Profile.the-variants.{Ds2781, Ds2775}
-use Rattle.parts.specs.Parts.{laidOf}
+use Rattle.slices.specs.Slices.{laidOf}
 use Rattle.ticks.specs.Ticks.{timelyOf}
 use Rattle.state.specs.State.{poweredOf}
 use Rattle.charge.specs.Charge.{countedOf, shareOf}
@@ -18,20 +18,20 @@ use Rattle.meter.specs.Convert.{flowedOf, convertOf}
 use Rattle.meter.specs.Read.{drainedOf, shownOf, readOf}
 use Rattle.meter.specs.Signed.{minus}
 use Rattle.samples.specs.Samples.{sampledOf, sampleOf}
-use Rattle.stores.specs.Stores.{reachesOf, acrWrittenOf, lockWrittenOf, meterWrittenOf, blockWrittenOf, meterCopiedOf, blockCopiedOf, meterRecalledOf, blockRecalledOf, meterLockedOf}
+use Rattle.block1.specs.Block1.{reachesOf, acrWrittenOf, lockWrittenOf, meterWrittenOf, blockWrittenOf, meterCopiedOf, blockCopiedOf, meterRecalledOf, blockRecalledOf, meterLockedOf}
 use Rattle.label.specs.Label.{inLabel, inBlock, labelWrittenOf, labelCopiedOf, labelRecalledOf, commonLockedOf}
 use Rattle.bus.specs.Ask.{romBy, commandOf, askedAt, askedOf, ownOf}
 use Rattle.gauge.specs.Gauge.{conversionOf, samplingOf, readingOf, powerOnOf, writtenOf, copiedOf, recalledOf, lockedOf}
 use Rattle.replies.specs.Reply.{selectedOf}
 use Rattle.gauge.specs.Act.{ranOf, actOf, replyOf}
 use Rattle.pack.specs.Image.{imageOf}
-use Rattle.events.specs.Record.{kindOf, addressedOf, orderedOf, judgedAmong, takenOf}
+use Rattle.record.specs.Record.{kindOf, addressedOf, orderedOf, judgedAmong, takenOf}
 use Rattle.runs.specs.Record.{Rec, whole, wholeOf, recOf, sizeOf}
 use Rattle.steps.specs.declared.Session.{Session}
 use Rattle.steps.specs.Step.{didOf}
-use Rattle.records.specs.Run.{emptyOf}
-use Rattle.slots.specs.declared.Tray.{Tray}
-use Rattle.slots.specs.Tray.{emptyTray, searchOf, trayKindOf, matchedOf, trayDid}
+use Rattle.session_run.specs.SessionRun.{emptyOf}
+use Rattle.tray_record.specs.declared.Tray.{Tray}
+use Rattle.tray_record.specs.Tray.{emptyTray, searchOf, trayKindOf, matchedOf, trayDid}
 use Rattle.demands.specs.Call.{Call, Within, firstOf}
 use Rattle.demands.specs.History.{Happening, transacted, ofGauge, ofSlot, heardSince, leftBy}
 use Rattle.demands.specs.Books.{sumOver, BooksMet}

@@ -4,7 +4,7 @@ use mathlib.Core.List.{List, [], _∷_, _++_}
 use Prim.Native.Nat.{ℕ, _+_, _/_, _≤_}
 use native.Mathlib.Omega.{arith}
 use lib.ListN.{length}
-use Rattle.parts.specs.Parts.{put}
+use Rattle.slices.specs.Slices.{put}
 use Rattle.runs.specs.declared.Outcome.the-variants.{Done}
 use Rattle.runs.specs.Record.{Rec, whole, cut, recsOf, recordOf}
 use Rattle.runs.specs.Run.{Did, linesAfter, endAfter, repliesOf, codesOf}

@@ -6,13 +6,13 @@ use lib.ListN.{replicate}
 use Rattle.label.specs.Label.{inLabel, inBlock}
 use Rattle.bus.specs.Ask.{romBy, commandOf, askedAt, askedOf, ownOf}
 use Rattle.replies.specs.Reply.{selectedOf}
-use Rattle.events.specs.declared.Form.the-variants.{Long}
-use Rattle.events.specs.declared.Refusal.the-variants.{Breaks, Repeated}
-use Rattle.events.specs.declared.Taken.the-variants.{Refused}
-use Rattle.events.specs.Record.{kindOf, takenOf}
+use Rattle.record.specs.declared.Form.the-variants.{Long}
+use Rattle.record.specs.declared.Refusal.the-variants.{Breaks, Repeated}
+use Rattle.record.specs.declared.Taken.the-variants.{Refused}
+use Rattle.record.specs.Record.{kindOf, takenOf}
 use Rattle.runs.specs.Record.{Rec, whole, cut}
 use Rattle.ticks.specs.Ticks.{timelyOf}
-use Rattle.slots.specs.Tray.{trayKindOf}
+use Rattle.tray_record.specs.Tray.{trayKindOf}
 use Rattle.demands.specs.Longer.{recordIn, reading}
 use Rattle.demands.specs.Sections.{Class, labelling, gauging, fence}
 use Rattle.demands.specs.Class.{Selects, blockOf, touchedOf, labelsOf, touchedClass, takenClass, classOf, trayClass}

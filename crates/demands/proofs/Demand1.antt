@@ -6,23 +6,23 @@ use Prim.Native.Nat.{ℕ, _≤_}
 use native.Mathlib.Omega.{arith}
 use lib.Dec.{ltb}
 use Rattle.numbers.proofs.Bounds.{picked}
-use Rattle.events.specs.declared.Refusal.{Refusal}
-use Rattle.events.specs.declared.Refusal.the-variants.{Room}
-use Rattle.events.specs.declared.Event.{Event}
-use Rattle.events.specs.declared.Taken.{Taken}
-use Rattle.events.specs.declared.Taken.the-variants.{Run, Refused}
-use Rattle.events.specs.Record.{refusalNumber, asksOf, fittedOf}
-use Rattle.events.proofs.Fits.{refusal-range, NumberedTo, plain-numbered}
+use Rattle.record.specs.declared.Refusal.{Refusal}
+use Rattle.record.specs.declared.Refusal.the-variants.{Room}
+use Rattle.record.specs.declared.Event.{Event}
+use Rattle.record.specs.declared.Taken.{Taken}
+use Rattle.record.specs.declared.Taken.the-variants.{Run, Refused}
+use Rattle.record.specs.Record.{refusalNumber, asksOf, fittedOf}
+use Rattle.record.proofs.Fits.{refusal-range, NumberedTo, plain-numbered}
 use Rattle.runs.specs.Record.{Rec, whole, cut}
 use Rattle.runs.specs.Run.{Did}
 use Rattle.steps.specs.Steps.{Steps, answeredBy, recordBy}
 use Rattle.steps.specs.Step.{lastTick, ofSession, didOf}
 use Rattle.steps.proofs.Steps.{Replying, session-replying}
-use Rattle.records.specs.Run.{emptyOf}
-use Rattle.slots.specs.Tray.{emptyTray, trayTold, ofTray, trayDid}
+use Rattle.session_run.specs.SessionRun.{emptyOf}
+use Rattle.tray_record.specs.Tray.{emptyTray, trayTold, ofTray, trayDid}
 use Rattle.demands.specs.Demand1.{Numbered, sessionMost, trayMost, Demand1}
 use Rattle.demands.proofs.Every.{Lawful, run-sound}
-use Rattle.slots.proofs.Hearing.{tray-replying}
+use Rattle.tray_record.proofs.Hearing.{tray-replying}
 
 -- One record
 

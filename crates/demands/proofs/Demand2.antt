@@ -19,18 +19,18 @@ use Rattle.pack.specs.Image.{imageOf, bytesOf, sizeFor, roomAfter}
 use Rattle.pack.specs.Reach.{Reached}
 use Rattle.pack.proofs.Image.{image-length}
 use Rattle.pack.proofs.Reached.{reached-sized, out-judged, out-in}
-use Rattle.events.specs.declared.Event.the-variants.{Image}
-use Rattle.events.specs.declared.Refusal.the-variants.{Breaks}
-use Rattle.events.specs.declared.Taken.the-variants.{Run, Refused}
-use Rattle.events.specs.Record.{kindOf, orderedOf, judgedAmong, judgedBy, takenOf}
+use Rattle.record.specs.declared.Event.the-variants.{Image}
+use Rattle.record.specs.declared.Refusal.the-variants.{Breaks}
+use Rattle.record.specs.declared.Taken.the-variants.{Run, Refused}
+use Rattle.record.specs.Record.{kindOf, orderedOf, judgedAmong, judgedBy, takenOf}
 use Rattle.runs.specs.Record.{Rec, whole, recsOf, recordOf}
 use Rattle.runs.specs.Run.{Did, Line, silently, endAfter}
 use Rattle.steps.specs.declared.Session.{Session}
 use Rattle.steps.specs.Step.{loadedWith, didOf}
-use Rattle.records.specs.Run.{emptyOf}
-use Rattle.slots.specs.declared.Tray.{Tray}
-use Rattle.slots.specs.Tray.{emptyTray, packOf, trayKindOf, trayDid}
-use Rattle.trays.specs.Run.{slotHeld}
+use Rattle.session_run.specs.SessionRun.{emptyOf}
+use Rattle.tray_record.specs.declared.Tray.{Tray}
+use Rattle.tray_record.specs.Tray.{emptyTray, packOf, trayKindOf, trayDid}
+use Rattle.tray_run.specs.TrayRun.{slotHeld}
 use Rattle.demands.specs.Call.{Call, Within}
 use Rattle.demands.specs.Demand2.{Fresh, eepromBreaks, Crossed, AnswersImage, PoweredOn, Restored, ReadBack, Carried, PowersOn, SlotCarried, SlotPowersOn, Demand2, TrayDemand2}
 use Rattle.demands.proofs.Choice.{contrary, pick-twice}

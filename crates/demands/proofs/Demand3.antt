@@ -13,18 +13,18 @@ use Rattle.demands.proofs.Images.{session-image}
 use Rattle.numbers.specs.Choice.{pick}
 use Rattle.gauge.specs.declared.Gauge.{Gauge}
 use Rattle.pack.specs.Image.{imageOf}
-use Rattle.events.specs.declared.Event.the-variants.{Image}
-use Rattle.events.specs.declared.Taken.{Taken}
-use Rattle.events.specs.declared.Taken.the-variants.{Run, Refused}
+use Rattle.record.specs.declared.Event.the-variants.{Image}
+use Rattle.record.specs.declared.Taken.{Taken}
+use Rattle.record.specs.declared.Taken.the-variants.{Run, Refused}
 use Rattle.replies.specs.Reply.{selectedOf}
-use Rattle.events.specs.declared.Refusal.the-variants.{Size, Order}
-use Rattle.events.specs.Image.{imageAddress}
-use Rattle.events.specs.Record.{judgedBy, takenOf}
+use Rattle.record.specs.declared.Refusal.the-variants.{Size, Order}
+use Rattle.record.specs.Image.{imageAddress}
+use Rattle.record.specs.Record.{judgedBy, takenOf}
 use Rattle.runs.specs.Record.{Rec, whole, recsOf}
 use Rattle.runs.specs.Run.{Did, silently, Line, lineOf}
 use Rattle.steps.specs.declared.Session.{Session}
 use Rattle.steps.specs.Step.{loadedWith, didOf}
-use Rattle.records.specs.Run.{emptyOf}
+use Rattle.session_run.specs.SessionRun.{emptyOf}
 use Rattle.demands.specs.Call.{Call, gotOf}
 use Rattle.demands.specs.Sections.{Class, labelling, gauging, fence, only, Sections, more}
 use Rattle.demands.specs.Class.{Selects, takenClass, classBy, sessionAsked, classOf}

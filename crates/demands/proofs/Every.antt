@@ -7,8 +7,8 @@ use native.Mathlib.Nat.{zero-add}
 use native.Mathlib.Omega.{arith}
 use lib.Dec.{leb}
 use lib.ListN.{length, take, length-append}
-use Rattle.parts.specs.Parts.{put}
-use Rattle.parts.proofs.Laws.{put-append}
+use Rattle.slices.specs.Slices.{put}
+use Rattle.slices.proofs.Laws.{put-append}
 use Rattle.runs.specs.Record.{Rec, whole, cut, wholeOf, recOf, sizeOf, recsFrom, recsOf}
 use Rattle.runs.specs.Run.{Did, silently, Line, lineOf, linesAfter, endAfter, repliesOf, codesOf}
 use Rattle.runs.proofs.Ends.{over-over, few-short}

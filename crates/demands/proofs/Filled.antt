@@ -16,17 +16,17 @@ use Rattle.gauge.specs.Act.{actOf}
 use Rattle.gauge.proofs.Kept.{address-kept}
 use Rattle.pack.specs.Image.{imageOf}
 use Rattle.pack.specs.Reach.{Reached, accepted, changed, acted-on}
-use Rattle.events.specs.declared.Kind.{Kind}
-use Rattle.events.specs.declared.Event.{Event}
-use Rattle.events.specs.declared.Event.the-variants.{Image, Change, Transact}
-use Rattle.events.specs.declared.Taken.{Taken}
-use Rattle.events.specs.declared.Taken.the-variants.{Run, Refused}
-use Rattle.events.specs.Record.{masterOf}
+use Rattle.record.specs.declared.Kind.{Kind}
+use Rattle.record.specs.declared.Event.{Event}
+use Rattle.record.specs.declared.Event.the-variants.{Image, Change, Transact}
+use Rattle.record.specs.declared.Taken.{Taken}
+use Rattle.record.specs.declared.Taken.the-variants.{Run, Refused}
+use Rattle.record.specs.Record.{masterOf}
 use Rattle.runs.specs.Record.{Rec, whole, cut}
 use Rattle.runs.specs.Run.{endAfter}
 use Rattle.steps.specs.Steps.{answeredBy}
-use Rattle.slots.specs.declared.Tray.{Tray}
-use Rattle.slots.specs.Tray.{emptyTray, packOf, trayKindOf, slotIn, trayReach, trayEvent, trayTold, ofTray, trayDid}
+use Rattle.tray_record.specs.declared.Tray.{Tray}
+use Rattle.tray_record.specs.Tray.{emptyTray, packOf, trayKindOf, slotIn, trayReach, trayEvent, trayTold, ofTray, trayDid}
 use Rattle.demands.specs.History.{hearsOf}
 use Rattle.demands.proofs.Fitted.{fitted-has}
 use Rattle.demands.proofs.Packs.{Eight, stored-pack, stored-eight, acted-eight, acted-pack, acted-count}

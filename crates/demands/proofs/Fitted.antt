@@ -2,10 +2,10 @@
 use lib.Dec.{ltb}
 use Prim.Native.Nat.{ℕ}
 use Rattle.numbers.proofs.Bounds.{picked}
-use Rattle.events.specs.declared.Refusal.the-variants.{Room}
-use Rattle.events.specs.declared.Taken.{Taken}
-use Rattle.events.specs.declared.Taken.the-variants.{Run, Refused}
-use Rattle.events.specs.Record.{asksOf, fittedOf}
+use Rattle.record.specs.declared.Refusal.the-variants.{Room}
+use Rattle.record.specs.declared.Taken.{Taken}
+use Rattle.record.specs.declared.Taken.the-variants.{Run, Refused}
+use Rattle.record.specs.Record.{asksOf, fittedOf}
 
 pub fitted-has : (P : Taken → Type 0) → P (Refused Room) → (room : ℕ) (t : Taken) → P t → P (fittedOf room t)
 fitted-has P none room (Run e) h = picked P (ltb room (asksOf e)) _ _ (λ full. none) (λ fits. h)

@@ -19,9 +19,9 @@ use Rattle.state.specs.declared.Label.{Label}
 use Rattle.label.specs.Label.{inLabel, labelByte, labelWrittenOf, labelCopiedOf, labelRecalledOf}
 use Rattle.label.proofs.Addresses.{label-no-block}
 use Rattle.label.proofs.Kept.{label-written-elsewhere, label-copied-elsewhere, label-recalled-elsewhere, common-locked-elsewhere}
-use Rattle.map.specs.Registers.{meterByte}
-use Rattle.stores.specs.Stores.{meterWrittenOf, meterCopiedOf, meterRecalledOf, meterLockedOf}
-use Rattle.stores.proofs.Kept.{written-elsewhere, copied-elsewhere, recalled-elsewhere}
+use Rattle.registers.specs.Registers.{meterByte}
+use Rattle.block1.specs.Block1.{meterWrittenOf, meterCopiedOf, meterRecalledOf, meterLockedOf}
+use Rattle.block1.proofs.Kept.{written-elsewhere, copied-elsewhere, recalled-elsewhere}
 use Rattle.bus.specs.declared.Rom.{Rom}
 use Rattle.bus.specs.declared.Rom.the-variants.{Net33, Net39, Skip, Match, Quiet}
 use Rattle.bus.specs.declared.Command.{Command}
@@ -33,17 +33,17 @@ use Rattle.replies.specs.declared.Source.the-variants.{Address, Bytes, Idle}
 use Rattle.gauge.specs.Gauge.{conversionOf, samplingOf, readingOf, writtenOf, copiedOf, recalledOf, lockedOf}
 use Rattle.replies.specs.Reply.{readByte, netByte, selectedOf, readSourceOf, netSourceOf, sourceByte, listed}
 use Rattle.gauge.specs.Act.{ranBy, ranOf, actOf, replyOf}
-use Rattle.events.specs.declared.Change.{Change}
-use Rattle.events.specs.declared.Change.the-variants as change
-use Rattle.events.specs.declared.Event.the-variants.{Image, Change as Changed, Transact}
-use Rattle.events.specs.declared.Refusal.the-variants.{Interval}
-use Rattle.events.specs.declared.Taken.{Taken}
-use Rattle.events.specs.declared.Taken.the-variants.{Run, Refused}
+use Rattle.record.specs.declared.Change.{Change}
+use Rattle.record.specs.declared.Change.the-variants as change
+use Rattle.record.specs.declared.Event.the-variants.{Image, Change as Changed, Transact}
+use Rattle.record.specs.declared.Refusal.the-variants.{Interval}
+use Rattle.record.specs.declared.Taken.{Taken}
+use Rattle.record.specs.declared.Taken.the-variants.{Run, Refused}
 use Rattle.runs.specs.Record.{Rec, whole, cut}
 use Rattle.runs.specs.Run.{Did}
 use Rattle.steps.specs.declared.Session.{Session}
 use Rattle.steps.specs.Step.{loadedWith, takenDid}
-use Rattle.events.specs.Record.{refusalNumber, masterOf, takenOf}
+use Rattle.record.specs.Record.{refusalNumber, masterOf, takenOf}
 use Rattle.demands.specs.Sections.{Class, labelling, gauging, fence}
 use Rattle.demands.specs.Class.{touchedBy, touchedOf, touchedClass, changeClass, takenClass, classOf}
 use Rattle.demands.proofs.Choice.{contrary, pick-of}

@@ -9,11 +9,11 @@ use Rattle.runs.specs.Record.{Rec}
 use Rattle.runs.specs.Run.{Did}
 use Rattle.steps.specs.declared.Session.{Session}
 use Rattle.steps.specs.Step.{didOf}
-use Rattle.records.specs.Run.{emptyOf, resultOf, TakenOut}
-use Rattle.records.proofs.run
-use Rattle.records.proofs.take_out
-use Rattle.programming.specs.Programming.{Programming}
-use Rattle.programming.proofs.write
+use Rattle.session_run.specs.SessionRun.{emptyOf, resultOf, TakenOut}
+use Rattle.session_run.proofs.run
+use Rattle.session_run.proofs.take_out
+use Rattle.preset_session.specs.PresetSession.{Programming}
+use Rattle.preset_session.proofs.write
 use Rattle.mending.specs.Mending.{Mending}
 use Rattle.mending.proofs.mend
 use Rattle.demands.specs.Call.{Call, Allowed}
@@ -26,7 +26,7 @@ use Rattle.demands.specs.Isolation.{Isolation}
 use Rattle.demands.specs.History.{Pack, ofGauge, ofSlot, HistoryHolds}
 use Rattle.demands.specs.Books.{FromEvents, NoWider, BooksClose}
 use Rattle.demands.specs.Stored.{EepromHolds}
-use Rattle.slots.specs.Tray.{emptyTray, trayDid}
+use Rattle.tray_record.specs.Tray.{emptyTray, trayDid}
 use Rattle.demands.proofs.Demand1.{demand-1, tray-demand-1}
 use Rattle.demands.proofs.Demand2.{demand-2, tray-demand-2}
 use Rattle.demands.proofs.Demand3.{demand-3}

@@ -7,7 +7,7 @@ use native.Mathlib.Omega.{arith}
 use borrow.Author.Tests.{le-ltb, le-leb, lt-leb, leb-true, leb-false}
 use lib.Dec.{ltb, leb}
 use lib.ListN.{length, drop, drop-of-length-le}
-use Rattle.parts.specs.Parts.{part}
+use Rattle.slices.specs.Slices.{part}
 use Rattle.runs.specs.Record.{whole, cut, wholeOf, recOf, sizeOf, recsFrom, recsOf}
 use Rattle.runs.proofs.Records.{recs-cons}
 

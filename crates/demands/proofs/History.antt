@@ -13,20 +13,20 @@ use Rattle.numbers.proofs.Bounds.{picked, through}
 use Rattle.state.specs.declared.Profile.{Profile}
 use Rattle.gauge.specs.declared.Gauge.{Gauge}
 use Rattle.pack.specs.Image.{imageOf}
-use Rattle.events.specs.declared.Event.{Event}
-use Rattle.events.specs.declared.Event.the-variants.{Image, Change, Transact}
-use Rattle.events.specs.declared.Taken.{Taken}
-use Rattle.events.specs.declared.Taken.the-variants.{Run, Refused}
-use Rattle.events.specs.Record.{masterOf, takenOf, timedOf, fittedOf}
-use Rattle.events.proofs.Fits.{Taking, timed-taking}
+use Rattle.record.specs.declared.Event.{Event}
+use Rattle.record.specs.declared.Event.the-variants.{Image, Change, Transact}
+use Rattle.record.specs.declared.Taken.{Taken}
+use Rattle.record.specs.declared.Taken.the-variants.{Run, Refused}
+use Rattle.record.specs.Record.{masterOf, takenOf, timedOf, fittedOf}
+use Rattle.record.proofs.Fits.{Taking, timed-taking}
 use Rattle.runs.specs.Record.{Rec, whole, cut, recsOf}
 use Rattle.runs.specs.Run.{Did, endAfter}
 use Rattle.steps.specs.declared.Session.{Session}
 use Rattle.steps.specs.Steps.{answeredBy}
 use Rattle.steps.specs.Step.{lastTick, ofSession, didOf}
-use Rattle.records.specs.Run.{emptyOf}
-use Rattle.slots.specs.declared.Tray.{Tray}
-use Rattle.slots.specs.Tray.{emptyTray, packOf, trayKindOf, slotIn, Reach, one, every, trayReach, trayTold, trayEvent, ofTray, trayDid}
+use Rattle.session_run.specs.SessionRun.{emptyOf}
+use Rattle.tray_record.specs.declared.Tray.{Tray}
+use Rattle.tray_record.specs.Tray.{emptyTray, packOf, trayKindOf, slotIn, Reach, one, every, trayReach, trayTold, trayEvent, ofTray, trayDid}
 use Rattle.demands.specs.Call.{Call, Within, Stopped}
 use Rattle.demands.specs.History.{Happening, imaged, lived, Imageless, hearsOf, Pack, ofGauge, slotHears, ofSlot, eventHappens, heardBy, heardIn, heardAfter, heardSince, leftBy, HistoryHolds}
 use Rattle.demands.specs.Books.{sumOver, countIn, BooksClose}

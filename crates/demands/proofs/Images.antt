@@ -3,9 +3,9 @@ use mathlib.Core.Path.{_≡_, refl}
 use mathlib.Core.Bool.{true}
 use Rattle.state.specs.declared.Profile.{Profile}
 use Rattle.state.specs.declared.Profile.the-variants.{Ds2781, Ds2775}
-use Rattle.events.specs.declared.Kind.the-variants as kind
-use Rattle.events.specs.Record.{kindOf}
-use Rattle.slots.specs.Tray.{trayKindOf}
+use Rattle.record.specs.declared.Kind.the-variants as kind
+use Rattle.record.specs.Record.{kindOf}
+use Rattle.tray_record.specs.Tray.{trayKindOf}
 use Rattle.demands.specs.Images.{imageKind, isImage}
 
 pub session-image : (f : Profile) → kindOf (imageKind f) ≡ kind.Image f

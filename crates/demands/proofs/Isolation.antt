@@ -9,18 +9,18 @@ use Rattle.numbers.specs.Choice.{pick}
 use Rattle.bus.specs.declared.Transaction.{Transaction}
 use Rattle.gauge.specs.declared.Gauge.{Gauge}
 use Rattle.gauge.specs.Act.{replyOf}
-use Rattle.events.specs.declared.Form.{Form}
-use Rattle.events.specs.declared.Refusal.the-variants as refusal
-use Rattle.events.specs.declared.Event.the-variants.{Image, Change, Transact}
-use Rattle.events.specs.declared.Taken.{Taken}
-use Rattle.events.specs.declared.Taken.the-variants.{Run, Refused}
-use Rattle.events.specs.Record.{masterOf, fittedOf}
-use Rattle.events.proofs.Fits.{transaction-timely}
+use Rattle.record.specs.declared.Form.{Form}
+use Rattle.record.specs.declared.Refusal.the-variants as refusal
+use Rattle.record.specs.declared.Event.the-variants.{Image, Change, Transact}
+use Rattle.record.specs.declared.Taken.{Taken}
+use Rattle.record.specs.declared.Taken.the-variants.{Run, Refused}
+use Rattle.record.specs.Record.{masterOf, fittedOf}
+use Rattle.record.proofs.Fits.{transaction-timely}
 use Rattle.runs.specs.Record.{Rec, whole, recsOf}
 use Rattle.runs.specs.Run.{Line, lineOf, linesAfter, endAfter}
 use Rattle.steps.specs.Steps.{answeredBy}
-use Rattle.slots.specs.declared.Tray.{Tray}
-use Rattle.slots.specs.Tray.{emptyTray, trayKindOf, againOf, slotTick, trayTold, one, trayReach, trayReply, ofTray, trayDid}
+use Rattle.tray_record.specs.declared.Tray.{Tray}
+use Rattle.tray_record.specs.Tray.{emptyTray, trayKindOf, againOf, slotTick, trayTold, one, trayReach, trayReply, ofTray, trayDid}
 use Rattle.demands.specs.Call.{Call, Within, gotOf, Stopped}
 use Rattle.demands.specs.Longer.{formKind}
 use Rattle.demands.specs.Alone.{reachIn}

@@ -18,24 +18,24 @@ use Rattle.replies.specs.Reply.{selectedOf, readByte, sourceByte, listed}
 use Rattle.replies.proofs.Listed.{listed-length}
 use Rattle.gauge.specs.declared.Gauge.{Gauge}
 use Rattle.gauge.specs.Act.{ranOf, actOf, replyOf}
-use Rattle.events.specs.declared.Form.{Form}
-use Rattle.events.specs.declared.Form.the-variants.{Short, Long}
-use Rattle.events.specs.declared.Kind.{Kind}
-use Rattle.events.specs.declared.Kind.the-variants as kind
-use Rattle.events.specs.declared.Refusal.the-variants as refusal
-use Rattle.events.specs.declared.Event.the-variants.{Transact}
-use Rattle.events.specs.declared.Taken.{Taken}
-use Rattle.events.specs.declared.Taken.the-variants.{Run, Refused}
-use Rattle.events.specs.Record.{headOf, limitOf, readCount, kindOf, masterOf, takenBy, takenOf, fittedOf}
-use Rattle.events.proofs.Fits.{transaction-timely}
+use Rattle.record.specs.declared.Form.{Form}
+use Rattle.record.specs.declared.Form.the-variants.{Short, Long}
+use Rattle.record.specs.declared.Kind.{Kind}
+use Rattle.record.specs.declared.Kind.the-variants as kind
+use Rattle.record.specs.declared.Refusal.the-variants as refusal
+use Rattle.record.specs.declared.Event.the-variants.{Transact}
+use Rattle.record.specs.declared.Taken.{Taken}
+use Rattle.record.specs.declared.Taken.the-variants.{Run, Refused}
+use Rattle.record.specs.Record.{headOf, limitOf, readCount, kindOf, masterOf, takenBy, takenOf, fittedOf}
+use Rattle.record.proofs.Fits.{transaction-timely}
 use Rattle.runs.specs.Record.{Rec, kindIn}
 use Rattle.runs.specs.Run.{Did, linesAfter, endAfter, repliesOf}
 use Rattle.steps.specs.declared.Session.{Session}
 use Rattle.steps.specs.Steps.{Steps, answeredBy, recordBy}
 use Rattle.steps.specs.Step.{loadedWith, lastTick, ofSession, didOf}
-use Rattle.slots.specs.declared.Tray.{Tray}
-use Rattle.slots.specs.Tray.{packOf, storedOf, closedOf, againOf, slotTick, Reach, one, every, trayReach, actedFirst, wiredFirst, trayActed, trayReply, ofTray, trayDid}
-use Rattle.slots.specs.Wire.{andBytes}
+use Rattle.tray_record.specs.declared.Tray.{Tray}
+use Rattle.tray_record.specs.Tray.{packOf, storedOf, closedOf, againOf, slotTick, Reach, one, every, trayReach, actedFirst, wiredFirst, trayActed, trayReply, ofTray, trayDid}
+use Rattle.tray_record.specs.Wire.{andBytes}
 use Rattle.demands.specs.Class.{Selects, touchedOf, takenClass, classBy, sessionAsked, classOf, trayAsked, someSelected, trayClass}
 use Rattle.demands.specs.Longer.{formKind, payloadOf, recordIn, AllowedIn, Reformed, none, kept, reformed, answered, OneAnswer, OneClass, reading, quarters, Longer, LongerMet, wholeMap, AsBefore}
 use Rattle.demands.proofs.Alone.{transaction-kind, session-kind}

@@ -15,30 +15,29 @@ use Rattle.numbers.specs.Choice.{pick, both}
 use Rattle.bus.specs.declared.Transaction.{Transaction}
 use Rattle.gauge.specs.declared.Gauge.{Gauge}
 use Rattle.pack.specs.Image.{imageOf}
-use Rattle.events.specs.declared.Kind.{Kind}
-use Rattle.events.specs.declared.Kind.the-variants as kind
-use Rattle.events.specs.declared.Refusal.the-variants as refusal
-use Rattle.events.specs.declared.Event.{Event}
-use Rattle.events.specs.declared.Event.the-variants.{Image, Change, Transact}
-use Rattle.events.specs.declared.Taken.{Taken}
-use Rattle.events.specs.declared.Taken.the-variants.{Run, Refused}
-use Rattle.events.specs.Image.{imageAddress}
-use Rattle.events.specs.Record.{refusalNumber, masterOf, asksOf}
-use Rattle.events.proofs.Fits.{refusal-range}
+use Rattle.record.specs.declared.Kind.{Kind}
+use Rattle.record.specs.declared.Kind.the-variants as kind
+use Rattle.record.specs.declared.Refusal.the-variants as refusal
+use Rattle.record.specs.declared.Event.{Event}
+use Rattle.record.specs.declared.Event.the-variants.{Image, Change, Transact}
+use Rattle.record.specs.declared.Taken.{Taken}
+use Rattle.record.specs.declared.Taken.the-variants.{Run, Refused}
+use Rattle.record.specs.Image.{imageAddress}
+use Rattle.record.specs.Record.{refusalNumber, masterOf, asksOf}
+use Rattle.record.proofs.Fits.{refusal-range}
 use Rattle.runs.specs.Record.{Rec, whole, cut}
 use Rattle.runs.specs.Run.{Did, silently, lineOf}
-use Rattle.slots.specs.declared.Tray.{Tray}
-use Rattle.slots.specs.Tray.{noGauge, packOf, searchOf, trayKindOf, aheadOf, slotIn, againOf, trayTold, matchedOf, trayReach, trayEvent, trayDid}
-use Rattle.demands.specs.Alone.{slotEvent}
+use Rattle.tray_record.specs.declared.Tray.{Tray}
+use Rattle.tray_record.specs.Tray.{noGauge, packOf, searchOf, trayKindOf, aheadOf, slotIn, againOf, trayTold, matchedOf, trayReach, trayEvent, trayDid}
+use Rattle.demands.specs.Alone.{slotEvent, slotted}
 use Rattle.demands.specs.Isolation.{imagesAfter, Others}
 use Rattle.demands.proofs.Choice.{contrary, both-false}
-use Rattle.slots.proofs.Hearing.{tray-replying}
-use Rattle.slots.proofs.Laws.{stored-other}
+use Rattle.tray_record.proofs.Hearing.{tray-replying}
+use Rattle.tray_record.proofs.Laws.{stored-other}
 use Rattle.demands.proofs.Packs.{Eight, stored-here, search-same}
 use Rattle.demands.proofs.Asked.{Asks, tray-asks, madeOf, told-event}
 use Rattle.demands.proofs.Filled.{packAfter, countAfter, address-after, event-pack, event-count}
 use Rattle.demands.proofs.Alone.{slot-ahead, alone}
-use Rattle.demands.specs.Alone.{slotted}
 
 -- What is the same, is so in either order and over three
 

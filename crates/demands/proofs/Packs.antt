@@ -14,11 +14,11 @@ use Rattle.bus.specs.Ask.{sameBytes}
 use Rattle.state.specs.declared.Common.{Common}
 use Rattle.gauge.specs.declared.Gauge.{Gauge}
 use Rattle.gauge.specs.Act.{actOf, replyOf}
-use Rattle.slots.specs.declared.Tray.{Tray}
-use Rattle.slots.proofs.Laws.{stored-other}
-use Rattle.slots.specs.declared.Found.the-variants.{At, Nowhere}
-use Rattle.slots.specs.Wire.{andBytes}
-use Rattle.slots.specs.Tray.{noGauge, packOf, storedOf, searchFrom, Reach, one, every, actedFirst, wiredFirst, trayActed}
+use Rattle.tray_record.specs.declared.Tray.{Tray}
+use Rattle.tray_record.proofs.Laws.{stored-other}
+use Rattle.tray_record.specs.declared.Found.the-variants.{At, Nowhere}
+use Rattle.tray_record.specs.Wire.{andBytes}
+use Rattle.tray_record.specs.Tray.{noGauge, packOf, storedOf, searchFrom, Reach, one, every, actedFirst, wiredFirst, trayActed}
 use Rattle.demands.specs.History.{hearsOf}
 use Rattle.demands.proofs.Choice.{contrary}
 

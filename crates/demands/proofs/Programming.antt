@@ -10,14 +10,14 @@ use lib.Dec.{ltb}
 use lib.ListN.{length, take, drop}
 use lib.Seq.{take-at, take-all, ext-getD}
 use Rattle.state.specs.declared.Profile.the-variants.{Ds2781}
-use Rattle.parts.specs.Parts.{laidOf}
-use Rattle.parts.proofs.Laws.{put-whole}
+use Rattle.slices.specs.Slices.{laidOf}
+use Rattle.slices.proofs.Laws.{put-whole}
 use Rattle.label.proofs.Kept.{label-written-elsewhere, label-copied-elsewhere}
-use Rattle.stores.proofs.Kept.{written-above}
+use Rattle.block1.proofs.Kept.{written-above}
 use Rattle.state.specs.State.{poweredOf}
 use Rattle.label.specs.Label.{inLabel, inBlock}
-use Rattle.stores.specs.Stores.{reachesOf, lockWrittenOf, blockWrittenOf, blockCopiedOf, meterCopiedOf, reblockedOf}
-use Rattle.map.specs.Registers.{meterByte}
+use Rattle.block1.specs.Block1.{reachesOf, lockWrittenOf, blockWrittenOf, blockCopiedOf, meterCopiedOf, reblockedOf}
+use Rattle.registers.specs.Registers.{meterByte}
 use Rattle.bus.specs.declared.Rom.the-variants.{Skip}
 use Rattle.bus.specs.declared.Transaction.{Transaction}
 use Rattle.bus.specs.Ask.{romBy, commandOf, askedAt, askedOf}
@@ -28,20 +28,20 @@ use Rattle.gauge.specs.Gauge.{withMeter, writtenOf, copiedOf}
 use Rattle.gauge.specs.Act.{ranBy, ranOf, actOf, replyOf}
 use Rattle.pack.specs.Image.{imageOf}
 use Rattle.pack.proofs.Reached.{accepted-length, image-sized}
-use Rattle.events.specs.declared.Event.the-variants.{Transact}
-use Rattle.events.specs.declared.Taken.the-variants.{Run}
-use Rattle.events.specs.Image.{imageSize}
-use Rattle.events.specs.Record.{kindOf, takenOf}
+use Rattle.record.specs.declared.Event.the-variants.{Transact}
+use Rattle.record.specs.declared.Taken.the-variants.{Run}
+use Rattle.record.specs.Image.{imageSize}
+use Rattle.record.specs.Record.{kindOf, takenOf}
 use Rattle.runs.specs.Record.{Rec, whole, recsOf, recordOf}
 use Rattle.runs.specs.Run.{Did, silently, lineOf, linesAfter, endAfter}
 use Rattle.runs.proofs.Records.{recs-record}
-use Rattle.programming.specs.declared.Written.{Written}
-use Rattle.programming.specs.declared.Written.the-variants.{Done}
-use Rattle.programming.specs.Programming.{writePayload, copyPayload, readPayload, programmingOf, programmingSize, answerOf, Granted}
-use Rattle.programming.proofs.Laws.{granted, done, programming-length}
+use Rattle.preset_session.specs.declared.Written.{Written}
+use Rattle.preset_session.specs.declared.Written.the-variants.{Done}
+use Rattle.preset_session.specs.PresetSession.{writePayload, copyPayload, readPayload, programmingOf, programmingSize, answerOf, Granted}
+use Rattle.preset_session.proofs.Laws.{granted, done, programming-length}
 use Rattle.steps.specs.declared.Session.{Session}
 use Rattle.steps.specs.Step.{loadedWith, didOf}
-use Rattle.records.specs.Run.{emptyOf}
+use Rattle.session_run.specs.SessionRun.{emptyOf}
 use Rattle.demands.specs.Call.{Call, Within, linesIn}
 use Rattle.demands.proofs.Moments.{running, tells}
 use Rattle.demands.proofs.Demand2.{did-image, taken-image}

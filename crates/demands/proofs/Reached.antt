@@ -5,11 +5,11 @@ use mathlib.Core.List.{List, [], _∷_}
 use Prim.Native.Nat.{ℕ, _-_}
 use lib.ListN.{length}
 use Rattle.pack.specs.Reach.{Reached, accepted, changed, acted-on}
-use Rattle.events.specs.declared.Event.the-variants.{Image, Change, Transact}
-use Rattle.events.specs.declared.Taken.{Taken}
-use Rattle.events.specs.declared.Taken.the-variants.{Run, Refused}
-use Rattle.events.specs.Record.{masterOf, takenOf, timedOf}
-use Rattle.events.proofs.Fits.{Taking, timed-taking}
+use Rattle.record.specs.declared.Event.the-variants.{Image, Change, Transact}
+use Rattle.record.specs.declared.Taken.{Taken}
+use Rattle.record.specs.declared.Taken.the-variants.{Run, Refused}
+use Rattle.record.specs.Record.{masterOf, takenOf, timedOf}
+use Rattle.record.proofs.Fits.{Taking, timed-taking}
 use Rattle.runs.specs.Record.{Rec, whole, cut}
 use Rattle.runs.specs.Run.{endAfter}
 use Rattle.steps.specs.declared.Session.{Session}

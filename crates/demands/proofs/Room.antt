@@ -9,11 +9,11 @@ use lib.ListN.{length}
 use Rattle.numbers.proofs.Bounds.{picked}
 use Rattle.state.specs.declared.Tick.{Tick}
 use Rattle.gauge.specs.declared.Gauge.{Gauge}
-use Rattle.events.specs.declared.Event.the-variants.{Image, Change, Transact}
-use Rattle.events.specs.declared.Taken.{Taken}
-use Rattle.events.specs.declared.Taken.the-variants.{Run, Refused}
-use Rattle.events.specs.Record.{masterOf, takenOf, changeTimely, timedOf, asksOf, fittedOf}
-use Rattle.events.proofs.Fits.{timed-taking}
+use Rattle.record.specs.declared.Event.the-variants.{Image, Change, Transact}
+use Rattle.record.specs.declared.Taken.{Taken}
+use Rattle.record.specs.declared.Taken.the-variants.{Run, Refused}
+use Rattle.record.specs.Record.{masterOf, takenOf, changeTimely, timedOf, asksOf, fittedOf}
+use Rattle.record.proofs.Fits.{timed-taking}
 use Rattle.runs.specs.Record.{Rec, whole, cut}
 use Rattle.runs.specs.Run.{Did, silently, Line, lineOf, linesAfter, endAfter}
 use Rattle.steps.specs.declared.Session.{Session}

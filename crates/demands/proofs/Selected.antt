@@ -13,10 +13,10 @@ use Rattle.bus.specs.declared.Rom.the-variants as rom
 use Rattle.bus.specs.declared.Transaction.{Transaction}
 use Rattle.bus.specs.Ask.{sameBytes, ownOf}
 use Rattle.replies.specs.Reply.{selectedBy, selectedOf}
-use Rattle.slots.specs.declared.Tray.{Tray}
-use Rattle.slots.specs.declared.Found.{Found}
-use Rattle.slots.specs.declared.Found.the-variants.{At, Nowhere}
-use Rattle.slots.specs.Tray.{noGauge, packOf, searchOf, reachFound, matchedOf, aimedBy, trayReach}
+use Rattle.tray_record.specs.declared.Tray.{Tray}
+use Rattle.tray_record.specs.declared.Found.{Found}
+use Rattle.tray_record.specs.declared.Found.the-variants.{At, Nowhere}
+use Rattle.tray_record.specs.Tray.{noGauge, packOf, searchOf, reachFound, matchedOf, aimedBy, trayReach}
 use Rattle.demands.specs.Class.{someSelected}
 use Rattle.demands.specs.History.{hearsOf}
 use Rattle.demands.proofs.Packs.{search-none}

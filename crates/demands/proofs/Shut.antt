@@ -16,27 +16,27 @@ use Rattle.state.specs.declared.Tick.{Tick}
 use Rattle.state.specs.State.{noTick}
 use Rattle.ticks.specs.Ticks.{timelyOf}
 use Rattle.gauge.specs.declared.Gauge.{Gauge}
-use Rattle.events.specs.declared.Change.the-variants as change
-use Rattle.events.specs.declared.Kind.{Kind}
-use Rattle.events.specs.declared.Kind.the-variants as kind
-use Rattle.events.specs.declared.Refusal.the-variants as refusal
-use Rattle.events.specs.declared.Event.{Event}
-use Rattle.events.specs.declared.Event.the-variants.{Image, Change, Transact}
-use Rattle.events.specs.declared.Taken.{Taken}
-use Rattle.events.specs.declared.Taken.the-variants.{Run, Refused}
-use Rattle.events.specs.Record.{limitOf, readCount, dueOf, eventOf, takenBy, timedOf}
+use Rattle.record.specs.declared.Change.the-variants as change
+use Rattle.record.specs.declared.Kind.{Kind}
+use Rattle.record.specs.declared.Kind.the-variants as kind
+use Rattle.record.specs.declared.Refusal.the-variants as refusal
+use Rattle.record.specs.declared.Event.{Event}
+use Rattle.record.specs.declared.Event.the-variants.{Image, Change, Transact}
+use Rattle.record.specs.declared.Taken.{Taken}
+use Rattle.record.specs.declared.Taken.the-variants.{Run, Refused}
+use Rattle.record.specs.Record.{limitOf, readCount, dueOf, eventOf, takenBy, timedOf}
 use Rattle.runs.specs.Record.{Rec, whole, cut}
 use Rattle.runs.specs.Run.{Did, silently, Line, lineOf, linesAfter, endAfter}
 use Rattle.steps.specs.Steps.{Steps, answeredBy}
-use Rattle.slots.specs.declared.Tray.{Tray}
-use Rattle.slots.specs.Tray.{packOf, trayKindOf, aheadOf, slotIn, acceptedFor, trayAskedBy, againOf, slotTick, trayTold, trayEvent, ofTray, trayDid}
+use Rattle.tray_record.specs.declared.Tray.{Tray}
+use Rattle.tray_record.specs.Tray.{packOf, trayKindOf, aheadOf, slotIn, acceptedFor, trayAskedBy, againOf, slotTick, trayTold, trayEvent, ofTray, trayDid}
 use Rattle.demands.specs.Sections.{fence}
 use Rattle.demands.specs.Class.{Selects, takenClass, trayAsked}
 use Rattle.demands.specs.Demand3.{takenAsks, recAsks, asksAll}
 use Rattle.demands.proofs.Choice.{contrary}
 use Rattle.demands.proofs.Mix.{endFrom, gotFrom}
 use Rattle.demands.proofs.Room.{taken-room, timed-asks}
-use Rattle.slots.proofs.Hearing.{tray-replying}
+use Rattle.tray_record.proofs.Hearing.{tray-replying}
 use Rattle.demands.proofs.Packs.{Eight}
 use Rattle.demands.proofs.Asked.{asked-has, Asks, tray-asks}
 use Rattle.demands.proofs.Filled.{countAfter, did-eight, event-pack, event-count, event-eight, address-after, end-keeps}

@@ -18,20 +18,20 @@ use Rattle.replies.specs.Reply.{selectedOf}
 use Rattle.gauge.specs.declared.Gauge.{Gauge}
 use Rattle.gauge.specs.Change.{changedOf}
 use Rattle.gauge.specs.Act.{replyOf}
-use Rattle.events.specs.declared.Change.{Change as Changes}
-use Rattle.events.specs.declared.Event.the-variants.{Image, Change, Transact}
-use Rattle.events.specs.declared.Refusal.{Refusal}
-use Rattle.events.specs.declared.Refusal.the-variants.{Interval}
-use Rattle.events.specs.declared.Taken.{Taken}
-use Rattle.events.specs.declared.Taken.the-variants.{Run, Refused}
-use Rattle.events.specs.Record.{masterOf, changeTimely, timedOf}
+use Rattle.record.specs.declared.Change.{Change as Changes}
+use Rattle.record.specs.declared.Event.the-variants.{Image, Change, Transact}
+use Rattle.record.specs.declared.Refusal.{Refusal}
+use Rattle.record.specs.declared.Refusal.the-variants.{Interval}
+use Rattle.record.specs.declared.Taken.{Taken}
+use Rattle.record.specs.declared.Taken.the-variants.{Run, Refused}
+use Rattle.record.specs.Record.{masterOf, changeTimely, timedOf}
 use Rattle.runs.specs.Record.{Rec, whole, cut, kindIn}
 use Rattle.runs.specs.Run.{Did}
 use Rattle.steps.specs.declared.Session.{Session}
 use Rattle.steps.specs.Steps.{answeredBy}
 use Rattle.steps.specs.Step.{loadedWith, takenDid}
-use Rattle.slots.specs.declared.Tray.{Tray}
-use Rattle.slots.specs.Tray.{noGauge, packOf, slotIn, slotTick, Reach, one, every, reachFound, matchedOf, aimedBy, trayReach, trayTold, wiredFirst, trayReply}
+use Rattle.tray_record.specs.declared.Tray.{Tray}
+use Rattle.tray_record.specs.Tray.{noGauge, packOf, slotIn, slotTick, Reach, one, every, reachFound, matchedOf, aimedBy, trayReach, trayTold, wiredFirst, trayReply}
 use Rattle.demands.specs.Sections.{Class, labelling, gauging, fence}
 use Rattle.demands.specs.Class.{touchedOf, takenClass, classBy, trayAsked, someSelected}
 use Rattle.demands.specs.History.{hearsOf}

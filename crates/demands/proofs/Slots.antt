@@ -10,19 +10,19 @@ use lib.ListN.{length}
 use Rattle.bus.specs.declared.Transaction.{Transaction}
 use Rattle.gauge.specs.Change.{changedOf}
 use Rattle.gauge.specs.Act.{actOf, replyOf}
-use Rattle.events.specs.declared.Form.{Form}
-use Rattle.events.specs.declared.Kind.{Kind}
-use Rattle.events.specs.declared.Kind.the-variants as kind
-use Rattle.events.specs.declared.Event.the-variants.{Image, Change, Transact}
-use Rattle.events.specs.declared.Taken.{Taken}
-use Rattle.events.specs.declared.Taken.the-variants.{Run, Refused}
-use Rattle.events.specs.Record.{kindOf, transactionIn, masterOf, takenOf, timedOf}
-use Rattle.events.proofs.Fits.{transaction-timely}
+use Rattle.record.specs.declared.Form.{Form}
+use Rattle.record.specs.declared.Kind.{Kind}
+use Rattle.record.specs.declared.Kind.the-variants as kind
+use Rattle.record.specs.declared.Event.the-variants.{Image, Change, Transact}
+use Rattle.record.specs.declared.Taken.{Taken}
+use Rattle.record.specs.declared.Taken.the-variants.{Run, Refused}
+use Rattle.record.specs.Record.{kindOf, transactionIn, masterOf, takenOf, timedOf}
+use Rattle.record.proofs.Fits.{transaction-timely}
 use Rattle.runs.specs.Record.{whole, recsOf}
 use Rattle.steps.specs.Steps.{answeredBy}
 use Rattle.steps.specs.Step.{loadedWith, lastTick, takenDid, didOf}
-use Rattle.slots.specs.declared.Tray.{Tray}
-use Rattle.slots.specs.Tray.{emptyTray, packOf, trayKindOf, aheadOf, againOf, slotTick, trayTold, Reach, one, trayReach, trayActed, trayReply, ofTray, trayDid}
+use Rattle.tray_record.specs.declared.Tray.{Tray}
+use Rattle.tray_record.specs.Tray.{emptyTray, packOf, trayKindOf, aheadOf, againOf, slotTick, trayTold, Reach, one, trayReach, trayActed, trayReply, ofTray, trayDid}
 use Rattle.demands.specs.Call.{Call, Within}
 use Rattle.demands.specs.Longer.{formKind}
 use Rattle.demands.specs.Alone.{reachIn}

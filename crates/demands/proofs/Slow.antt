@@ -14,7 +14,7 @@ use Rattle.samples.specs.Samples.{sampledOf, sampleOf}
 use Rattle.samples.proofs.Laws.{sampled-first}
 use Rattle.gauge.specs.declared.Gauge.{Gauge}
 use Rattle.gauge.specs.Gauge.{withMeter, conversionOf, samplingOf}
-use Rattle.events.specs.Record.{kindOf, countAt, takenOf}
+use Rattle.record.specs.Record.{kindOf, countAt, takenOf}
 use Rattle.runs.specs.Record.{Rec}
 use Rattle.runs.specs.Run.{silently, endAfter}
 use Rattle.steps.specs.declared.Session.{Session}

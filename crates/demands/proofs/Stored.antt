@@ -14,8 +14,8 @@ use Rattle.state.specs.declared.Label.{Label}
 use Rattle.label.specs.Label.{inLabel, inBlock, labelCopiedOf}
 use Rattle.label.proofs.Kept.{label-written-eeprom, label-recalled-eeprom}
 use Rattle.state.specs.declared.Block.{Block}
-use Rattle.stores.specs.Stores.{blockCopiedOf, meterWrittenOf, meterCopiedOf, meterRecalledOf, meterLockedOf}
-use Rattle.stores.proofs.Kept.{written-eeprom, recalled-eeprom}
+use Rattle.block1.specs.Block1.{blockCopiedOf, meterWrittenOf, meterCopiedOf, meterRecalledOf, meterLockedOf}
+use Rattle.block1.proofs.Kept.{written-eeprom, recalled-eeprom}
 use Rattle.bus.specs.declared.Command.{Command}
 use Rattle.bus.specs.declared.Command.the-variants.{Read, Write, Copy, Recall, Lock, Nothing}
 use Rattle.bus.specs.declared.Transaction.{Transaction}
@@ -28,7 +28,7 @@ use Rattle.gauge.specs.Act.{ranBy, ranOf, actOf}
 use Rattle.gauge.proofs.Kept as kept
 use Rattle.gauge.proofs.Kept.{locked-label-eeprom, locked-block-eeprom}
 use Rattle.pack.specs.Image.{imageOf}
-use Rattle.events.specs.declared.Change.{Change}
+use Rattle.record.specs.declared.Change.{Change}
 use Rattle.demands.specs.History.{Happening, imaged, changed, transacted, happened, lived, NoImage, Imageless}
 use Rattle.demands.specs.Stored.{Memory, block0, block1, shadowIn, eepromIn, lockedIn, hasAddress, imageIn, isCopy, copyActs, storedBy, storedLast}
 

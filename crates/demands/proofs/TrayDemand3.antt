@@ -16,13 +16,13 @@ use Rattle.demands.proofs.Images.{tray-image}
 use Rattle.numbers.specs.Choice.{pick}
 use Rattle.gauge.specs.declared.Gauge.{Gauge}
 use Rattle.pack.specs.Image.{imageOf}
-use Rattle.events.specs.declared.Event.the-variants.{Image}
-use Rattle.events.specs.declared.Taken.the-variants.{Run}
-use Rattle.events.specs.Image.{imageAddress}
+use Rattle.record.specs.declared.Event.the-variants.{Image}
+use Rattle.record.specs.declared.Taken.the-variants.{Run}
+use Rattle.record.specs.Image.{imageAddress}
 use Rattle.runs.specs.Record.{Rec, whole}
 use Rattle.runs.specs.Run.{Did, silently, Line, linesAfter, endAfter}
-use Rattle.slots.specs.declared.Tray.{Tray}
-use Rattle.slots.specs.Tray.{emptyTray, packOf, packJoined, againOf, slotTick, trayKindOf, trayTold, trayDid}
+use Rattle.tray_record.specs.declared.Tray.{Tray}
+use Rattle.tray_record.specs.Tray.{emptyTray, packOf, packJoined, againOf, slotTick, trayKindOf, trayTold, trayDid}
 use Rattle.demands.specs.Call.{Call, gotOf}
 use Rattle.demands.specs.Sections.{fence}
 use Rattle.demands.specs.Class.{trayAsked, someSelected, trayClass}

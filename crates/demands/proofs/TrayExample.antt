@@ -7,26 +7,26 @@ use lib.ListN.{length, getD, replicate}
 use Rattle.state.specs.declared.Profile.{Profile}
 use Rattle.state.specs.declared.Profile.the-variants.{Ds2781, Ds2775}
 use Rattle.crc.specs.Crc as crc
-use Rattle.parts.specs.Parts.{laidOf}
+use Rattle.slices.specs.Slices.{laidOf}
 use Rattle.ticks.specs.Ticks.{timelyOf}
 use Rattle.state.specs.State.{poweredOf}
 use Rattle.meter.specs.Convert.{flowedOf, convertOf}
-use Rattle.stores.specs.Stores.{meterWrittenOf, blockWrittenOf}
+use Rattle.block1.specs.Block1.{meterWrittenOf, blockWrittenOf}
 use Rattle.label.specs.Label.{inLabel, inBlock, labelByte, labelWrittenOf}
-use Rattle.map.specs.Registers.{registersOf, meterByte}
+use Rattle.registers.specs.Registers.{registersOf, meterByte}
 use Rattle.bus.specs.Ask.{romBy, commandOf, askedAt, askedOf, ownOf}
 use Rattle.gauge.specs.Gauge.{conversionOf, powerOnOf, writtenOf}
 use Rattle.replies.specs.Reply.{readByte, selectedOf, sourceByte}
 use Rattle.gauge.specs.declared.Gauge.{Gauge}
 use Rattle.gauge.specs.Act.{ranOf, actOf, replyOf}
 use Rattle.pack.specs.Image.{imageOf, sizeFor}
-use Rattle.events.specs.declared.Form.the-variants.{Short}
-use Rattle.events.specs.Record.{addressedOf, orderedOf, judgedAmong}
+use Rattle.record.specs.declared.Form.the-variants.{Short}
+use Rattle.record.specs.Record.{addressedOf, orderedOf, judgedAmong}
 use Rattle.runs.specs.Record.{Rec, whole, wholeOf, recOf, sizeOf}
 use Rattle.runs.specs.Run.{Line}
-use Rattle.slots.specs.declared.Tray.{Tray}
-use Rattle.slots.specs.Tray.{emptyTray, packOf, searchOf, trayKindOf, matchedOf, trayDid}
-use Rattle.trays.specs.Run.{trayLines, slotOutNumber, slotOutRoom}
+use Rattle.tray_record.specs.declared.Tray.{Tray}
+use Rattle.tray_record.specs.Tray.{emptyTray, packOf, searchOf, trayKindOf, matchedOf, trayDid}
+use Rattle.tray_run.specs.TrayRun.{trayLines, slotOutNumber, slotOutRoom}
 use Rattle.demands.specs.Call.{Call, Within, firstOf, Stopped}
 use Rattle.demands.specs.Sections.{last, more}
 use Rattle.demands.specs.Class.{blockOf, touchedOf, labelsOf, touchedClass}

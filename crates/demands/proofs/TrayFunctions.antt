@@ -4,11 +4,11 @@ use contract.Lifetimes.{Lfts}
 use denote.Ref.{now}
 use denote.Triple.Entry.{Args, Res}
 use denote.Triple.Clauses.{Lasts, atExit}
-use Rattle.slots.specs.declared.Tray.{Tray}
-use Rattle.slots.specs.Tray.{emptyTray, trayDid}
-use Rattle.trays.specs.Run.{trayResultOf, SlotOut}
-use Rattle.trays.proofs.run
-use Rattle.trays.proofs.take_out
+use Rattle.tray_record.specs.declared.Tray.{Tray}
+use Rattle.tray_record.specs.Tray.{emptyTray, trayDid}
+use Rattle.tray_run.specs.TrayRun.{trayResultOf, SlotOut}
+use Rattle.tray_run.proofs.run
+use Rattle.tray_run.proofs.take_out
 use Rattle.demands.specs.Call.{Call, Allowed}
 
 module _ (κs : Lfts (run.ended .signature .lifetimes)) (a : Args (run.ended .signature) κs) (r : Res (run.ended .signature) κs) (w : Lasts run.ended κs a) where

@@ -5,11 +5,11 @@ use mathlib.Core.List.{List}
 use Prim.Native.Nat.{ℕ}
 use lib.Dec.{eqb}
 use Rattle.numbers.specs.Choice.{either}
-use Rattle.events.specs.declared.Form.{Form}
-use Rattle.events.specs.Record.{transactionIn, masterOf}
+use Rattle.record.specs.declared.Form.{Form}
+use Rattle.record.specs.Record.{transactionIn, masterOf}
 use Rattle.runs.specs.Record.{Rec, whole}
-use Rattle.slots.specs.declared.Tray.{Tray}
-use Rattle.slots.specs.Tray.{packOf, slotIn, Reach, one, trayReach, trayDid}
+use Rattle.tray_record.specs.declared.Tray.{Tray}
+use Rattle.tray_record.specs.Tray.{packOf, slotIn, Reach, one, trayReach, trayDid}
 use Rattle.demands.specs.Longer.{formKind}
 
 -- "Readings, conversions, kind 6 samples and power-ons come as kinds 18, 19, 22 and 21"

@@ -26,14 +26,14 @@ use Rattle.meter.specs.Convert.{convertOf}
 use Rattle.meter.specs.Read.{readOf}
 use Rattle.meter.specs.Corrections.{chargeIn, correctsFull, correctsEmpty, emptiedIn}
 use Rattle.meter.specs.Signed.{currentZ, blankedZ}
-use Rattle.stores.specs.Stores.{reachesOf, byteFor}
+use Rattle.block1.specs.Block1.{reachesOf, byteFor}
 use Rattle.bus.specs.declared.Command.{Command}
 use Rattle.bus.specs.declared.Command.the-variants.{Read, Write, Copy, Recall, Lock, Nothing}
 use Rattle.bus.specs.declared.Transaction.{Transaction}
 use Rattle.replies.specs.Reply.{selectedOf}
 use Rattle.gauge.specs.declared.Gauge.{Gauge}
 use Rattle.gauge.specs.Act.{actOf}
-use Rattle.events.specs.declared.Change.the-variants.{Reading, Conversion, Sample, PowerOn}
+use Rattle.record.specs.declared.Change.the-variants.{Reading, Conversion, Sample, PowerOn}
 use Rattle.runs.specs.Record.{Rec}
 use Rattle.runs.specs.Run.{Did}
 use Rattle.demands.specs.Call.{Call, Within, Stopped}

@@ -5,7 +5,7 @@ use mathlib.Core.Path.{_≡_}
 use mathlib.Core.List.{List, [], _∷_, _++_, map, zip}
 use Prim.Native.Nat.{ℕ, zero, suc, _+_, _/_, _≤_}
 use lib.ListN.{length, take, drop}
-use Rattle.parts.specs.Parts.{put}
+use Rattle.slices.specs.Slices.{put}
 use Rattle.runs.specs.declared.Outcome.the-variants.{Done}
 use Rattle.runs.specs.Record.{Rec, sizeOf, recsOf}
 use Rattle.runs.specs.Run.{Did, Line, linesAfter, repliesOf, codesOf, Result, Runs}

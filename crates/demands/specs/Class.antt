@@ -11,16 +11,16 @@ use Rattle.bus.specs.declared.Command.{Command}
 use Rattle.bus.specs.declared.Command.the-variants.{Read, Write, Copy, Recall, Lock, Nothing}
 use Rattle.bus.specs.declared.Transaction.{Transaction}
 use Rattle.replies.specs.Reply.{selectedOf}
-use Rattle.events.specs.declared.Event.{Event}
-use Rattle.events.specs.declared.Change.{Change}
-use Rattle.events.specs.declared.Change.the-variants as change
-use Rattle.events.specs.declared.Event.the-variants as event
-use Rattle.events.specs.declared.Taken.{Taken}
-use Rattle.events.specs.declared.Taken.the-variants.{Run, Refused}
+use Rattle.record.specs.declared.Event.{Event}
+use Rattle.record.specs.declared.Change.{Change}
+use Rattle.record.specs.declared.Change.the-variants as change
+use Rattle.record.specs.declared.Event.the-variants as event
+use Rattle.record.specs.declared.Taken.{Taken}
+use Rattle.record.specs.declared.Taken.the-variants.{Run, Refused}
 use Rattle.runs.specs.Record.{Rec, whole, cut}
-use Rattle.events.specs.Record.{refusalNumber, masterOf, takenOf}
+use Rattle.record.specs.Record.{refusalNumber, masterOf, takenOf}
 use Rattle.state.specs.State.{noTick}
-use Rattle.slots.specs.Tray.{trayAskedAt}
+use Rattle.tray_record.specs.Tray.{trayAskedAt}
 use Rattle.demands.specs.Sections.{Class, labelling, gauging, fence}
 
 -- ---- what a transaction touches

@@ -14,20 +14,20 @@ use Rattle.state.specs.declared.Profile.{Profile}
 use Rattle.profile.specs.Profile.{imageSizeOf}
 use Rattle.pack.specs.Image.{sizeFor}
 use Rattle.demands.specs.Images.{imageKind, profileOf}
-use Rattle.parts.specs.Parts.{put}
+use Rattle.slices.specs.Slices.{put}
 use Rattle.params.specs.declared.Breaks.{Breaks}
 use Rattle.params.specs.Params.{breaksOf}
 use Rattle.gauge.specs.declared.Gauge.{Gauge}
 use Rattle.gauge.specs.Gauge.{powerOnOf}
-use Rattle.events.specs.Record.{orderedOf}
+use Rattle.record.specs.Record.{orderedOf}
 use Rattle.runs.specs.Record.{Rec, whole, recsOf, recordOf}
 use Rattle.runs.specs.Run.{Did, Line, lineOf, endAfter, codesOf}
 use Rattle.steps.specs.declared.Session.{Session}
 use Rattle.steps.specs.Step.{didOf, loadedWith}
-use Rattle.records.specs.Run.{emptyOf, TakenOut}
-use Rattle.slots.specs.declared.Tray.{Tray}
-use Rattle.slots.specs.Tray.{emptyTray, packOf, trayDid}
-use Rattle.trays.specs.Run.{SlotOut}
+use Rattle.session_run.specs.SessionRun.{emptyOf, TakenOut}
+use Rattle.tray_record.specs.declared.Tray.{Tray}
+use Rattle.tray_record.specs.Tray.{emptyTray, packOf, trayDid}
+use Rattle.tray_run.specs.TrayRun.{SlotOut}
 use Rattle.demands.specs.Call.{Call, Within, gotOf, linesIn, Told, Stopped, Taking}
 
 -- ---- "after each event", of every run

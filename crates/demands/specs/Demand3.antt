@@ -11,20 +11,20 @@ use Prim.Native.Nat.{ℕ, _+_, _≤_}
 use lib.ListN.{length}
 use Rattle.state.specs.declared.Profile.{Profile}
 use Rattle.demands.specs.Images.{imageKind}
-use Rattle.events.specs.declared.Event.the-variants.{Image}
-use Rattle.events.specs.declared.Taken.{Taken}
-use Rattle.events.specs.declared.Taken.the-variants.{Run, Refused}
-use Rattle.events.specs.Image.{imageAddress}
-use Rattle.events.specs.Record.{takenOf, asksOf}
+use Rattle.record.specs.declared.Event.the-variants.{Image}
+use Rattle.record.specs.declared.Taken.{Taken}
+use Rattle.record.specs.declared.Taken.the-variants.{Run, Refused}
+use Rattle.record.specs.Image.{imageAddress}
+use Rattle.record.specs.Record.{takenOf, asksOf}
 use Rattle.runs.specs.Record.{Rec, whole, cut, recsOf}
 use Rattle.runs.specs.Run.{Did}
 use Rattle.replies.specs.Reply.{selectedOf}
 use Rattle.pack.specs.Image.{imageOf}
 use Rattle.steps.specs.declared.Session.{Session}
 use Rattle.steps.specs.Step.{didOf}
-use Rattle.records.specs.Run.{emptyOf}
-use Rattle.slots.specs.declared.Tray.{Tray}
-use Rattle.slots.specs.Tray.{emptyTray, packJoined, trayTold, trayDid}
+use Rattle.session_run.specs.SessionRun.{emptyOf}
+use Rattle.tray_record.specs.declared.Tray.{Tray}
+use Rattle.tray_record.specs.Tray.{emptyTray, packJoined, trayTold, trayDid}
 use Rattle.demands.specs.Call.{Call, Within, gotOf, Told}
 use Rattle.demands.specs.Sections.{Sections}
 use Rattle.demands.specs.Class.{Selects, classBy, sessionAsked, trayAsked, someSelected}

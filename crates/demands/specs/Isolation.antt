@@ -9,12 +9,12 @@ use lib.ListN.{length}
 use Rattle.state.specs.declared.Profile.{Profile}
 use Rattle.demands.specs.Images.{imageKind, isImage}
 use Rattle.numbers.specs.Choice.{pick, both}
-use Rattle.events.specs.declared.Form.{Form}
-use Rattle.events.specs.Image.{imageAddress}
+use Rattle.record.specs.declared.Form.{Form}
+use Rattle.record.specs.Image.{imageAddress}
 use Rattle.runs.specs.Record.{Rec, whole, kindIn}
 use Rattle.runs.specs.Run.{Line}
-use Rattle.slots.specs.declared.Tray.{Tray}
-use Rattle.slots.specs.Tray.{emptyTray, packOf, slotIn, one, trayDid}
+use Rattle.tray_record.specs.declared.Tray.{Tray}
+use Rattle.tray_record.specs.Tray.{emptyTray, packOf, slotIn, one, trayDid}
 use Rattle.demands.specs.Call.{Call, Within, gotOf, Stopped, Taking}
 use Rattle.demands.specs.Longer.{formKind}
 use Rattle.demands.specs.Alone.{slotEvent, reachIn}

@@ -8,17 +8,17 @@ use Rattle.numbers.specs.Choice.{pick, both}
 use Rattle.bus.specs.Ask.{askedOf}
 use Rattle.replies.specs.Reply.{readByte, listed}
 use Rattle.gauge.specs.declared.Gauge.{Gauge}
-use Rattle.events.specs.declared.Form.{Form}
-use Rattle.events.specs.declared.Form.the-variants.{Short, Long}
-use Rattle.events.specs.declared.Kind.the-variants.{Transaction}
-use Rattle.events.specs.declared.Event.the-variants.{Transact}
-use Rattle.events.specs.declared.Refusal.the-variants.{Count}
-use Rattle.events.specs.declared.Taken.the-variants.{Run, Refused}
-use Rattle.events.specs.Record.{limitOf, sizedOf, transactionOf}
+use Rattle.record.specs.declared.Form.{Form}
+use Rattle.record.specs.declared.Form.the-variants.{Short, Long}
+use Rattle.record.specs.declared.Kind.the-variants.{Transaction}
+use Rattle.record.specs.declared.Event.the-variants.{Transact}
+use Rattle.record.specs.declared.Refusal.the-variants.{Count}
+use Rattle.record.specs.declared.Taken.the-variants.{Run, Refused}
+use Rattle.record.specs.Record.{limitOf, sizedOf, transactionOf}
 use Rattle.runs.specs.Record.{Rec, whole}
 use Rattle.runs.specs.Run.{Did, Line, linesAfter, endAfter, repliesOf}
 use Rattle.steps.specs.Step.{loadedWith, didOf}
-use Rattle.slots.specs.Tray.{trayDid}
+use Rattle.tray_record.specs.Tray.{trayDid}
 use Rattle.demands.specs.Class.{classOf, trayClass}
 
 -- ---- a transaction in a form

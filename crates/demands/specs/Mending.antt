@@ -9,7 +9,7 @@ use mathlib.Core.List.{List, [], _∷_, _++_}
 use Prim.Native.Nat.{ℕ}
 use lib.ListN.{length, take}
 use Rattle.state.specs.declared.Profile.the-variants.{Ds2781}
-use Rattle.events.specs.Image.{imageSize}
+use Rattle.record.specs.Image.{imageSize}
 use Rattle.pack.specs.Image.{imageOf}
 use Rattle.mending.specs.declared.Mended.the-variants.{Done}
 use Rattle.mending.specs.Mending.{Mending}
@@ -17,7 +17,7 @@ use Rattle.runs.specs.Record.{recsOf, recordOf}
 use Rattle.runs.specs.Run.{linesAfter}
 use Rattle.steps.specs.declared.Session.{Session}
 use Rattle.steps.specs.Step.{didOf, loadedWith}
-use Rattle.records.specs.Run.{emptyOf}
+use Rattle.session_run.specs.SessionRun.{emptyOf}
 use Rattle.demands.specs.Call.{Call, Within, linesIn, Told}
 
 -- what `mend` leaves at the front of the room is the first record of the session of c, and any bytes come after it

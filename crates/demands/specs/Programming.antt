@@ -12,16 +12,16 @@ use lib.ListN.{length, take}
 use Rattle.state.specs.declared.Profile.the-variants.{Ds2781}
 use Rattle.gauge.specs.declared.Gauge.{Gauge}
 use Rattle.gauge.specs.Gauge.{withMeter}
-use Rattle.stores.specs.Stores.{reblockedOf}
+use Rattle.block1.specs.Block1.{reblockedOf}
 use Rattle.pack.specs.Image.{imageOf}
-use Rattle.events.specs.Image.{imageAddress, imageLabel, imageAcr, imageAging, imageBl0, imageBl1}
-use Rattle.programming.specs.declared.Written.{Written}
-use Rattle.programming.specs.declared.Written.the-variants.{Done}
-use Rattle.programming.specs.Programming.{programmingSize, writtenNumber, Granted, Programming}
+use Rattle.record.specs.Image.{imageAddress, imageLabel, imageAcr, imageAging, imageBl0, imageBl1}
+use Rattle.preset_session.specs.declared.Written.{Written}
+use Rattle.preset_session.specs.declared.Written.the-variants.{Done}
+use Rattle.preset_session.specs.PresetSession.{programmingSize, writtenNumber, Granted, Programming}
 use Rattle.runs.specs.Run.{Line}
 use Rattle.steps.specs.declared.Session.{Session}
 use Rattle.steps.specs.Step.{didOf, loadedWith}
-use Rattle.records.specs.Run.{emptyOf}
+use Rattle.session_run.specs.SessionRun.{emptyOf}
 use Rattle.demands.specs.Call.{Call, Allowed, linesIn, Told}
 
 -- what `write` says of an image, wanted bytes and a room, and what the room then holds. Its first 120 bytes are the session of c, with answers lent

@@ -17,7 +17,7 @@ use Rattle.bus.specs.declared.Transaction.{Transaction}
 use Rattle.replies.specs.Reply.{selectedOf}
 use Rattle.gauge.specs.declared.Gauge.{Gauge}
 use Rattle.pack.specs.Image.{imageOf}
-use Rattle.events.specs.Image.{imageLabel, imageBlock}
+use Rattle.record.specs.Image.{imageLabel, imageBlock}
 use Rattle.runs.specs.Record.{Rec}
 use Rattle.runs.specs.Run.{Did}
 use Rattle.demands.specs.Call.{Call, Within, Stopped}

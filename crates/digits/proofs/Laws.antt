@@ -12,8 +12,8 @@ use lib.ListN.{length, getD, take, drop, length-append, length-drop, take-append
 use lib.Seq.{take-suc, take-all, length-take-le}
 use Rattle.numbers.specs.Choice.{pick}
 use Rattle.numbers.proofs.Bounds.{picked}
-use Rattle.parts.specs.Parts.{put, part}
-use Rattle.parts.proofs.Laws.{put-length, put-next, part-rest}
+use Rattle.slices.specs.Slices.{put, part}
+use Rattle.slices.proofs.Laws.{put-length, put-next, part-rest}
 use Rattle.digits.specs.declared.Twos.{Twos}
 use Rattle.digits.specs.Digits.{lower, pairText, hexText, digitOf, packedPair, packedOf, shownText, placeText, decimalText, Writing}
 

@@ -19,7 +19,7 @@ pub fn put_bytes(bytes: &[u8], out: &mut [u8], at: usize) -> usize
     requires { ⌜ at + length (now bytes) ≤ length (now out) ⌝ }
     ensures { λ r. ⌜ Writing (length (now (bytes .entry))) (now (bytes .entry)) (now (out .entry)) at r (now (out .exit)) ⌝ }
 {
-    parts::store(bytes, out, at);
+    slices::store(bytes, out, at);
     at + bytes.len()
 }
 

@@ -11,8 +11,8 @@ use lib.ListN.{length, drop, length-drop}
 use Rattle.numbers.specs.Choice.{both}
 use Rattle.numbers.specs.Offset.{offset32Of}
 use Rattle.numbers.proofs.Bounds.{both-true}
-use Rattle.parts.specs.Parts.{part, pairAt, quadAt}
-use Rattle.parts.proofs.Laws.{part-rest}
+use Rattle.slices.specs.Slices.{part, pairAt, quadAt}
+use Rattle.slices.proofs.Laws.{part-rest}
 use Rattle.digits.specs.Digits.{Writing}
 use Rattle.streams.specs.declared.Stream.the-variants.{Output}
 use Rattle.streams.specs.Streams.{error, refusedText, Saying}
@@ -26,8 +26,8 @@ use Rattle.runs.specs.Run.{endAfter, Runs}
 use Rattle.runs.proofs.Ends.{within-done}
 use Rattle.steps.specs.declared.Session.{Session}
 use Rattle.steps.specs.Step.{didOf}
-use Rattle.records.specs.declared.Ran.{Ran}
-use Rattle.records.specs.Run.{emptyOf, resultOf}
+use Rattle.session_run.specs.declared.Ran.{Ran}
+use Rattle.session_run.specs.SessionRun.{emptyOf, resultOf}
 use Rattle.engines.specs.Engines.{sizeWords, chargeSound, averageSound, soundOf, linesText, gaugeAfter, comparedSpeech}
 
 -- ---- a sound meter is well-formed

@@ -6,7 +6,7 @@ use lib.Dec.{leb, ltb}
 use lib.ListN.{length, drop}
 use Rattle.numbers.specs.Choice.{pick, both}
 use Rattle.numbers.specs.Offset.{zeroAt, offset32Of}
-use Rattle.parts.specs.Parts.{pairAt, quadAt}
+use Rattle.slices.specs.Slices.{pairAt, quadAt}
 use Rattle.digits.specs.Digits.{lower, hexText}
 use Rattle.streams.specs.Streams.{Speech, output, error, unreadText, refusedText}
 use Rattle.state.specs.declared.Charge.{Charge}
@@ -15,12 +15,12 @@ use Rattle.state.specs.State.{runOf}
 use Rattle.state.specs.declared.Meter.{Meter}
 use Rattle.samples.specs.Samples.{sampledOf}
 use Rattle.state.specs.declared.Common.{Common}
-use Rattle.map.specs.Registers.{registersOf}
+use Rattle.registers.specs.Registers.{registersOf}
 use Rattle.gauge.specs.declared.Gauge.{Gauge}
 use Rattle.runs.specs.Record.{recsOf}
 use Rattle.runs.specs.Run.{endAfter}
 use Rattle.steps.specs.Step.{didOf}
-use Rattle.records.specs.Run.{emptyOf}
+use Rattle.session_run.specs.SessionRun.{emptyOf}
 
 -- engines
 abbrev pub enginesName : List ℕ

@@ -49,7 +49,7 @@ fn put_registers(k: Common, m: Meter, out: &mut [u8], at: usize) -> usize
     ensures { λ r. ⌜ Writing 64 (registersText k m) (now (out .entry)) at r (now (out .exit)) ⌝ }
 {
     let table = digits::lower_pairs();
-    let bytes = map::registers(k, m);
+    let bytes = registers::registers(k, m);
     digits::put_hex(&table, &bytes, out, at)
 }
 
@@ -82,11 +82,11 @@ fn put_compared(s: &[u8], room: &mut [u8]) -> Said
     ensures { λ r. ⌜ Saying (comparedSpeech (now (s .entry))) (now (room .entry)) r (now (room .exit)) ⌝ }
 {
     if numbers::and(6 <= s.len(), s.len() <= 32774) {
-        let raw = numbers::offset32(parts::quad(s, 0));
-        let n = parts::pair(s, 4);
+        let raw = numbers::offset32(slices::quad(s, 0));
+        let n = slices::pair(s, 4);
         let mut replies = [0u8; 65536];
         let mut answers = [0u64; 8192];
-        let ran = records::run(&s[6..], &mut replies, &mut answers);
+        let ran = session_run::run(&s[6..], &mut replies, &mut answers);
         let count = put_lines(ran.session.gauge, raw, n, room);
         let stream = Stream::Output;
         return Said {

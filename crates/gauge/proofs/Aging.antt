@@ -21,9 +21,9 @@ use Rattle.meter.specs.Read.{readOf, drainedOf, shownOf}
 use Rattle.reading.specs.Reading.{emptiedOf}
 use Rattle.samples.specs.Samples.{sampledOf, sampleOf}
 use Rattle.samples.proofs.Laws.{neither}
-use Rattle.stores.specs.Stores.{reachesOf, byteFor, acrWrittenOf, meterWrittenOf, meterCopiedOf, meterRecalledOf, meterLockedOf}
-use Rattle.events.specs.declared.Change.{Change}
-use Rattle.events.specs.declared.Change.the-variants.{Reading, Conversion, Sample, PowerOn}
+use Rattle.block1.specs.Block1.{reachesOf, byteFor, acrWrittenOf, meterWrittenOf, meterCopiedOf, meterRecalledOf, meterLockedOf}
+use Rattle.record.specs.declared.Change.{Change}
+use Rattle.record.specs.declared.Change.the-variants.{Reading, Conversion, Sample, PowerOn}
 use Rattle.gauge.specs.declared.Gauge.{Gauge}
 use Rattle.gauge.specs.Gauge.{conversionOf, samplingOf, readingOf, powerOnOf, writtenOf, copiedOf, recalledOf, lockedOf}
 use Rattle.gauge.specs.Change.{changedOf}

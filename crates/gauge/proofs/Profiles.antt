@@ -30,9 +30,9 @@ use Rattle.samples.specs.Samples.{sampledOf, tickedOf, sampleOf}
 use Rattle.samples.proofs.Laws.{neither}
 use Rattle.state.specs.declared.Common.{Common}
 use Rattle.state.specs.declared.Label.{Label}
-use Rattle.map.specs.Registers.{registersOf, meterByte}
-use Rattle.stores.specs.Stores.{meterWrittenOf, meterCopiedOf, meterRecalledOf, meterLockedOf}
-use Rattle.stores.proofs.Kept.{cycles-uncounted}
+use Rattle.registers.specs.Registers.{registersOf, meterByte}
+use Rattle.block1.specs.Block1.{meterWrittenOf, meterCopiedOf, meterRecalledOf, meterLockedOf}
+use Rattle.block1.proofs.Kept.{cycles-uncounted}
 use Rattle.bus.specs.declared.Command.{Command}
 use Rattle.bus.specs.declared.Command.the-variants.{Read, Write, Copy, Recall, Lock, Nothing}
 use Rattle.bus.specs.declared.Transaction.{Transaction}
@@ -40,8 +40,8 @@ use Rattle.replies.specs.declared.Source.{Source}
 use Rattle.replies.specs.declared.Source.the-variants.{Address, Bytes, Idle}
 use Rattle.replies.specs.Reply.{selectedOf, readByte, sourceByte, listed}
 use Rattle.replies.proofs.Listed.{listed-length}
-use Rattle.events.specs.declared.Change.{Change}
-use Rattle.events.specs.declared.Change.the-variants.{Reading, Conversion, Sample, PowerOn}
+use Rattle.record.specs.declared.Change.{Change}
+use Rattle.record.specs.declared.Change.the-variants.{Reading, Conversion, Sample, PowerOn}
 use Rattle.gauge.specs.declared.Gauge.{Gauge}
 use Rattle.gauge.specs.Gauge.{withMeter, conversionOf, samplingOf, readingOf, powerOnOf, writtenOf, copiedOf, recalledOf, lockedOf}
 use Rattle.gauge.specs.Change.{changedOf}

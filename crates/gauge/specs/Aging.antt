@@ -13,8 +13,8 @@ use Rattle.state.specs.State.{asIn}
 use Rattle.meter.specs.Corrections.{chargeIn, correctsFull}
 use Rattle.samples.specs.Samples.{sampledOf}
 use Rattle.bus.specs.declared.Transaction.{Transaction}
-use Rattle.events.specs.declared.Change.{Change}
-use Rattle.events.specs.declared.Change.the-variants.{Reading, Conversion, Sample, PowerOn}
+use Rattle.record.specs.declared.Change.{Change}
+use Rattle.record.specs.declared.Change.the-variants.{Reading, Conversion, Sample, PowerOn}
 use Rattle.gauge.specs.declared.Gauge.{Gauge}
 use Rattle.gauge.specs.Gauge.{powerOnOf}
 use Rattle.gauge.specs.Change.{changedOf}

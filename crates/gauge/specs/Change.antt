@@ -1,6 +1,6 @@
 -- What a change makes of a gauge: a reading, a conversion, a sample or a power-on.
-use Rattle.events.specs.declared.Change.{Change}
-use Rattle.events.specs.declared.Change.the-variants.{Reading, Conversion, Sample, PowerOn}
+use Rattle.record.specs.declared.Change.{Change}
+use Rattle.record.specs.declared.Change.the-variants.{Reading, Conversion, Sample, PowerOn}
 use Rattle.gauge.specs.declared.Gauge.{Gauge}
 use Rattle.gauge.specs.Gauge.{conversionOf, samplingOf, readingOf, powerOnOf}
 

@@ -12,7 +12,7 @@ use Rattle.meter.specs.Read.{readOf}
 use Rattle.samples.specs.Samples.{sampleOf}
 use Rattle.state.specs.declared.Label.{Label}
 use Rattle.label.specs.Label.{labelWrittenOf, labelCopiedOf, labelPoweredOf, labelRecalledOf, commonLockedOf}
-use Rattle.stores.specs.Stores.{BlockSized, meterWrittenOf, meterCopiedOf, meterRecalledOf, meterLockedOf}
+use Rattle.block1.specs.Block1.{BlockSized, meterWrittenOf, meterCopiedOf, meterRecalledOf, meterLockedOf}
 use Rattle.gauge.specs.declared.Gauge.{Gauge}
 
 -- what holds of every gauge: its meter is well-formed

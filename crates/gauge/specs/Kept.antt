@@ -2,7 +2,7 @@
 use mathlib.Core.List.{List}
 use Prim.Native.Nat.{ℕ}
 use Rattle.bus.specs.declared.Transaction.{Transaction}
-use Rattle.events.specs.declared.Change.{Change}
+use Rattle.record.specs.declared.Change.{Change}
 use Rattle.gauge.specs.declared.Gauge.{Gauge}
 use Rattle.gauge.specs.Change.{changedOf}
 use Rattle.gauge.specs.Act.{actOf}

@@ -21,8 +21,8 @@ use Rattle.bus.specs.declared.Transaction.{Transaction}
 use Rattle.replies.specs.declared.Source.{Source}
 use Rattle.replies.specs.declared.Source.the-variants.{Address, Bytes, Idle}
 use Rattle.replies.specs.Reply.{selectedOf, replySourceOf}
-use Rattle.events.specs.declared.Change.{Change}
-use Rattle.events.specs.declared.Change.the-variants.{Reading, Conversion, Sample, PowerOn}
+use Rattle.record.specs.declared.Change.{Change}
+use Rattle.record.specs.declared.Change.the-variants.{Reading, Conversion, Sample, PowerOn}
 use Rattle.gauge.specs.declared.Gauge.{Gauge}
 use Rattle.gauge.specs.Gauge.{withMeter}
 use Rattle.gauge.specs.Change.{changedOf}

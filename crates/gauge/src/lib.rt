@@ -91,7 +91,7 @@ impl Gauge {
         ensures kept { λ r. ⌜ GaugeWF r ⌝ }
     {
         let label = label::written(self.label, self.common.bl0, a, bytes);
-        let meter = stores::meter_written(self.meter, a, bytes);
+        let meter = block1::meter_written(self.meter, a, bytes);
         self.label = label;
         self.meter = meter;
         self
@@ -104,7 +104,7 @@ impl Gauge {
         ensures kept { λ r. ⌜ GaugeWF r ⌝ }
     {
         let label = label::copied(self.label, self.common.bl0, a);
-        let meter = stores::meter_copied(self.meter, a);
+        let meter = block1::meter_copied(self.meter, a);
         self.label = label;
         self.meter = meter;
         self
@@ -117,7 +117,7 @@ impl Gauge {
         ensures kept { λ r. ⌜ GaugeWF r ⌝ }
     {
         let label = label::recalled(self.label, a);
-        let meter = stores::meter_recalled(self.meter, a);
+        let meter = block1::meter_recalled(self.meter, a);
         self.label = label;
         self.meter = meter;
         self
@@ -130,7 +130,7 @@ impl Gauge {
         ensures kept { λ r. ⌜ GaugeWF r ⌝ }
     {
         let common = label::locked(self.common, self.meter.cells.locks.lock, a);
-        let used = stores::meter_locked(self.meter, a);
+        let used = block1::meter_locked(self.meter, a);
         self.common = common;
         self.meter = used;
         self
@@ -142,12 +142,12 @@ impl Gauge {
         ensures { λ r. ⌜ r ≡ ranOf self t (now (master .entry)) ⌝ }
         ensures kept { λ r. ⌜ GaugeWF r ⌝ }
     {
-        let a = parts::wide(t.address);
+        let a = slices::wide(t.address);
         let command = t.command;
         match command {
             Command::Read => self,
             Command::Write => {
-                let from = parts::lower(parts::wide(t.from), master.len());
+                let from = slices::lower(slices::wide(t.from), master.len());
                 self.written(a, &master[from..])
             }
             Command::Copy => self.copied(a),

@@ -5,7 +5,7 @@ use Prim.Native.Nat.{ℕ, _≤_, _<_}
 use native.Mathlib.Omega.{arith}
 use borrow.Author.Tests.{lt-ltb, le-ltb}
 use lib.ListN.{length, drop, length-append}
-use Rattle.parts.proofs.Laws.{put-front}
+use Rattle.slices.proofs.Laws.{put-front}
 use Rattle.streams.specs.declared.Said.{Said}
 use Rattle.streams.specs.declared.Stream.the-variants.{Output}
 use Rattle.streams.specs.Streams.{Saying, error, refusedText}

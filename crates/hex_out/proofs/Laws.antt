@@ -7,13 +7,13 @@ use native.Mathlib.Omega.{arith}
 use borrow.Author.Tests.{ne-eqb}
 use lib.ListN.{length, take, drop}
 use Rattle.numbers.specs.Choice.{both}
-use Rattle.parts.proofs.Laws.{put-front}
+use Rattle.slices.proofs.Laws.{put-front}
 use Rattle.streams.specs.declared.Said.{Said}
 use Rattle.streams.specs.declared.Stream.the-variants.{Output}
 use Rattle.streams.specs.Streams.{Front, Within, Saying, error, refusedText}
 use Rattle.streams.proofs.Laws.{cut, seen}
-use Rattle.events.specs.Image.{imageSize, imageBlock}
-use Rattle.events.specs.Record.{judgedAmong}
+use Rattle.record.specs.Image.{imageSize, imageBlock}
+use Rattle.record.specs.Record.{judgedAmong}
 use Rattle.transfer.specs.declared.Why.{Why}
 use Rattle.transfer.specs.declared.Why.the-variants.{Image}
 use Rattle.transfer.specs.declared.Answer.{Answer}

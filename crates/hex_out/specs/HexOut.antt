@@ -4,7 +4,7 @@ use mathlib.Core.List.{List, [], _∷_}
 use Prim.Native.Nat.{ℕ}
 use Rattle.numbers.specs.Choice.{pick}
 use Rattle.streams.specs.Streams.{Speech, output, error, refusedText}
-use Rattle.events.specs.Image.{imageBlock}
+use Rattle.record.specs.Image.{imageBlock}
 use Rattle.transfer.specs.declared.Why.{Why}
 use Rattle.transfer.specs.declared.Why.the-variants.{Line, Whole, Image, Room}
 use Rattle.transfer.specs.declared.Answer.{Answer}

@@ -11,8 +11,8 @@ use lib.ListN.{length, getD, take, drop, set, replicate, length-take, length-dro
 use lib.Seq.{drop-cons, getD-take, getD-drop, take-at, set-at}
 use Rattle.numbers.specs.Choice.{both}
 use Rattle.numbers.proofs.Bounds.{both-true}
-use Rattle.parts.specs.Parts.{part, put}
-use Rattle.parts.proofs.Laws.{put-next, put-front, part-length}
+use Rattle.slices.specs.Slices.{part, put}
+use Rattle.slices.proofs.Laws.{put-next, put-front, part-length}
 use Rattle.digits.specs.Digits.{upper, pairValue, hexBytes, hexDigits}
 use Rattle.digits.proofs.Read.{bytes-length, byte-there}
 use Rattle.ihex.specs.Line.{colon, lineFeed, sumOf, checksumOf, contentOf, dataRecord, digitsIn, bytesIn, countIn, dataIn, formedOf}

@@ -7,12 +7,11 @@ use Prim.Native.Nat.{ℕ, zero, suc, _+_, _-_, _*_, _/_, _%_, _<_}
 use native.Mathlib.Omega.{arith}
 use borrow.Author.Tests.{eqb-true, eq-eqb}
 use lib.Dec.{eqb}
-use lib.ListN.{length, getD, take, drop, length-append}
+use lib.ListN.{length, getD, take, drop, length-append, take-append-drop, drop-of-length-le}
 use lib.Seq.{take-at, getD-at, drop-cons, length-take-le}
-use lib.ListN.{take-append-drop, drop-of-length-le}
 use Rattle.numbers.specs.Choice.{both}
 use Rattle.numbers.proofs.Bounds.{both-true}
-use Rattle.parts.specs.Parts.{part}
+use Rattle.slices.specs.Slices.{part}
 use Rattle.digits.specs.Digits.{hexOf, upper, hexText, hexDigit, hexValue, hexBytes, hexDigits}
 use Rattle.digits.proofs.Read.{either-true, Bytes, hex-length, bytes-back, digits-written, digits-back, bytes-small}
 use Rattle.ihex.specs.declared.Line.the-variants.{Good}

@@ -7,7 +7,7 @@ use lib.Dec.{eqb}
 use lib.ListN.{length, getD}
 use Rattle.numbers.specs.Choice.{pick, both, either}
 use Rattle.numbers.specs.Offset.{joinedOf}
-use Rattle.parts.specs.Parts.{part}
+use Rattle.slices.specs.Slices.{part}
 use Rattle.digits.specs.Digits.{upper, hexText, hexBytes, hexDigits}
 use Rattle.ihex.specs.declared.Fault.{Fault}
 use Rattle.ihex.specs.declared.Fault.the-variants.{Form, Checksum, Record}

@@ -2,7 +2,7 @@
 ghost use mathlib.Core.Path.{_≡_};
 ghost use Prim.Native.Nat.{_+_, _*_, _%_, _≤_, _<_};
 ghost use lib.ListN.{length, getD};
-ghost use Rattle.parts.specs.Parts.{put};
+ghost use Rattle.slices.specs.Slices.{put};
 ghost use Rattle.digits.specs.Digits.{upper, hexBytes, Writing};
 ghost use Rattle.ihex.specs.Line.{lineText, sumOf, checksumOf, dataRecord, bytesIn, addressIn, dataIn, formedOf, summedOf, placedOf, headedOf, expectedOf, lineOf, faultNumber};
 
@@ -55,8 +55,8 @@ pub fn data_record(address: u8, carried: &[u8]) -> [u8; 21]
     ensures { λ r. ⌜ r ≡ dataRecord address (now (carried .entry)) ⌝ }
 {
     let mut bytes = [0u8; 21];
-    parts::store4([16, 0, address, 0], &mut bytes, 0);
-    parts::store(carried, &mut bytes, 4);
+    slices::store4([16, 0, address, 0], &mut bytes, 0);
+    slices::store(carried, &mut bytes, 4);
     let sum = checksum(&bytes[..20]);
     bytes[20] = sum;
     bytes
@@ -99,7 +99,7 @@ fn formed(l: &[u8]) -> bool
     if n < 12 {
         return false;
     }
-    let count = parts::wide(byte_in(l, 0));
+    let count = slices::wide(byte_in(l, 0));
     let ends = numbers::and(l[0] == b':', l[n - 1] == b'\n');
     let digits = digits::upper_digits(&l[1..n - 1]);
     numbers::and(ends, numbers::and(digits, n - 2 == 2 * (count + 5)))

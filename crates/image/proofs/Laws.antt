@@ -7,7 +7,7 @@ use native.Mathlib.Omega.{arith}
 use borrow.Author.Tests.{le-leb, lt-ltb}
 use lib.Dec.{leb}
 use lib.ListN.{length, drop, length-append, length-drop}
-use Rattle.parts.proofs.Laws.{put-front}
+use Rattle.slices.proofs.Laws.{put-front}
 use Rattle.streams.specs.declared.Said.{Said}
 use Rattle.streams.specs.declared.Stream.the-variants.{Output}
 use Rattle.streams.specs.Streams.{Saying, error, refusedText}
@@ -18,8 +18,8 @@ use Rattle.runs.specs.declared.Outcome.{Outcome}
 use Rattle.runs.specs.declared.Outcome.the-variants.{Done, Over}
 use Rattle.runs.specs.Run.{outcomeNumber}
 use Rattle.steps.specs.Step.{didOf}
-use Rattle.records.specs.declared.Ran.{Ran}
-use Rattle.records.specs.Run.{emptyOf, resultOf, TakenOut}
+use Rattle.session_run.specs.declared.Ran.{Ran}
+use Rattle.session_run.specs.SessionRun.{emptyOf, resultOf, TakenOut}
 use Rattle.text.specs.Text.{overWords}
 use Rattle.text.proofs.Printed.{outcome-told}
 use Rattle.text.proofs.Ended.{Ended}

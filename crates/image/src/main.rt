@@ -17,9 +17,9 @@ fn put_image(session: Session, room: &mut [u8]) -> Said
     requires { ⌜ length (now room) ≡ 61 ⌝ }
     ensures { λ r. ⌜ Saying (imageSpeech Done session) (now (room .entry)) r (now (room .exit)) ⌝ }
 {
-    let answer = records::take_out(session, room);
+    let answer = session_run::take_out(session, room);
     if answer == 0 {
-        let count = records::image_size(session);
+        let count = session_run::image_size(session);
         let stream = Stream::Output;
         return Said {
             stream: stream,
@@ -35,7 +35,7 @@ fn put_taken(s: &[u8], room: &mut [u8]) -> Said
 {
     let mut replies = [0u8; 65536];
     let mut answers = [0u64; 8192];
-    let ran = records::run(s, &mut replies, &mut answers);
+    let ran = session_run::run(s, &mut replies, &mut answers);
     let outcome = ran.outcome;
     let session = ran.session;
     match outcome {

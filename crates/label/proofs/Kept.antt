@@ -6,7 +6,7 @@ use Prim.Native.Nat.{ℕ, _+_, _≤_, min, max}
 use lib.ListN.{length}
 use Rattle.numbers.specs.Choice.{both, either, butNot}
 use Rattle.numbers.proofs.Bounds.{picked}
-use Rattle.parts.proofs.Laws.{laid-none, laid-length}
+use Rattle.slices.proofs.Laws.{laid-none, laid-length}
 use Rattle.state.specs.declared.Common.{Common}
 use Rattle.state.specs.declared.Label.{Label}
 use Rattle.state.specs.State.{LabelSized}

@@ -6,7 +6,7 @@ use mathlib.Core.List.{List}
 use lib.Dec.{ltb, leb}
 use lib.ListN.{getD}
 use Rattle.numbers.specs.Choice.{pick, both, either, butNot}
-use Rattle.parts.specs.Parts.{laidOf}
+use Rattle.slices.specs.Slices.{laidOf}
 use Rattle.state.specs.declared.Common.{Common}
 use Rattle.state.specs.declared.Label.{Label}
 

@@ -26,11 +26,11 @@ pub fn written(mut label: Label, locked: bool, a: usize, bytes: &[u8]) -> Label
 {
     if !locked {
         if numbers::and(a == 0x20, 16 <= bytes.len()) {
-            let whole = parts::sixteen(bytes, 0);
+            let whole = slices::sixteen(bytes, 0);
             label.shadow = whole;
         } else {
             let mut shadow = label.shadow;
-            parts::laid(&mut shadow, 0x20, a, bytes);
+            slices::laid(&mut shadow, 0x20, a, bytes);
             label.shadow = shadow;
         }
     }

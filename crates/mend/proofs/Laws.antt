@@ -10,7 +10,7 @@ use Rattle.streams.specs.declared.Said.{Said}
 use Rattle.streams.specs.declared.Stream.the-variants.{Output}
 use Rattle.streams.specs.Streams.{Front, Within, Saying, error, refusedText}
 use Rattle.streams.proofs.Laws.{cut, seen}
-use Rattle.events.specs.Image.{imageSize}
+use Rattle.record.specs.Image.{imageSize}
 use Rattle.mending.specs.declared.Why.{Why}
 use Rattle.mending.specs.declared.Why.the-variants.{Size}
 use Rattle.mending.specs.declared.Mended.{Mended}

@@ -6,7 +6,7 @@ use Prim.Native.Nat.{ℕ}
 use Rattle.numbers.specs.Choice.{pick}
 use Rattle.streams.specs.declared.Said.{Said}
 use Rattle.streams.specs.Streams.{Speech, output, error, unreadText, refusedText, Saying}
-use Rattle.events.specs.Image.{imageSize}
+use Rattle.record.specs.Image.{imageSize}
 use Rattle.mending.specs.declared.Why.{Why}
 use Rattle.mending.specs.declared.Why.the-variants.{Size, Family}
 use Rattle.mending.specs.declared.Mended.{Mended}

@@ -10,9 +10,9 @@ use lib.ListN.{getD, replicate, List·getD-eq-default}
 use Rattle.crc.specs.Crc as crc
 use Rattle.crc.proofs.Table.{at}
 use Rattle.digits.specs.Digits.{hexOf}
-use Rattle.events.specs.declared.Refusal.the-variants.{Address}
-use Rattle.events.specs.declared.Taken.the-variants.{Refused}
-use Rattle.events.specs.Record.{kindOf, addressedOf, orderedOf, judgedAmong, takenOf}
+use Rattle.record.specs.declared.Refusal.the-variants.{Address}
+use Rattle.record.specs.declared.Taken.the-variants.{Refused}
+use Rattle.record.specs.Record.{kindOf, addressedOf, orderedOf, judgedAmong, takenOf}
 use Rattle.mending.specs.declared.Mended.the-variants.{Done}
 use Rattle.mending.specs.Mending.{arrangedOf, mendedOf, changeText, changesOf, mendingAnswer, Mending}
 use Rattle.mending.specs.Worth.{Mendable, SoundImage}

@@ -12,12 +12,12 @@ use lib.ListN.{length, getD, take, drop, set, length-set}
 use lib.Seq.{take-all}
 use Rattle.numbers.specs.Choice.{pick}
 use Rattle.numbers.specs.Offset.{offset8Of}
-use Rattle.parts.specs.Parts.{put}
-use Rattle.parts.proofs.Laws.{put-whole, put-front}
+use Rattle.slices.specs.Slices.{put}
+use Rattle.slices.proofs.Laws.{put-whole, put-front}
 use Rattle.digits.specs.Digits.{Writing}
 use Rattle.digits.proofs.Laws.{then, wider}
 use Rattle.params.specs.declared.Breaks.{Breaks}
-use Rattle.events.specs.Image.{imageSize}
+use Rattle.record.specs.Image.{imageSize}
 use Rattle.mending.specs.declared.Why.the-variants.{Size, Family}
 use Rattle.mending.specs.declared.Mended.the-variants.{Done, Refused}
 use Rattle.mending.specs.declared.Listed.the-variants.{Lines}

@@ -15,16 +15,16 @@ use Rattle.numbers.specs.Choice.{pick}
 use Rattle.numbers.specs.Offset.{value, offset8Of, movedInto}
 use Rattle.numbers.proofs.Offset.{natural, at-most}
 use Rattle.numbers.proofs.Bounds.{both-true}
-use Rattle.parts.specs.Parts.{part}
+use Rattle.slices.specs.Slices.{part}
 use Rattle.crc.specs.Crc.{crcOf}
 use Rattle.params.specs.declared.Breaks.{Breaks}
 use Rattle.state.specs.declared.Profile.the-variants.{Ds2781}
-use Rattle.events.specs.declared.Event.the-variants.{Image}
-use Rattle.events.specs.declared.Taken.the-variants.{Run, Refused}
-use Rattle.events.specs.declared.Refusal.the-variants as refusal
-use Rattle.events.specs.Image.{imageSize, imageAddress, imageBlock, imageBreaks, imageAging, imageLocks}
-use Rattle.events.specs.Record.{kindOf, addressedOf, lockableOf, orderedOf, judgedAmong, judgedOf, takenOf}
-use Rattle.events.proofs.Fits.{plain-taking}
+use Rattle.record.specs.declared.Event.the-variants.{Image}
+use Rattle.record.specs.declared.Taken.the-variants.{Run, Refused}
+use Rattle.record.specs.declared.Refusal.the-variants as refusal
+use Rattle.record.specs.Image.{imageSize, imageAddress, imageBlock, imageBreaks, imageAging, imageLocks}
+use Rattle.record.specs.Record.{kindOf, addressedOf, lockableOf, orderedOf, judgedAmong, judgedOf, takenOf}
+use Rattle.record.proofs.Fits.{plain-taking}
 use Rattle.mending.specs.Mending.{mendedCrc, mendedAging, mendedLocks, capOf, cappedOf, arrangedOf, mendedBreaks, mendedOf, changeText, changesFrom, changesOf}
 use Rattle.mending.specs.Worth.{SoundImage, KeptBytes, AcceptedTheorem, UnchangedTheorem, TwiceTheorem, ArrangedTheorem, CappedTheorem, KeptTheorem, ByCallTheorem}
 use Rattle.mending.proofs.Laws.{granted, mended-length}

@@ -7,11 +7,11 @@ use lib.Dec.{eqb, ltb}
 use lib.ListN.{length, getD, drop}
 use Rattle.numbers.specs.Choice.{pick}
 use Rattle.numbers.specs.Offset.{zeroAt, offset8Of, movedInto}
-use Rattle.parts.specs.Parts.{part, put}
+use Rattle.slices.specs.Slices.{part, put}
 use Rattle.crc.specs.Crc.{crcOf}
 use Rattle.digits.specs.Digits.{lower, pairText}
 use Rattle.params.specs.declared.Breaks.{Breaks}
-use Rattle.events.specs.Image.{imageSize, addressAt, agingAt, imageBreaks, imageAging, imageLocks}
+use Rattle.record.specs.Image.{imageSize, addressAt, agingAt, imageBreaks, imageAging, imageLocks}
 use Rattle.mending.specs.declared.Why.{Why}
 use Rattle.mending.specs.declared.Why.the-variants.{Size, Family}
 use Rattle.mending.specs.declared.Mended.{Mended}

@@ -17,10 +17,10 @@ use Rattle.numbers.specs.Offset.{value}
 use Rattle.params.specs.declared.Breaks.{Breaks}
 use Rattle.params.specs.Params.{byteAt}
 use Rattle.state.specs.declared.Profile.the-variants.{Ds2781}
-use Rattle.events.specs.declared.Event.the-variants.{Image}
-use Rattle.events.specs.declared.Taken.the-variants.{Run}
-use Rattle.events.specs.Image.{imageSize, addressAt, imageAddress, imageLabel, imageBlock, imageAcr, imageAging, imageBl0, imageBl1}
-use Rattle.events.specs.Record.{takenOf}
+use Rattle.record.specs.declared.Event.the-variants.{Image}
+use Rattle.record.specs.declared.Taken.the-variants.{Run}
+use Rattle.record.specs.Image.{imageSize, addressAt, imageAddress, imageLabel, imageBlock, imageAcr, imageAging, imageBl0, imageBl1}
+use Rattle.record.specs.Record.{takenOf}
 use Rattle.mending.specs.declared.Mended.the-variants.{Done}
 use Rattle.mending.specs.Mending.{capOf, arrangedOf, mendedOf, changesOf, Mending}
 

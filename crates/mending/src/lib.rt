@@ -1,9 +1,9 @@
 // Mending damaged images: the image that a session accepts, and the lines that tell what was changed.
-use events::AGING_AT;
-use events::BLOCK_AT;
-use events::IMAGE_SIZE;
-use events::LOCKS_AT;
 use params::Breaks;
+use record::AGING_AT;
+use record::BLOCK_AT;
+use record::IMAGE_SIZE;
+use record::LOCKS_AT;
 ghost use mathlib.Core.Path.{_≡_};
 ghost use mathlib.Core.List.{_++_};
 ghost use Prim.Native.Nat.{_+_, _≤_, min, max};
@@ -110,7 +110,7 @@ fn mended_breaks(image: &[u8]) -> Breaks
     requires { ⌜ length (now image) ≡ 60 ⌝ }
     ensures { λ r. ⌜ r ≡ mendedBreaks (now (image .entry)) ⌝ }
 {
-    let block = parts::thirty_two(image, BLOCK_AT);
+    let block = slices::thirty_two(image, BLOCK_AT);
     let breaks = Breaks::of(&block);
     arranged(capped(breaks))
 }
@@ -130,7 +130,7 @@ fn mended_image(image: &[u8]) -> [u8; 60]
     ensures { λ r. ⌜ r ≡ mendedOf (now (image .entry)) ⌝ }
 {
     let mut m = [0u8; 60];
-    parts::store(image, &mut m, 0);
+    slices::store(image, &mut m, 0);
     m[CRC_AT] = crc::crc(&image[0..7]);
     let breaks = mended_breaks(image);
     m[BREAKS_AT] = numbers::offset8(breaks.b34);
@@ -148,7 +148,7 @@ fn put_mended(image: &[u8], room: &mut [u8])
     ensures { λ _. ⌜ now (room .exit) ≡ mendedOf (now (image .entry)) ++ drop 60 (now (room .entry)) ⌝ }
 {
     let m = mended_image(image);
-    parts::store(&m, room, 0);
+    slices::store(&m, room, 0);
 }
 
 // Writes the mended image at the front of the room, or nothing.

@@ -9,19 +9,19 @@ use lib.ListN.{length, getD, drop, length-append}
 use lib.Seq.{take-at, drop-at, drop-drop, getD-drop}
 use borrow.Author.Tests.{eq-eqb}
 use Rattle.numbers.specs.Choice.{pick}
-use Rattle.parts.specs.Parts.{part, put, pairAt}
-use Rattle.parts.proofs.Laws.{put-next, put-front}
+use Rattle.slices.specs.Slices.{part, put, pairAt}
+use Rattle.slices.proofs.Laws.{put-next, put-front}
 use Rattle.params.specs.Params.{breaksOf}
 use Rattle.state.specs.declared.Profile.{Profile}
 use Rattle.state.specs.declared.Profile.the-variants.{Ds2781, Ds2775}
 use Rattle.profile.specs.Profile.{imageSizeOf, countsCycles}
 use Rattle.state.specs.State.{poweredOf}
 use Rattle.gauge.specs.declared.Gauge.{Gauge}
-use Rattle.events.specs.declared.Event.the-variants.{Image}
-use Rattle.events.specs.declared.Refusal.the-variants.{Breaks}
-use Rattle.events.specs.declared.Taken.the-variants.{Run, Refused}
-use Rattle.events.specs.Image.{imageAddress, imageLabel, imageBlock, acrAt}
-use Rattle.events.specs.Record.{addressedOf, orderedOf, judgedAmong, judgedBy}
+use Rattle.record.specs.declared.Event.the-variants.{Image}
+use Rattle.record.specs.declared.Refusal.the-variants.{Breaks}
+use Rattle.record.specs.declared.Taken.the-variants.{Run, Refused}
+use Rattle.record.specs.Image.{imageAddress, imageLabel, imageBlock, acrAt}
+use Rattle.record.specs.Record.{addressedOf, orderedOf, judgedAmong, judgedBy}
 use Rattle.gauge.specs.Gauge.{Sized, Uncounted, powerOnOf}
 use Rattle.pack.specs.Image.{imageOf, lockByte, cycleCell, endOf, bytesOf, sizeFor}
 

@@ -6,15 +6,15 @@ use Prim.Native.Nat.{ℕ, _+_, _≤_}
 use native.Mathlib.Omega.{arith}
 use lib.ListN.{length, getD, take, drop, length-drop, List·getD-append}
 use lib.Seq.{take-append-le, drop-append-le}
-use Rattle.parts.specs.Parts.{part}
+use Rattle.slices.specs.Slices.{part}
 use Rattle.numbers.proofs.Bounds.{through}
 use Rattle.state.specs.declared.Profile.{Profile}
 use Rattle.state.specs.declared.Profile.the-variants.{Ds2781, Ds2775}
 use Rattle.profile.specs.Profile.{countsCycles}
 use Rattle.state.specs.declared.Meter.{Meter}
 use Rattle.state.specs.State.{poweredOf}
-use Rattle.events.specs.Image.{imageSize, imageLocks, imageBreaks}
-use Rattle.events.specs.Record.{numberOf, judgedAmong}
+use Rattle.record.specs.Image.{imageSize, imageLocks, imageBreaks}
+use Rattle.record.specs.Record.{numberOf, judgedAmong}
 use Rattle.gauge.specs.Gauge.{NoCycles}
 use Rattle.gauge.specs.Profiles.{baseMeter, baseOf}
 use Rattle.pack.specs.Image.{imageOf, bytesOf}

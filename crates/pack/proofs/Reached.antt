@@ -9,8 +9,8 @@ use lib.Dec.{eqb}
 use lib.ListN.{length}
 use borrow.Author.Tests.{eqb-true}
 use Rattle.numbers.specs.Choice.{pick}
-use Rattle.parts.specs.Parts.{part}
-use Rattle.parts.proofs.Laws.{part-length}
+use Rattle.slices.specs.Slices.{part}
+use Rattle.slices.proofs.Laws.{part-length}
 use Rattle.params.specs.Params.{breaksOf}
 use Rattle.state.specs.declared.Profile.{Profile}
 use Rattle.profile.specs.Profile.{imageSizeOf}
@@ -20,14 +20,14 @@ use Rattle.gauge.specs.declared.Gauge.{Gauge}
 use Rattle.gauge.specs.Gauge.{Sized, Uncounted, powerOnOf}
 use Rattle.gauge.specs.Kept.{Kept}
 use Rattle.gauge.proofs.Kept.{address-kept, sized-kept, uncounted-kept}
-use Rattle.events.specs.declared.Refusal.{Refusal}
-use Rattle.events.specs.declared.Refusal.the-variants.{Breaks}
-use Rattle.events.specs.declared.Event.{Event}
-use Rattle.events.specs.declared.Event.the-variants.{Image}
-use Rattle.events.specs.declared.Taken.{Taken}
-use Rattle.events.specs.declared.Taken.the-variants.{Run, Refused}
-use Rattle.events.specs.Image.{imageAddress}
-use Rattle.events.specs.Record.{addressedOf, orderedOf, judgedAmong, judgedBy}
+use Rattle.record.specs.declared.Refusal.{Refusal}
+use Rattle.record.specs.declared.Refusal.the-variants.{Breaks}
+use Rattle.record.specs.declared.Event.{Event}
+use Rattle.record.specs.declared.Event.the-variants.{Image}
+use Rattle.record.specs.declared.Taken.{Taken}
+use Rattle.record.specs.declared.Taken.the-variants.{Run, Refused}
+use Rattle.record.specs.Image.{imageAddress}
+use Rattle.record.specs.Record.{addressedOf, orderedOf, judgedAmong, judgedBy}
 use Rattle.pack.specs.Image.{imageOf, bytesOf}
 use Rattle.pack.specs.Reach.{Reached}
 use Rattle.pack.specs.Reach.Reached.{accepted, changed, acted-on}

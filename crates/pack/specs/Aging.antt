@@ -3,7 +3,7 @@ use mathlib.Core.Path.{_≡_}
 use mathlib.Core.List.{List}
 use Prim.Native.Nat.{ℕ}
 use Rattle.state.specs.declared.Profile.{Profile}
-use Rattle.events.specs.Image.{imageAging}
+use Rattle.record.specs.Image.{imageAging}
 use Rattle.state.specs.State.{asIn}
 use Rattle.gauge.specs.Aging.{agingOf, OwnAging}
 use Rattle.pack.specs.Image.{imageOf}

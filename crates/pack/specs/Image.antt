@@ -8,10 +8,10 @@ use lib.ListN.{length, drop}
 use Rattle.numbers.specs.Choice.{pick}
 use Rattle.state.specs.declared.Profile.{Profile}
 use Rattle.profile.specs.Profile.{imageSizeOf, countsCycles}
-use Rattle.events.specs.Image.{imageAddress, imageLabel, imageBlock, imageAcr, imageAging, imageCycles, imageBl0, imageBl1}
+use Rattle.record.specs.Image.{imageAddress, imageLabel, imageBlock, imageAcr, imageAging, imageCycles, imageBl0, imageBl1}
 use Rattle.state.specs.declared.Saved.{Saved}
 use Rattle.state.specs.State.{poweredOf}
-use Rattle.map.specs.Registers.{flagOf}
+use Rattle.registers.specs.Registers.{flagOf}
 use Rattle.gauge.specs.declared.Gauge.{Gauge}
 
 -- ---- in

@@ -9,8 +9,8 @@ use lib.ListN.{length}
 use Rattle.state.specs.declared.Profile.{Profile}
 use Rattle.state.specs.declared.Profile.the-variants.{Ds2781}
 use Rattle.profile.specs.Profile.{imageSizeOf, countsCycles}
-use Rattle.events.specs.Image.{imageSize, imageAddress, imageLocks, imageBreaks}
-use Rattle.events.specs.Record.{numberOf, addressedOf, judgedAmong}
+use Rattle.record.specs.Image.{imageSize, imageAddress, imageLocks, imageBreaks}
+use Rattle.record.specs.Record.{numberOf, addressedOf, judgedAmong}
 use Rattle.gauge.specs.declared.Gauge.{Gauge}
 use Rattle.gauge.specs.Profiles.{baseOf}
 use Rattle.pack.specs.Image.{imageOf, cycleCell, bytesOf}

@@ -7,10 +7,10 @@ use Rattle.bus.specs.declared.Transaction.{Transaction}
 use Rattle.gauge.specs.declared.Gauge.{Gauge}
 use Rattle.gauge.specs.Change.{changedOf}
 use Rattle.gauge.specs.Act.{actOf}
-use Rattle.events.specs.declared.Change.{Change}
-use Rattle.events.specs.declared.Event.the-variants.{Image}
-use Rattle.events.specs.declared.Taken.the-variants.{Run}
-use Rattle.events.specs.Record.{judgedBy}
+use Rattle.record.specs.declared.Change.{Change}
+use Rattle.record.specs.declared.Event.the-variants.{Image}
+use Rattle.record.specs.declared.Taken.the-variants.{Run}
+use Rattle.record.specs.Record.{judgedBy}
 use Rattle.pack.specs.Image.{imageOf}
 
 pub data Reached : Gauge → Type 0 where

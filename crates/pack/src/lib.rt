@@ -1,12 +1,12 @@
 // The pack image: read into a gauge, and written out of one.
-use events::ACR_AT;
-use events::ADDRESS_AT;
-use events::AGING_AT;
-use events::BLOCK_AT;
-use events::CYCLES_AT;
-use events::LABEL_AT;
-use events::LOCKS_AT;
 use gauge::Gauge;
+use record::ACR_AT;
+use record::ADDRESS_AT;
+use record::AGING_AT;
+use record::BLOCK_AT;
+use record::CYCLES_AT;
+use record::LABEL_AT;
+use record::LOCKS_AT;
 use state::Block;
 use state::Cells;
 use state::Common;
@@ -18,9 +18,9 @@ use state::Saved;
 ghost use mathlib.Core.Path.{_≡_};
 ghost use lib.ListN.{length};
 ghost use Prim.Native.Nat.{_≤_};
-ghost use Rattle.parts.specs.Parts.{put};
+ghost use Rattle.slices.specs.Slices.{put};
 ghost use Rattle.profile.specs.Profile.{imageSizeOf};
-ghost use Rattle.events.specs.Image.{cyclesAt, imageCycles};
+ghost use Rattle.record.specs.Image.{cyclesAt, imageCycles};
 ghost use Rattle.gauge.specs.Gauge.{GaugeWF};
 ghost use Rattle.pack.specs.Image.{imageOf, lockByte, cellsOf, tailOf, cycleCell, ImageOut};
 
@@ -50,11 +50,11 @@ pub fn image_in(f: Profile, p: &[u8]) -> Gauge
     ensures kept { λ r. ⌜ GaugeWF r ⌝ }
 {
     whole(f, p);
-    let address = parts::eight(p, ADDRESS_AT);
-    let label = parts::sixteen(p, LABEL_AT);
-    let eeprom = parts::thirty_two(p, BLOCK_AT);
+    let address = slices::eight(p, ADDRESS_AT);
+    let label = slices::sixteen(p, LABEL_AT);
+    let eeprom = slices::thirty_two(p, BLOCK_AT);
     let saved = Saved {
-        acr: parts::pair(p, ACR_AT),
+        acr: slices::pair(p, ACR_AT),
         aging: p[AGING_AT],
         cycles: cycles_in(f, p),
     };
@@ -146,10 +146,10 @@ pub fn image_out(g: Gauge, room: &mut [u8]) -> bool
     let address = g.common.address;
     let label = g.label.eeprom;
     let block = kept.block.eeprom;
-    parts::store8(address, room, ADDRESS_AT);
-    parts::store16(label, room, LABEL_AT);
-    parts::store32(block, room, BLOCK_AT);
-    parts::store4(tail(g), room, ACR_AT);
+    slices::store8(address, room, ADDRESS_AT);
+    slices::store16(label, room, LABEL_AT);
+    slices::store32(block, room, BLOCK_AT);
+    slices::store4(tail(g), room, ACR_AT);
     cycles_out(f, kept.saved.cycles, room);
     true
 }

@@ -5,7 +5,7 @@ use Prim.Native.Nat.{ℕ, _+_, _-_}
 use native.Mathlib.Omega.{arith}
 use lib.ListN.{getD, drop}
 use lib.Seq.{getD-take, getD-drop}
-use Rattle.parts.specs.Parts.{part}
+use Rattle.slices.specs.Slices.{part}
 use Rattle.params.specs.Params.{slopesOf}
 
 -- the slopes at an index of the block

@@ -58,7 +58,7 @@ impl Counting {
         ensures { λ r. ⌜ r ≡ countingOf (now (b .entry)) ⌝ }
     {
         // COB is taken with the three bytes before it: read alone, it is kept apart from them, and each transaction packs and unpacks the four.
-        let tail = parts::four(b, 24);
+        let tail = slices::four(b, 24);
         Counting {
             nben: 128 <= b[0],
             ab: numbers::offset8(b[1]),

@@ -5,24 +5,24 @@ use Prim.Native.Nat.{ℕ, _<_}
 use native.Mathlib.Omega.{arith}
 use borrow.Author.Tests.{ne-eqb}
 use lib.ListN.{length, take, drop}
-use Rattle.parts.proofs.Laws.{put-front}
+use Rattle.slices.proofs.Laws.{put-front}
 use Rattle.streams.specs.declared.Said.{Said}
 use Rattle.streams.specs.declared.Stream.the-variants.{Output}
 use Rattle.streams.specs.Streams.{Front, Within, Saying, error, refusedText}
 use Rattle.streams.proofs.Laws.{cut, seen}
 use Rattle.state.specs.declared.Profile.the-variants.{Ds2781}
-use Rattle.events.specs.declared.Refusal.the-variants.{Size}
-use Rattle.events.specs.declared.Taken.{Taken}
-use Rattle.events.specs.declared.Taken.the-variants as taken
-use Rattle.events.specs.Image.{imageSize}
-use Rattle.events.specs.Record.{judgedAmong, judgedOf}
-use Rattle.events.proofs.Fits.{judged-sized}
-use Rattle.programming.specs.declared.Why.{Why}
-use Rattle.programming.specs.declared.Why.the-variants.{Image}
-use Rattle.programming.specs.declared.Written.{Written}
-use Rattle.programming.specs.declared.Written.the-variants.{Done, Refused}
-use Rattle.programming.specs.Programming.{programmingOf, programmingSize, whyNumber, answerBy, answerOf, Programming}
-use Rattle.programming.proofs.Laws.{granted, programming-length}
+use Rattle.record.specs.declared.Refusal.the-variants.{Size}
+use Rattle.record.specs.declared.Taken.{Taken}
+use Rattle.record.specs.declared.Taken.the-variants as taken
+use Rattle.record.specs.Image.{imageSize}
+use Rattle.record.specs.Record.{judgedAmong, judgedOf}
+use Rattle.record.proofs.Fits.{judged-sized}
+use Rattle.preset_session.specs.declared.Why.{Why}
+use Rattle.preset_session.specs.declared.Why.the-variants.{Image}
+use Rattle.preset_session.specs.declared.Written.{Written}
+use Rattle.preset_session.specs.declared.Written.the-variants.{Done, Refused}
+use Rattle.preset_session.specs.PresetSession.{programmingOf, programmingSize, whyNumber, answerBy, answerOf, Programming}
+use Rattle.preset_session.proofs.Laws.{granted, programming-length}
 use Rattle.preset.specs.Preset.{whyWords, presetBy, presetSpeech}
 
 -- a refusal, by its number and its words

@@ -4,13 +4,13 @@ use mathlib.Core.List.{List, [], _∷_}
 use Prim.Native.Nat.{ℕ}
 use Rattle.numbers.specs.Choice.{pick}
 use Rattle.streams.specs.Streams.{Speech, output, error, refusedText}
-use Rattle.events.specs.declared.Refusal.{Refusal}
-use Rattle.events.specs.declared.Refusal.the-variants as refusal
-use Rattle.programming.specs.declared.Why.{Why}
-use Rattle.programming.specs.declared.Why.the-variants.{Image, Parameters, Locked, Room}
-use Rattle.programming.specs.declared.Written.{Written}
-use Rattle.programming.specs.declared.Written.the-variants.{Done, Refused}
-use Rattle.programming.specs.Programming.{programmingOf, programmingSize, whyNumber, answerOf}
+use Rattle.record.specs.declared.Refusal.{Refusal}
+use Rattle.record.specs.declared.Refusal.the-variants as refusal
+use Rattle.preset_session.specs.declared.Why.{Why}
+use Rattle.preset_session.specs.declared.Why.the-variants.{Image, Parameters, Locked, Room}
+use Rattle.preset_session.specs.declared.Written.{Written}
+use Rattle.preset_session.specs.declared.Written.the-variants.{Done, Refused}
+use Rattle.preset_session.specs.PresetSession.{programmingOf, programmingSize, whyNumber, answerOf}
 
 -- ---- what the refusals mean
 

@@ -1,7 +1,7 @@
 // preset IMAGE PARAMETERS: writes the session that sets block 1 of the pack image in one file to the 32 bytes in the other
-use events::Refusal;
-use programming::Why;
-use programming::Written;
+use preset_session::Why;
+use preset_session::Written;
+use record::Refusal;
 use streams::Input;
 use streams::Said;
 use streams::Stream;
@@ -11,7 +11,7 @@ ghost use Prim.Native.Nat.{ℕ};
 ghost use lib.ListN.{length};
 ghost use Rattle.numbers.specs.Choice.{either};
 ghost use Rattle.streams.specs.Streams.{Front, Saying, error, refusedText};
-ghost use Rattle.programming.specs.Programming.{whyNumber};
+ghost use Rattle.preset_session.specs.PresetSession.{whyNumber};
 ghost use Rattle.preset.specs.Preset.{imageWords, whyWords, presetOf};
 
 // The refusal of an image.
@@ -49,7 +49,7 @@ fn put_why(why: Why, room: &mut [u8]) -> Said
     requires { ⌜ length (now room) ≡ 120 ⌝ }
     ensures { λ r. ⌜ Saying (error (refusedText (whyNumber why) (whyWords why))) (now (room .entry)) r (now (room .exit)) ⌝ }
 {
-    let number = programming::number(Written::Refused(why));
+    let number = preset_session::number(Written::Refused(why));
     match why {
         Why::Image(r) => put_judged(number, r, room),
         Why::Parameters => streams::put_refused(number, b"the parameters are not 32 bytes", room),
@@ -70,7 +70,7 @@ fn put_preset(unread: bool, image: &[u8], wanted: &[u8], room: &mut [u8]) -> Sai
             count: 0,
         };
     }
-    let written = programming::write(image, wanted, room);
+    let written = preset_session::write(image, wanted, room);
     match written {
         Written::Done => {
             let count = room.len();

@@ -13,15 +13,15 @@ use lib.Seq.{ext-getD}
 use borrow.Author.Tests.{le-leb, lt-leb, lt-ltb, leb-true, leb-false, ltb-true, ltb-false, eqb-true, eqb-false}
 use Rattle.numbers.specs.Choice.{pick, both}
 use Rattle.numbers.proofs.Bounds.{picked}
-use Rattle.parts.specs.Parts.{put, laidOf}
-use Rattle.parts.proofs.Laws.{put-whole, laid-length, laid-reached, laid-missed}
+use Rattle.slices.specs.Slices.{put, laidOf}
+use Rattle.slices.proofs.Laws.{put-whole, laid-length, laid-reached, laid-missed}
 use Rattle.state.specs.declared.Meter.{Meter}
 use Rattle.state.specs.declared.Common.{Common}
 use Rattle.state.specs.declared.Label.{Label}
 use Rattle.label.specs.Label.{inLabel, inBlock, labelByte}
-use Rattle.map.specs.declared.Pair.{Pair}
-use Rattle.map.specs.Registers.{registersOf, registerOf, meterByte}
-use Rattle.map.proofs.Meaning.{registers-length}
+use Rattle.registers.specs.declared.Pair.{Pair}
+use Rattle.registers.specs.Registers.{registersOf, registerOf, meterByte}
+use Rattle.registers.proofs.Meaning.{registers-length}
 use Rattle.replies.specs.Reply.{readByte, netByte, overOf, listed}
 
 pub listed-length : (f : ℕ → ℕ) (i n : ℕ) → length (listed f i n) ≡ n

@@ -5,14 +5,14 @@ use mathlib.Core.List.{List, [], _∷_}
 use lib.Dec.{ltb, eqb}
 use lib.ListN.{length, getD}
 use Rattle.numbers.specs.Choice.{pick}
-use Rattle.parts.specs.Parts.{laidOf}
+use Rattle.slices.specs.Slices.{laidOf}
 use Rattle.state.specs.declared.Meter.{Meter}
 use Rattle.params.specs.Params.{rnaopOf}
 use Rattle.state.specs.declared.Common.{Common}
 use Rattle.state.specs.declared.Label.{Label}
 use Rattle.label.specs.Label.{inLabel, labelByte}
-use Rattle.map.specs.declared.Pair.{Pair}
-use Rattle.map.specs.Registers.{meterByte}
+use Rattle.registers.specs.declared.Pair.{Pair}
+use Rattle.registers.specs.Registers.{meterByte}
 use Rattle.bus.specs.declared.Rom.{Rom}
 use Rattle.bus.specs.declared.Rom.the-variants.{Net33, Net39, Skip, Match, Quiet}
 use Rattle.bus.specs.declared.Command.{Command}

@@ -2,7 +2,7 @@
 use bus::Command;
 use bus::Rom;
 use bus::Transaction;
-use map::Pair;
+use registers::Pair;
 use state::Block;
 use state::Common;
 use state::Label;
@@ -12,7 +12,7 @@ ghost use mathlib.Core.List.{_++_};
 ghost use Prim.Native.Nat.{_+_, _%_, _≤_, _<_};
 ghost use lib.ListN.{length, getD, drop};
 ghost use Rattle.state.specs.State.{MeterWF};
-ghost use Rattle.map.specs.Registers.{registersOf};
+ghost use Rattle.registers.specs.Registers.{registersOf};
 ghost use Rattle.replies.specs.Reply.{selectedOf, readSourceOf, netSourceOf, replySourceOf, readByte, netByte, overOf, sourceByte, listed, repliedOf};
 
 // Where a reply's bytes come from: the net address, the map from an address on, or nowhere.
@@ -107,7 +107,7 @@ fn net_reply(address: [u8; 8], room: &mut [u8])
     if 8 < room.len() {
         idle(room);
     }
-    parts::laid(room, 0, 0, &address);
+    slices::laid(room, 0, 0, &address);
 }
 
 // What stands from 60h on, laid over a room that stands from the address a upward, where that ends above it.
@@ -118,7 +118,7 @@ fn block_laid(b: Block, a: usize, room: &mut [u8])
 {
     if 0x60 < a + room.len() {
         let block = b.shadow;
-        parts::laid(room, a, 0x60, &block);
+        slices::laid(room, a, 0x60, &block);
     }
 }
 
@@ -129,7 +129,7 @@ fn label_laid(l: Label, a: usize, room: &mut [u8])
     ensures sized { λ _. ⌜ length (l .shadow) ≡ 16 ⌝ }
 {
     let label = l.shadow;
-    parts::laid(room, a, 0x20, &label);
+    slices::laid(room, a, 0x20, &label);
 }
 
 // What stands from 00h on: the registers, which are worked out only where the room starts among them.
@@ -139,8 +139,8 @@ fn registers_laid(k: Common, m: Meter, a: usize, room: &mut [u8])
     ensures { λ _. ⌜ now (room .exit) ≡ overOf 0x00 (registersOf k m) a (now (room .entry)) ⌝ }
 {
     if a < 0x20 {
-        let registers = map::registers(k, m);
-        parts::laid(room, a, 0x00, &registers);
+        let registers = registers::registers(k, m);
+        slices::laid(room, a, 0x00, &registers);
     }
 }
 
@@ -150,7 +150,7 @@ fn register_reply(k: Common, m: Meter, a: usize, room: &mut [u8])
     requires { ⌜ (a < 0x20) × (a % 2 + length (now room) ≤ 2) ⌝ }
     ensures { λ _. ⌜ now (room .exit) ≡ listed (λ i. getD (registersOf k m) (a + i) 0) 0 (length (now (room .entry))) ⌝ }
 {
-    let p = map::register(k, m, a - a % 2);
+    let p = registers::register(k, m, a - a % 2);
     if room.len() == 2 {
         room[0] = p.high;
         room[1] = p.low;
@@ -190,7 +190,7 @@ fn filled(k: Common, l: Label, m: Meter, source: Source, room: &mut [u8])
             let address = k.address;
             net_reply(address, room)
         }
-        Source::Bytes(a) => read_reply(k, l, m, parts::wide(a), room),
+        Source::Bytes(a) => read_reply(k, l, m, slices::wide(a), room),
         Source::Idle => idle(room),
     }
 }

@@ -7,8 +7,8 @@ use native.Mathlib.Numerals.{add-one}
 use native.Mathlib.Omega.{arith}
 use lib.ListN.{length, drop, set, length-drop, length-append, length-set, drop-of-length-le}
 use lib.Seq.{drop-drop}
-use Rattle.parts.specs.Parts.{put}
-use Rattle.parts.proofs.Laws.{put-next, put-length}
+use Rattle.slices.specs.Slices.{put}
+use Rattle.slices.proofs.Laws.{put-next, put-length}
 use Rattle.runs.specs.declared.Outcome.the-variants.{Done}
 use Rattle.runs.specs.Record.{Rec, recOf, sizeOf, recsOf, kindIn}
 use Rattle.runs.specs.Run.{Did, Line, lineOf, linesAfter, endAfter, repliesOf, codeOf, codesOf, Running}

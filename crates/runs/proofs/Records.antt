@@ -10,8 +10,8 @@ use lib.Dec.{ltb, leb}
 use lib.ListN.{length, getD, take, drop, length-append, length-drop, List·getD-append}
 use lib.Seq.{take-add, take-at, drop-at, length-take-le, getD-take}
 use Rattle.numbers.specs.Choice.{pick}
-use Rattle.parts.specs.Parts.{part, put, pairAt}
-use Rattle.parts.proofs.Laws.{put-next}
+use Rattle.slices.specs.Slices.{part, put, pairAt}
+use Rattle.slices.proofs.Laws.{put-next}
 use Rattle.runs.specs.Record.{Rec, whole, cut, wholeOf, recOf, sizeOf, recsFrom, recsOf, kindIn, recordOf, Recorded}
 
 -- ---- a whole record has its header and its payload

@@ -6,7 +6,7 @@ use Prim.Native.Nat.{ℕ, zero, suc, _+_, _-_, _/_, _%_}
 use lib.Dec.{ltb, leb}
 use lib.ListN.{length}
 use Rattle.numbers.specs.Choice.{pick}
-use Rattle.parts.specs.Parts.{part, put, pairAt}
+use Rattle.slices.specs.Slices.{part, put, pairAt}
 
 -- a record with its kind and payload, or one that is cut: 1 to 3 bytes where a header is due, or a payload that runs past the end
 pub data Rec : Type 0 where

@@ -43,7 +43,7 @@ pub fn whole(l: &[u8]) -> bool
     if l.len() < 4 {
         return false;
     }
-    let n = parts::pair(l, 0) as usize;
+    let n = slices::pair(l, 0) as usize;
     4 + n <= l.len()
 }
 
@@ -60,8 +60,8 @@ pub fn put_record(kind: u16, payload: &[u8], room: &mut [u8], at: usize) -> usiz
         (kind % 256) as u8,
         (kind / 256) as u8,
     ];
-    parts::store4(header, room, at);
-    parts::store(payload, room, at + 4);
+    slices::store4(header, room, at);
+    slices::store(payload, room, at + 4);
     at + (4 + n)
 }
 

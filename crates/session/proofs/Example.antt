@@ -2,11 +2,11 @@
 use mathlib.Core.Path.{_≡_, refl}
 use mathlib.Core.List.{List, [], _∷_, _++_}
 use Prim.Native.Nat.{ℕ}
-use Rattle.events.specs.Record.{kindOf, takenOf}
+use Rattle.record.specs.Record.{kindOf, takenOf}
 use Rattle.runs.specs.Record.{wholeOf, recOf, sizeOf}
 use Rattle.runs.specs.Run.{outcomeOf}
 use Rattle.steps.specs.Step.{didOf}
-use Rattle.records.specs.Run.{sessionOf}
+use Rattle.session_run.specs.SessionRun.{sessionOf}
 use Rattle.digits.specs.Digits.{hexOf, shownText, decimalText}
 use Rattle.line.specs.Line.{kindText, replyText, startText, endText}
 use Rattle.text.specs.Text.{headerText, runText}

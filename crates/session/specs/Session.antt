@@ -3,7 +3,7 @@ use mathlib.Core.Bool.{Bool}
 use mathlib.Core.List.{List, [], _∷_}
 use Prim.Native.Nat.{ℕ}
 use Rattle.numbers.specs.Choice.{pick}
-use Rattle.records.specs.Run.{sessionOf}
+use Rattle.session_run.specs.SessionRun.{sessionOf}
 use Rattle.text.specs.Text.{runText}
 use Rattle.streams.specs.Streams.{Speech, output, error, unreadText}
 

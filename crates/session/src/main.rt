@@ -16,7 +16,7 @@ fn put_session(s: &[u8], out: &mut [u8]) -> usize
 {
     let mut room = [0u8; 65536];
     let mut answers = [0u64; 8192];
-    let ran = records::run(s, &mut room, &mut answers);
+    let ran = session_run::run(s, &mut room, &mut answers);
     let outcome = ran.outcome;
     let lines = ran.lines;
     let replied = ran.replied;

@@ -7,12 +7,12 @@ use native.Mathlib.Omega.{arith}
 use borrow.Author.Tests.{ltb-false}
 use lib.Dec.{ltb}
 use lib.ListN.{length}
-use Rattle.parts.specs.Parts.{part, pairAt}
-use Rattle.events.specs.declared.Event.{Event}
-use Rattle.events.specs.declared.Refusal.the-variants.{Room}
-use Rattle.events.specs.declared.Taken.{Taken}
-use Rattle.events.specs.declared.Taken.the-variants as taken
-use Rattle.events.specs.Record.{asksOf, fittedOf}
+use Rattle.slices.specs.Slices.{part, pairAt}
+use Rattle.record.specs.declared.Event.{Event}
+use Rattle.record.specs.declared.Refusal.the-variants.{Room}
+use Rattle.record.specs.declared.Taken.{Taken}
+use Rattle.record.specs.declared.Taken.the-variants as taken
+use Rattle.record.specs.Record.{asksOf, fittedOf}
 use Rattle.runs.specs.Record.{wholeOf, recOf, sizeOf, kindIn}
 use Rattle.runs.specs.Run.{Did, silently}
 use Rattle.runs.proofs.Records.{rec-whole, size-whole, rec-cut, size-cut}

@@ -8,17 +8,17 @@ use borrow.Author.Tests.{ltb-false}
 use lib.Dec.{ltb}
 use lib.ListN.{length}
 use Rattle.numbers.proofs.Bounds.{picked}
-use Rattle.parts.specs.Parts.{part, pairAt}
+use Rattle.slices.specs.Slices.{part, pairAt}
 use Rattle.bus.specs.declared.Transaction.{Transaction}
 use Rattle.replies.proofs.Listed.{listed-length}
 use Rattle.gauge.specs.declared.Gauge.{Gauge}
 use Rattle.gauge.specs.Act.{replyOf}
-use Rattle.events.specs.declared.Event.{Event}
-use Rattle.events.specs.declared.Event.the-variants.{Image, Change, Transact}
-use Rattle.events.specs.declared.Taken.{Taken}
-use Rattle.events.specs.declared.Taken.the-variants as taken
-use Rattle.events.specs.Record.{masterOf, asksOf, fittedOf}
-use Rattle.events.proofs.Fits.{refusal-range}
+use Rattle.record.specs.declared.Event.{Event}
+use Rattle.record.specs.declared.Event.the-variants.{Image, Change, Transact}
+use Rattle.record.specs.declared.Taken.{Taken}
+use Rattle.record.specs.declared.Taken.the-variants as taken
+use Rattle.record.specs.Record.{masterOf, asksOf, fittedOf}
+use Rattle.record.proofs.Fits.{refusal-range}
 use Rattle.runs.specs.Record.{Rec, whole, cut, wholeOf}
 use Rattle.runs.specs.Run.{Did}
 use Rattle.runs.proofs.Records.{rec-whole, size-whole, rec-cut, size-cut}

@@ -8,12 +8,12 @@ use Prim.Native.Nat.{ℕ, zero, suc, _+_, _-_, _≤_, _<_}
 use native.Mathlib.Omega.{arith}
 use lib.ListN.{length, take, drop, set, length-drop, length-take}
 use lib.Seq.{take-nil, drop-drop}
-use Rattle.parts.specs.Parts.{part, put}
-use Rattle.parts.proofs.Laws.{part-rest, put-part}
+use Rattle.slices.specs.Slices.{part, put}
+use Rattle.slices.proofs.Laws.{part-rest, put-part}
 use Rattle.bus.specs.declared.Transaction.{Transaction}
-use Rattle.events.specs.declared.Event.{Event}
-use Rattle.events.specs.declared.Event.the-variants.{Transact}
-use Rattle.events.specs.Record.{Mastered}
+use Rattle.record.specs.declared.Event.{Event}
+use Rattle.record.specs.declared.Event.the-variants.{Transact}
+use Rattle.record.specs.Record.{Mastered}
 use Rattle.runs.specs.declared.Outcome.the-variants.{Done}
 use Rattle.runs.specs.Record.{Rec, recOf, sizeOf, wholeOf}
 use Rattle.runs.specs.Run.{Did, silently, codeOf, Running}

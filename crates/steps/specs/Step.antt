@@ -8,10 +8,10 @@ use Rattle.gauge.specs.Gauge.{GaugeWF}
 use Rattle.gauge.specs.Change.{changedOf}
 use Rattle.gauge.specs.Act.{actOf, replyOf}
 use Rattle.pack.specs.Image.{imageOf}
-use Rattle.events.specs.declared.Event.{Event}
-use Rattle.events.specs.declared.Event.the-variants.{Image, Change, Transact}
-use Rattle.events.specs.declared.Taken.{Taken}
-use Rattle.events.specs.Record.{takenOf, timedOf, masterOf}
+use Rattle.record.specs.declared.Event.{Event}
+use Rattle.record.specs.declared.Event.the-variants.{Image, Change, Transact}
+use Rattle.record.specs.declared.Taken.{Taken}
+use Rattle.record.specs.Record.{takenOf, timedOf, masterOf}
 use Rattle.runs.specs.Record.{Rec}
 use Rattle.runs.specs.Run.{Did, silently}
 use Rattle.steps.specs.declared.Session.{Session}

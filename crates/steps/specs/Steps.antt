@@ -1,10 +1,10 @@
 -- One record of a run, of any state: what it asks in a state, what it then does, and what the code reads off it.
 use mathlib.Core.List.{List}
 use Prim.Native.Nat.{ℕ}
-use Rattle.events.specs.declared.Event.{Event}
-use Rattle.events.specs.declared.Taken.{Taken}
-use Rattle.events.specs.declared.Taken.the-variants.{Run, Refused}
-use Rattle.events.specs.Record.{refusalNumber, fittedOf}
+use Rattle.record.specs.declared.Event.{Event}
+use Rattle.record.specs.declared.Taken.{Taken}
+use Rattle.record.specs.declared.Taken.the-variants.{Run, Refused}
+use Rattle.record.specs.Record.{refusalNumber, fittedOf}
 use Rattle.runs.specs.Record.{Rec, whole, cut, recOf, sizeOf}
 use Rattle.runs.specs.Run.{Did, silently}
 use Rattle.steps.specs.declared.Asked.the-variants as asked

@@ -1,8 +1,8 @@
 // One record of a session, read: its kind, its answer, how many bytes it takes, and the event that it asks.
-use events::Event;
-use events::Refusal;
-use events::Taken;
 use gauge::Gauge;
+use record::Event;
+use record::Refusal;
+use record::Taken;
 use state::Tick;
 ghost use mathlib.Core.Path.{_≡_};
 ghost use Rattle.steps.specs.Steps.{refusedOf, takenRead, frontBy};
@@ -44,7 +44,7 @@ pub fn refused(kind: u16, answer: u8, used: usize) -> Record
 pub fn read_off(kind: u16, used: usize, t: Taken) -> Record
     ensures { λ r. ⌜ r ≡ takenRead kind used t ⌝ }
 {
-    let answer = events::number(t);
+    let answer = record::number(t);
     let Taken::Run(e) = t else {
         return refused(kind, answer, used);
     };
@@ -62,14 +62,14 @@ pub fn front(l: &[u8], loaded: bool, last: Tick, room: usize) -> Record
     ensures { λ r. ⌜ r ≡ frontBy (toldOf loaded last) room (now (l .entry)) ⌝ }
 {
     if runs::whole(l) {
-        let n = parts::pair(l, 0) as usize;
-        let kind = parts::pair(l, 2);
+        let n = slices::pair(l, 0) as usize;
+        let kind = slices::pair(l, 2);
         let end = 4 + n;
-        if events::LAST_KIND < kind {
-            let answer = events::number(Taken::Refused(Refusal::Kind));
+        if record::LAST_KIND < kind {
+            let answer = record::number(Taken::Refused(Refusal::Kind));
             return refused(kind, answer, end);
         }
-        let t = events::fitted(kind, loaded, last, room, &l[4..end]);
+        let t = record::fitted(kind, loaded, last, room, &l[4..end]);
         return read_off(kind, end, t);
     }
     refused(0, 2, l.len())

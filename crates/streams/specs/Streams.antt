@@ -5,7 +5,7 @@ use Prim.Native.Nat.{ℕ, _≤_, min}
 use lib.Dec.{ltb}
 use lib.ListN.{length, take}
 use Rattle.numbers.specs.Choice.{pick}
-use Rattle.parts.specs.Parts.{put}
+use Rattle.slices.specs.Slices.{put}
 use Rattle.digits.specs.Digits.{decimalText}
 use Rattle.streams.specs.declared.Stream.{Stream}
 use Rattle.streams.specs.declared.Stream.the-variants.{Output, Error}

@@ -10,8 +10,8 @@ use borrow.Author.Tests.{leb-true, leb-false}
 use lib.Dec.{leb}
 use lib.ListN.{length, getD, take, drop, drop-of-length-le}
 use lib.Seq.{drop-cons, drop-drop, take-all, length-take-le}
-use Rattle.parts.specs.Parts.{part}
-use Rattle.parts.proofs.Laws.{part-length, part-rest}
+use Rattle.slices.specs.Slices.{part}
+use Rattle.slices.proofs.Laws.{part-length, part-rest}
 use Rattle.text.specs.Text.{codeKind, codeAnswer, codeReplied, codesText}
 use Rattle.digits.specs.Digits.{decimalText, Writing}
 use Rattle.line.specs.Line.{lineText, fieldsText, startText, endText}

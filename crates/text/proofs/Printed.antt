@@ -8,8 +8,8 @@ use borrow.Author.Tests.{le-leb, le-ltb, lt-ltb, ltb-false}
 use lib.Dec.{ltb}
 use lib.ListN.{length, take, length-take}
 use Rattle.numbers.specs.Choice.{pick}
-use Rattle.parts.specs.Parts.{put}
-use Rattle.parts.proofs.Laws.{put-length, put-read}
+use Rattle.slices.specs.Slices.{put}
+use Rattle.slices.proofs.Laws.{put-length, put-read}
 use Rattle.runs.specs.declared.Outcome.{Outcome}
 use Rattle.runs.specs.declared.Outcome.the-variants.{Done, Over, Short}
 use Rattle.runs.specs.Record.{Rec, recsOf}

@@ -6,7 +6,7 @@ use Prim.Native.Nat.{ℕ, _+_, _*_, _/_, _%_, _≤_}
 use lib.Dec.{leb}
 use lib.ListN.{length, take, drop}
 use Rattle.numbers.specs.Choice.{pick, both}
-use Rattle.parts.specs.Parts.{put}
+use Rattle.slices.specs.Slices.{put}
 use Rattle.digits.specs.Digits.{decimalText}
 use Rattle.line.specs.Line.{space, newline, dash, lineText, endText}
 use Rattle.runs.specs.declared.Outcome.{Outcome}

@@ -11,8 +11,8 @@ use lib.ListN.{length, getD, drop, length-append, length-take, length-drop, drop
 use lib.Seq.{take-suc, drop-cons, getD-drop}
 use Rattle.numbers.specs.Choice.{pick, both}
 use Rattle.numbers.proofs.Bounds.{both-true}
-use Rattle.parts.specs.Parts.{part, put}
-use Rattle.parts.proofs.Laws.{put-next, put-front}
+use Rattle.slices.specs.Slices.{part, put}
+use Rattle.slices.proofs.Laws.{put-next, put-front}
 use Rattle.ihex.specs.declared.Fault.{Fault}
 use Rattle.ihex.specs.declared.Line.{Line}
 use Rattle.ihex.specs.declared.Line.the-variants.{Good, Bad}

@@ -11,9 +11,9 @@ use lib.ListN.{length, take, drop, length-append, length-drop, take-append-drop}
 use lib.Seq.{take-all, take-at}
 use Rattle.numbers.specs.Choice.{pick, both}
 use Rattle.numbers.proofs.Bounds.{picked}
-use Rattle.parts.specs.Parts.{part}
+use Rattle.slices.specs.Slices.{part}
 use Rattle.digits.specs.Digits.{hexOf, upper, hexText}
-use Rattle.events.specs.Image.{imageLabel, imageBlock, imageBl0}
+use Rattle.record.specs.Image.{imageLabel, imageBlock, imageBl0}
 use Rattle.ihex.specs.declared.Line.the-variants.{Good}
 use Rattle.ihex.specs.Line.{lineFeed, lineText, dataRecord, endRecord, addressIn, dataIn, placedOf, lineOf}
 use Rattle.ihex.proofs.Lines.{good-is, data-good, data-address, data-in, end-good, end-address}

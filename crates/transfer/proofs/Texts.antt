@@ -9,15 +9,15 @@ use lib.Dec.{ltb}
 use lib.ListN.{length, drop, length-append}
 use Rattle.numbers.specs.Choice.{pick}
 use Rattle.numbers.proofs.Bounds.{picked, both-true}
-use Rattle.parts.specs.Parts.{part, put}
-use Rattle.parts.proofs.Laws.{part-length, put-front}
+use Rattle.slices.specs.Slices.{part, put}
+use Rattle.slices.proofs.Laws.{part-length, put-front}
 use Rattle.digits.specs.Digits.{Writing}
 use Rattle.state.specs.declared.Profile.the-variants.{Ds2781}
-use Rattle.events.specs.declared.Taken.{Taken}
-use Rattle.events.specs.declared.Taken.the-variants as taken
-use Rattle.events.specs.Image.{imageSize, imageLabel, imageBlock, imageBl0}
-use Rattle.events.specs.Record.{judgedOf}
-use Rattle.events.proofs.Fits.{judged-sized}
+use Rattle.record.specs.declared.Taken.{Taken}
+use Rattle.record.specs.declared.Taken.the-variants as taken
+use Rattle.record.specs.Image.{imageSize, imageLabel, imageBlock, imageBl0}
+use Rattle.record.specs.Record.{judgedOf}
+use Rattle.record.proofs.Fits.{judged-sized}
 use Rattle.ihex.specs.Line.{lineText, checksumOf, contentOf, dataRecord, endRecord}
 use Rattle.ihex.proofs.Lines.{line-length}
 use Rattle.transfer.specs.declared.Why.the-variants as why

@@ -6,11 +6,11 @@ use Prim.Native.Nat.{ℕ}
 use lib.Dec.{ltb}
 use lib.ListN.{length, drop}
 use Rattle.numbers.specs.Choice.{pick, both}
-use Rattle.parts.specs.Parts.{part}
-use Rattle.events.specs.declared.Taken.{Taken}
-use Rattle.events.specs.declared.Taken.the-variants as taken
-use Rattle.events.specs.Image.{imageLabel, imageBlock, imageBl0}
-use Rattle.events.specs.Record.{judgedOf}
+use Rattle.slices.specs.Slices.{part}
+use Rattle.record.specs.declared.Taken.{Taken}
+use Rattle.record.specs.declared.Taken.the-variants as taken
+use Rattle.record.specs.Image.{imageLabel, imageBlock, imageBl0}
+use Rattle.record.specs.Record.{judgedOf}
 use Rattle.ihex.specs.Line.{lineText, dataRecord, endRecord, faultNumber}
 use Rattle.transfer.specs.declared.Why.{Why}
 use Rattle.transfer.specs.declared.Why.the-variants as why

@@ -6,7 +6,7 @@ use Prim.Native.Nat.{ℕ, _+_, _-_, _≤_, _<_}
 use lib.Dec.{eqb, ltb}
 use lib.ListN.{length, drop}
 use Rattle.numbers.specs.Choice.{pick, both}
-use Rattle.parts.specs.Parts.{part}
+use Rattle.slices.specs.Slices.{part}
 use Rattle.ihex.specs.declared.Line.{Line}
 use Rattle.ihex.specs.declared.Line.the-variants.{Good, Bad}
 use Rattle.ihex.specs.Line.{lineFeed, addressIn, dataIn, lineOf}

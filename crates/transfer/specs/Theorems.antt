@@ -10,7 +10,7 @@ use mathlib.Core.Logic.{_⊎_}
 use mathlib.Core.List.{List, [], _∷_, _++_}
 use Prim.Native.Nat.{ℕ, _≤_, _<_}
 use lib.ListN.{length, getD, take, drop}
-use Rattle.events.specs.Image.{imageBlock}
+use Rattle.record.specs.Image.{imageBlock}
 use Rattle.ihex.specs.declared.Line.the-variants.{Good}
 use Rattle.ihex.specs.Line.{lineText, dataRecord, addressIn, dataIn, placedOf, lineOf}
 use Rattle.transfer.specs.declared.Answer.{Answer}

@@ -1,13 +1,13 @@
 // The label and block 1 of a pack, to the programmer and back, as Intel HEX.
-use events::Taken;
 use ihex::Fault;
 use ihex::Line;
+use record::Taken;
 ghost use mathlib.Core.Path.{_≡_};
 ghost use mathlib.Core.List.{_++_};
 ghost use Prim.Native.Nat.{_+_, _≤_, _<_};
 ghost use lib.ListN.{length, drop};
 ghost use Rattle.numbers.specs.Choice.{pick};
-ghost use Rattle.parts.specs.Parts.{put};
+ghost use Rattle.slices.specs.Slices.{put};
 ghost use Rattle.transfer.specs.Export.{answerNumber, acceptedOf, bothAccepted, labelOf, exportText, exportSize, exportAnswer, Exporting};
 ghost use Rattle.transfer.specs.Import.{linesOf, Cut, linesAnswer, countOf, lastOf, wholeOf, dataAt, importedOf, importSize, importAnswer, Importing};
 
@@ -44,7 +44,7 @@ pub fn number(answer: Answer) -> u8
 fn accepted(image: &[u8]) -> bool
     ensures { λ r. ⌜ r ≡ acceptedOf (now (image .entry)) ⌝ }
 {
-    let judged = events::judged(image);
+    let judged = record::judged(image);
     match judged {
         Taken::Run(_) => true,
         Taken::Refused(_) => false,
@@ -62,10 +62,10 @@ pub fn label<'a>(pack: &'a [u8], factory: &'a [u8]) -> &'a [u8]
     ensures { λ r. ⌜ now r ≡ labelOf (now (pack .entry)) (now (factory .entry)) ⌝ }
 {
     if both_accepted(pack, factory) {
-        if pack[events::LOCKS_AT] % 2 == 1 {
-            return &pack[events::LABEL_AT..events::BLOCK_AT];
+        if pack[record::LOCKS_AT] % 2 == 1 {
+            return &pack[record::LABEL_AT..record::BLOCK_AT];
         }
-        return &factory[events::LABEL_AT..events::BLOCK_AT];
+        return &factory[record::LABEL_AT..record::BLOCK_AT];
     }
     &pack[0..0]
 }
@@ -107,7 +107,7 @@ pub fn write<'a>(pack: &'a [u8], factory: &'a [u8], room: &mut [u8]) -> Answer
     match found {
         Answer::Done => {
             let chosen = label(pack, factory);
-            put_text(chosen, &pack[events::BLOCK_AT..events::ACR_AT], room);
+            put_text(chosen, &pack[record::BLOCK_AT..record::ACR_AT], room);
             Answer::Done
         }
         Answer::Refused(why) => Answer::Refused(why),

@@ -4,8 +4,8 @@ use mathlib.Core.List.{List, [], _∷_, _++_}
 use Prim.Native.Nat.{ℕ}
 use Rattle.runs.specs.Record.{wholeOf, recOf, sizeOf}
 use Rattle.runs.specs.Run.{outcomeOf}
-use Rattle.slots.specs.Tray.{trayKindOf, trayDid}
-use Rattle.trays.specs.Run.{trayLines}
+use Rattle.tray_record.specs.Tray.{trayKindOf, trayDid}
+use Rattle.tray_run.specs.TrayRun.{trayLines}
 use Rattle.digits.specs.Digits.{hexOf, shownText, decimalText}
 use Rattle.line.specs.Line.{kindText, replyText, startText, endText}
 use Rattle.text.specs.Text.{headerText, runText}

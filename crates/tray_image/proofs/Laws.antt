@@ -8,7 +8,7 @@ use borrow.Author.Tests.{le-leb, lt-ltb}
 use lib.Dec.{leb}
 use lib.ListN.{length, drop, length-append, length-drop}
 use Rattle.numbers.specs.Choice.{pick}
-use Rattle.parts.proofs.Laws.{put-front}
+use Rattle.slices.proofs.Laws.{put-front}
 use Rattle.streams.specs.declared.Said.{Said}
 use Rattle.streams.specs.declared.Stream.the-variants.{Output}
 use Rattle.streams.specs.Streams.{Speech, Saying, error, refusedText}
@@ -17,10 +17,10 @@ use Rattle.pack.proofs.Image.{size-few}
 use Rattle.runs.specs.declared.Outcome.{Outcome}
 use Rattle.runs.specs.declared.Outcome.the-variants.{Done, Over}
 use Rattle.runs.specs.Run.{outcomeNumber}
-use Rattle.slots.specs.declared.Tray.{Tray}
-use Rattle.slots.specs.Tray.{emptyTray, packOf, trayDid}
-use Rattle.trays.specs.declared.Ran.{Ran}
-use Rattle.trays.specs.Run.{trayResultOf, slotHeld, SlotOut}
+use Rattle.tray_record.specs.declared.Tray.{Tray}
+use Rattle.tray_record.specs.Tray.{emptyTray, packOf, trayDid}
+use Rattle.tray_run.specs.declared.Ran.{Ran}
+use Rattle.tray_run.specs.TrayRun.{trayResultOf, slotHeld, SlotOut}
 use Rattle.text.specs.Text.{overWords}
 use Rattle.text.proofs.Printed.{outcome-told}
 use Rattle.text.proofs.Ended.{Ended}

@@ -6,16 +6,16 @@ use lib.Dec.{ltb, leb}
 use lib.ListN.{length}
 use Rattle.numbers.specs.Choice.{pick, both}
 use Rattle.streams.specs.Streams.{Speech, output, error, unreadText, refusedText}
-use Rattle.events.specs.declared.Refusal.the-variants.{Order}
-use Rattle.events.specs.Record.{refusalNumber}
+use Rattle.record.specs.declared.Refusal.the-variants.{Order}
+use Rattle.record.specs.Record.{refusalNumber}
 use Rattle.pack.specs.Image.{bytesOf}
 use Rattle.runs.specs.declared.Outcome.{Outcome}
 use Rattle.runs.specs.declared.Outcome.the-variants.{Done, Over, Short}
 use Rattle.runs.specs.Record.{recsOf}
 use Rattle.runs.specs.Run.{endAfter, outcomeOf, outcomeNumber}
-use Rattle.slots.specs.declared.Tray.{Tray}
-use Rattle.slots.specs.Tray.{emptyTray, packOf, trayDid}
-use Rattle.trays.specs.Run.{slotHeld}
+use Rattle.tray_record.specs.declared.Tray.{Tray}
+use Rattle.tray_record.specs.Tray.{emptyTray, packOf, trayDid}
+use Rattle.tray_run.specs.TrayRun.{slotHeld}
 use Rattle.text.specs.Text.{overWords, shortWords}
 
 -- ---- SLOT, in decimal digits

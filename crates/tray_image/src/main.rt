@@ -1,9 +1,9 @@
 // tray_image SLOT: runs the tray session on standard input and writes the pack image taken out of a slot at its end
 use runs::Outcome;
-use slots::Tray;
 use streams::Input;
 use streams::Said;
 use streams::Stream;
+use tray_record::Tray;
 ghost use mathlib.Core.Path.{_≡_};
 ghost use mathlib.Core.List.{List};
 ghost use Prim.Native.Nat.{ℕ};
@@ -36,7 +36,7 @@ fn slot_of(word: &[u8]) -> u8
     let mut n = 0u64;
     let mut i = 0;
     while i < word.len() {
-        let c = parts::wide(word[i]) as u64;
+        let c = slices::wide(word[i]) as u64;
         n = numbers::at_most(8, 10 * n + numbers::less(c, 48));
         i += 1;
     }
@@ -62,9 +62,9 @@ fn put_image(tray: Tray, slot: u8, room: &mut [u8]) -> Said
     requires { ⌜ length (now room) ≡ 61 ⌝ }
     ensures { λ r. ⌜ Saying (slotSpeech Done tray slot) (now (room .entry)) r (now (room .exit)) ⌝ }
 {
-    let answer = trays::take_out(tray, slot, room);
+    let answer = tray_run::take_out(tray, slot, room);
     if answer == 0 {
-        let count = trays::image_size(tray, slot);
+        let count = tray_run::image_size(tray, slot);
         let stream = Stream::Output;
         return Said {
             stream: stream,
@@ -80,7 +80,7 @@ fn put_taken(s: &[u8], slot: u8, room: &mut [u8]) -> Said
 {
     let mut replies = [0u8; 65536];
     let mut answers = [0u64; 8192];
-    let ran = trays::run(s, &mut replies, &mut answers);
+    let ran = tray_run::run(s, &mut replies, &mut answers);
     let outcome = ran.outcome;
     let tray = ran.tray;
     match outcome {

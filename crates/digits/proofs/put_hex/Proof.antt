@@ -5,7 +5,7 @@ use native.Mathlib.Omega.{arith}
 use lib.ListN.{length, length-drop}
 use lib.Seq.{length-take-le}
 use denote.Ref.{now}
-use Rattle.parts.proofs.Laws.{part-rest}
+use Rattle.slices.proofs.Laws.{part-rest}
 use Rattle.digits.proofs.Laws.{kept, hex-parts}
 use borrow.Author.Needs.{needs}
 use Rattle.digits.proofs.put_hex.Statement.{statement}

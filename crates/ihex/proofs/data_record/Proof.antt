@@ -6,7 +6,7 @@ use native.Mathlib.Omega.{arith}
 use lib.ListN.{set}
 use lib.Seq.{length-take-le}
 use denote.Ref.{now}
-use Rattle.parts.specs.Parts.{put}
+use Rattle.slices.specs.Slices.{put}
 use Rattle.ihex.proofs.Laws.{record-laid}
 use borrow.Author.Needs.{needs}
 use Rattle.ihex.proofs.data_record.Statement.{statement}

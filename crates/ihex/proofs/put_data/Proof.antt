@@ -5,8 +5,8 @@ use native.Mathlib.Nat.{add-zero}
 use native.Mathlib.Omega.{arith}
 use lib.ListN.{length, drop, set, length-set, drop-of-length-le}
 use denote.Ref.{now}
-use Rattle.parts.specs.Parts.{put}
-use Rattle.parts.proofs.Laws.{put-more}
+use Rattle.slices.specs.Slices.{put}
+use Rattle.slices.proofs.Laws.{put-more}
 use Rattle.ihex.specs.Line.{dataIn}
 use Rattle.ihex.proofs.Laws.{data-length, data-at}
 use borrow.Author.Needs.{needs}

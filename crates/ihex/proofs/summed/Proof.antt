@@ -5,7 +5,7 @@ use native.Mathlib.Omega.{arith}
 use lib.Dec.{eqb}
 use lib.ListN.{length}
 use denote.Ref.{now}
-use Rattle.parts.specs.Parts.{part}
+use Rattle.slices.specs.Slices.{part}
 use Rattle.digits.specs.Digits.{upper, hexBytes}
 use Rattle.ihex.specs.Line.{sumOf, summedOf}
 use borrow.Author.Needs.{needs}

@@ -5,7 +5,7 @@ use lib.ListN.{replicate, length-replicate}
 use denote.Ref.{now}
 use Rattle.runs.specs.declared.Outcome.the-variants.{Over, Short}
 use Rattle.steps.specs.Step.{didOf}
-use Rattle.records.specs.Run.{emptyOf, resultOf}
+use Rattle.session_run.specs.SessionRun.{emptyOf, resultOf}
 use Rattle.text.proofs.Ended.{Ended, ended}
 use Rattle.image.proofs.Laws.{done, idle}
 use borrow.Author.Needs.{needs}

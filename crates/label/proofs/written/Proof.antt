@@ -6,8 +6,8 @@ use lib.ListN.{length}
 use borrow.Author.Tests.{not-true, not-false, eqb-true, leb-true}
 use denote.Ref.{now}
 use Rattle.numbers.proofs.Bounds.{both-true}
-use Rattle.parts.specs.Parts.{part, laidOf}
-use Rattle.parts.proofs.Laws.{put-whole, part-length, laid-sized}
+use Rattle.slices.specs.Slices.{part, laidOf}
+use Rattle.slices.proofs.Laws.{put-whole, part-length, laid-sized}
 use Rattle.state.specs.declared.Label.{Label}
 use Rattle.label.specs.Label.{labelWrittenOf}
 use borrow.Author.Needs.{needs}

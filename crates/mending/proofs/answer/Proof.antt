@@ -5,7 +5,7 @@ use borrow.Author.Tests.{eq-eqb, ne-eqb, lt-ltb, le-ltb}
 use lib.Dec.{eqb, ltb}
 use lib.ListN.{getD}
 use denote.Ref.{now}
-use Rattle.events.specs.Image.{addressAt}
+use Rattle.record.specs.Image.{addressAt}
 use Rattle.mending.specs.Mending.{mendingAnswer}
 use borrow.Author.Needs.{needs}
 use Rattle.mending.proofs.answer.Statement.{statement}

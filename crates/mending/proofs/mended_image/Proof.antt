@@ -4,7 +4,7 @@ use mathlib.Core.List.{List}
 use Prim.Native.Nat.{ℕ, _%_}
 use denote.Ref.{now}
 use lib.ListN.{replicate, set}
-use Rattle.events.specs.Image.{imageLocks}
+use Rattle.record.specs.Image.{imageLocks}
 use Rattle.mending.specs.Mending.{mendedOf}
 use Rattle.mending.proofs.Laws.{mended-laid}
 use borrow.Author.Needs.{needs}

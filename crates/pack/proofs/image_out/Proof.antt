@@ -6,8 +6,8 @@ use native.Mathlib.Omega.{arith}
 use borrow.Author.Tests.{le-leb, lt-leb}
 use denote.Ref.{now}
 use lib.ListN.{drop}
-use Rattle.parts.specs.Parts.{put}
-use Rattle.parts.proofs.Laws.{put-next}
+use Rattle.slices.specs.Slices.{put}
+use Rattle.slices.proofs.Laws.{put-next}
 use Rattle.pack.specs.Image.{roomAfter, tailOf, cycleCell, endOf, bytesOf, sizeFor}
 use Rattle.pack.proofs.Image.{joint-put, end-length}
 use borrow.Author.Needs.{needs}

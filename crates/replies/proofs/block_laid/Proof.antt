@@ -3,7 +3,7 @@ use Prim.Native.Nat.{_+_}
 use native.Mathlib.Omega.{arith}
 use lib.ListN.{length}
 use denote.Ref.{now}
-use Rattle.parts.proofs.Laws.{laid-none}
+use Rattle.slices.proofs.Laws.{laid-none}
 use borrow.Author.Needs.{needs}
 use Rattle.replies.proofs.block_laid.Statement.{statement}
 use Rattle.replies.proofs.block_laid.Tie as tie

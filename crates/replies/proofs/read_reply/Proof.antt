@@ -3,7 +3,7 @@ use mathlib.Core.Path.{_∙_, ap}
 use Prim.Native.Nat.{_+_}
 use lib.ListN.{length}
 use denote.Ref.{now}
-use Rattle.map.specs.Registers.{registersOf}
+use Rattle.registers.specs.Registers.{registersOf}
 use Rattle.replies.specs.Reply.{readByte, overOf}
 use Rattle.replies.proofs.Listed.{listed-length, register-listed, read-listed, low-listed}
 use borrow.Author.Needs.{needs}

@@ -4,9 +4,9 @@ use Prim.Native.Nat.{ℕ, _+_}
 use native.Mathlib.Omega.{arith}
 use lib.ListN.{length}
 use denote.Ref.{now}
-use Rattle.parts.proofs.Laws.{laid-none}
-use Rattle.map.specs.Registers.{registersOf}
-use Rattle.map.proofs.Meaning.{registers-length}
+use Rattle.slices.proofs.Laws.{laid-none}
+use Rattle.registers.specs.Registers.{registersOf}
+use Rattle.registers.proofs.Meaning.{registers-length}
 use Rattle.replies.specs.Reply.{overOf}
 use borrow.Author.Needs.{needs}
 use Rattle.replies.proofs.registers_laid.Statement.{statement}

@@ -5,8 +5,8 @@ use Prim.Native.Nat.{ℕ, _+_}
 use lib.ListN.{take}
 use native.Mathlib.Omega.{arith}
 use denote.Ref.{now}
-use Rattle.parts.specs.Parts.{put}
-use Rattle.parts.proofs.Laws.{put-next}
+use Rattle.slices.specs.Slices.{put}
+use Rattle.slices.proofs.Laws.{put-next}
 use Rattle.runs.specs.Record.{recordOf}
 use borrow.Author.Needs.{needs}
 use Rattle.runs.proofs.put_record.Statement.{statement}

@@ -4,7 +4,7 @@ use mathlib.Core.List.{_++_}
 use native.Mathlib.Omega.{arith}
 use lib.ListN.{length}
 use denote.Ref.{now}
-use Rattle.records.specs.Run.{sessionOf}
+use Rattle.session_run.specs.SessionRun.{sessionOf}
 use Rattle.text.specs.Text.{headerText, overText}
 use Rattle.text.proofs.Printed.{over-alike}
 use Rattle.streams.proofs.Laws.{cut, seen}

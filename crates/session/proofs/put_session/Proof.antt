@@ -8,7 +8,7 @@ use denote.Ref.{now}
 use Rattle.runs.specs.Run.{outcomeOf}
 use Rattle.steps.specs.Step.{didOf}
 use Rattle.steps.proofs.Steps.{did-fits}
-use Rattle.records.specs.Run.{emptyOf, resultOf, sessionOf}
+use Rattle.session_run.specs.SessionRun.{emptyOf, resultOf, sessionOf}
 use Rattle.text.specs.Text.{textOf, runText, mostOf, reportOf}
 use Rattle.text.proofs.Printed.{counts-within, session-text}
 use borrow.Author.Needs.{needs}

@@ -2,9 +2,9 @@ use mathlib.Core.Path.{sym, ap, _∙_}
 use Prim.Native.Nat.{ℕ, _+_}
 use native.Mathlib.Omega.{arith}
 use denote.Ref.{now}
-use Rattle.events.specs.declared.Taken.{Taken}
-use Rattle.events.specs.Record.{timedOf, fittedOf}
-use Rattle.events.proofs.Fits.{unknown-above}
+use Rattle.record.specs.declared.Taken.{Taken}
+use Rattle.record.specs.Record.{timedOf, fittedOf}
+use Rattle.record.proofs.Fits.{unknown-above}
 use Rattle.steps.specs.Steps.{refusedOf}
 use Rattle.steps.proofs.Steps.{read-whole, read-cut}
 use Rattle.runs.proofs.Records.{whole-head, whole-end}

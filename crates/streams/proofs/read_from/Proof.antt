@@ -4,8 +4,8 @@ use mathlib.Core.List.{List, _++_}
 use Prim.Native.Nat.{ℕ, _-_, _≤_}
 use native.Mathlib.Omega.{arith}
 use lib.ListN.{length, take, drop, length-drop}
-use Rattle.parts.specs.Parts.{part}
-use Rattle.parts.proofs.Laws.{part-rest, back-length}
+use Rattle.slices.specs.Slices.{part}
+use Rattle.slices.proofs.Laws.{part-rest, back-length}
 use borrow.Author.Needs.{needs}
 use Rattle.streams.proofs.read_from.Statement.{statement}
 use Rattle.streams.proofs.read_from.Tie as tie

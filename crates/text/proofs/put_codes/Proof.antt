@@ -4,7 +4,7 @@ use Prim.Native.Nat.{_+_, _-_}
 use native.Mathlib.Omega.{arith}
 use lib.ListN.{length, length-take}
 use lib.Seq.{length-take-le}
-use Rattle.parts.specs.Parts.{part}
+use Rattle.slices.specs.Slices.{part}
 use denote.Ref.{now}
 use Rattle.digits.specs.Digits.{packedOf}
 use Rattle.digits.proofs.Laws.{kept}

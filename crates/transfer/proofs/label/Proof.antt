@@ -6,7 +6,7 @@ use Prim.Native.Nat.{ℕ}
 use native.Mathlib.Omega.{arith}
 use borrow.Author.Tests.{eq-eqb, ne-eqb}
 use denote.Ref.{now}
-use Rattle.events.specs.Image.{imageLabel, imageBl0}
+use Rattle.record.specs.Image.{imageLabel, imageBl0}
 use Rattle.transfer.specs.Export.{bothAccepted, labelOf}
 use Rattle.transfer.proofs.Texts.{pack-sized, factory-sized}
 use borrow.Author.Needs.{needs}

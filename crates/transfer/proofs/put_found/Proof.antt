@@ -7,7 +7,7 @@ use borrow.Author.Tests.{eq-eqb, ne-eqb}
 use lib.Dec.{eqb}
 use lib.ListN.{length, drop, drop-of-length-le}
 use denote.Ref.{now}
-use Rattle.parts.specs.Parts.{part, put}
+use Rattle.slices.specs.Slices.{part, put}
 use Rattle.ihex.proofs.Laws.{data-long}
 use Rattle.transfer.specs.Import.{linesOf, dataAt}
 use Rattle.transfer.proofs.Lines.{data-here, data-later}

@@ -3,7 +3,7 @@ use mathlib.Core.Path.{ap, _∙_}
 use mathlib.Core.List.{List}
 use Prim.Native.Nat.{ℕ}
 use denote.Ref.{now}
-use Rattle.parts.specs.Parts.{put}
+use Rattle.slices.specs.Slices.{put}
 use Rattle.transfer.specs.Import.{linesOf, dataAt}
 use Rattle.transfer.proofs.Lines.{three-put}
 use borrow.Author.Needs.{needs}

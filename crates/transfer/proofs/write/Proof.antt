@@ -5,7 +5,7 @@ use Prim.Native.Nat.{ℕ}
 use native.Mathlib.Omega.{arith}
 use lib.ListN.{length, drop}
 use denote.Ref.{now}
-use Rattle.events.specs.Image.{imageBlock}
+use Rattle.record.specs.Image.{imageBlock}
 use Rattle.transfer.specs.Export.{answerNumber, exportText, exportSize}
 use Rattle.transfer.proofs.Texts.{granted, pack-sized, label-sized, block-sized}
 use borrow.Author.Needs.{needs}

@@ -4,7 +4,7 @@ use mathlib.Core.List.{_++_}
 use native.Mathlib.Omega.{arith}
 use lib.ListN.{length}
 use denote.Ref.{now}
-use Rattle.trays.specs.Run.{trayLines}
+use Rattle.tray_run.specs.TrayRun.{trayLines}
 use Rattle.text.specs.Text.{headerText, overText}
 use Rattle.text.proofs.Printed.{over-alike}
 use Rattle.streams.proofs.Laws.{cut, seen}

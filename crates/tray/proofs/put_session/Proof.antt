@@ -6,11 +6,11 @@ use lib.ListN.{length, take, replicate, length-replicate}
 use lib.Seq.{length-take-le}
 use denote.Ref.{now}
 use Rattle.runs.specs.Run.{outcomeOf}
-use Rattle.slots.specs.Tray.{emptyTray, trayDid}
-use Rattle.trays.specs.Run.{trayLines, trayResultOf}
+use Rattle.tray_record.specs.Tray.{emptyTray, trayDid}
+use Rattle.tray_run.specs.TrayRun.{trayLines, trayResultOf}
 use Rattle.text.specs.Text.{textOf, runText, mostOf, reportOf}
 use Rattle.text.proofs.Printed.{counts-within, session-text}
-use Rattle.trays.proofs.Turns.{did-fits}
+use Rattle.tray_run.proofs.Turns.{did-fits}
 use borrow.Author.Needs.{needs}
 use Rattle.tray.proofs.put_session.Statement.{statement}
 use Rattle.tray.proofs.put_session.Tie as tie

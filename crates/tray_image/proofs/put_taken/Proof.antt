@@ -4,8 +4,8 @@ use Prim.Native.Nat.{ℕ}
 use lib.ListN.{replicate, length-replicate}
 use denote.Ref.{now}
 use Rattle.runs.specs.declared.Outcome.the-variants.{Over, Short}
-use Rattle.slots.specs.Tray.{emptyTray, trayDid}
-use Rattle.trays.specs.Run.{trayResultOf}
+use Rattle.tray_record.specs.Tray.{emptyTray, trayDid}
+use Rattle.tray_run.specs.TrayRun.{trayResultOf}
 use Rattle.text.proofs.Ended.{Ended, ended}
 use Rattle.tray_image.proofs.Laws.{done, idle}
 use borrow.Author.Needs.{needs}

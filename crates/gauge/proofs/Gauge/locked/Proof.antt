@@ -1,7 +1,7 @@
 use mathlib.Core.Path.{_≡_, refl, _∙_}
 use Prim.Native.Nat.{ℕ}
 use Rattle.label.specs.Label.{commonLockedOf}
-use Rattle.stores.specs.Stores.{meterLockedOf}
+use Rattle.block1.specs.Block1.{meterLockedOf}
 use Rattle.gauge.specs.declared.Gauge.{Gauge}
 use Rattle.gauge.specs.Gauge.{lockedOf}
 use borrow.Author.Needs.{needs}

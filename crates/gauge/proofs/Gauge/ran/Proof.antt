@@ -3,8 +3,8 @@ use mathlib.Core.List.{List}
 use Prim.Native.Nat.{ℕ, _-_, min}
 use lib.ListN.{length, drop}
 use denote.Ref.{now}
-use Rattle.parts.specs.Parts.{part}
-use Rattle.parts.proofs.Laws.{part-rest, drop-lower}
+use Rattle.slices.specs.Slices.{part}
+use Rattle.slices.proofs.Laws.{part-rest, drop-lower}
 use Rattle.bus.specs.declared.Command.{Command}
 use Rattle.bus.specs.declared.Command.the-variants.{Write, Copy, Recall, Lock}
 use Rattle.bus.specs.declared.Transaction.{Transaction}

@@ -1,0 +1,39 @@
+use mathlib.Core.Path.{sym, _∙_}
+use Rattle.block1.specs.Block1.{cyclesWrittenOf}
+use borrow.Author.Needs.{needs}
+use Rattle.block1.proofs.cycles_written.Statement.{statement}
+use Rattle.block1.proofs.cycles_written.Tie as tie
+
+byte-for-requires : tie.Need-byte-for-requires
+byte-for-requires c κs =
+    let c3 = c .before .before .before in
+    let c4 = c3 .before in
+    sym (c4 .reaches .ensures) ∙ c3 .if1 .taken
+
+returns : tie.Need-returns
+unfolding cyclesWrittenOf
+returns c =
+    let c1 = c .before in
+    let c2 = c1 .before in
+    let c3 = c2 .before in
+    let c4 = c3 .before in
+    let c5 = c4 .before in
+    simp (sym (c5 .reaches .ensures) ∙ c4 .if1 .taken, sym (c3 .counts .ensures), sym (c2 .and-not .ensures) ∙ c1 .if2 .taken, c .byte-for .ensures)
+
+returns-2 : tie.Need-returns-2
+unfolding cyclesWrittenOf
+returns-2 c =
+    let c1 = c .before in
+    let c2 = c1 .before in
+    let c3 = c2 .before in
+    let c4 = c3 .before in
+    simp (sym (c4 .reaches .ensures) ∙ c3 .if1 .taken, sym (c2 .counts .ensures), sym (c1 .and-not .ensures) ∙ c .if2 .left)
+
+returns-3 : tie.Need-returns-3
+unfolding cyclesWrittenOf
+returns-3 c =
+    let c1 = c .before in
+    simp (sym (c1 .reaches .ensures) ∙ c .if1 .left)
+
+pub cycles-written-spec : {M : Type 1} → statement M
+cycles-written-spec = tie.close (tie.spec (λ c κs. search needs) (λ c κs. search needs) (λ c κs. search needs) byte-for-requires returns returns-2 returns-3)

@@ -1,0 +1,15 @@
+use Rattle.block1.specs.Block1.{meterLockedOf}
+use borrow.Author.Needs.{needs}
+use Rattle.block1.proofs.meter_locked.Statement.{statement}
+use Rattle.block1.proofs.meter_locked.Tie as tie
+
+returns : tie.Need-returns
+unfolding meterLockedOf
+returns c =
+    let w = c .before .before .before .pre in (
+      simp (c .before .before .locks-locked .ensures),
+      record { charge = w .charge; average = w .average; full = w .full; volt = w .volt; temp = w .temp },
+    )
+
+pub meter-locked-spec : {M : Type 1} → statement M
+meter-locked-spec = tie.close (tie.spec (λ c κs. search needs) returns)

@@ -1,0 +1,90 @@
+use mathlib.Core.Path.{_≡_, refl, sym, _∙_, ap}
+use mathlib.Core.Bool.{Bool, false}
+use mathlib.Core.List.{List}
+use Prim.Native.Nat.{ℕ}
+use denote.Ref.{now}
+use Rattle.state.specs.declared.Tick.{Tick}
+use Rattle.record.specs.declared.Kind.{Kind}
+use Rattle.record.specs.declared.Kind.the-variants as kind
+use Rattle.record.specs.declared.Taken.{Taken}
+use Rattle.record.specs.Record.{takenBy, timedOf, fittedOf}
+use Rattle.record.proofs.Fits.{Stateless, passes, transaction-timely, sample-fits}
+use borrow.Author.Needs.{needs}
+use Rattle.record.proofs.fitted_by.Statement.{statement}
+use Rattle.record.proofs.fitted_by.Tie as tie
+
+-- what an arm of the match gives, where the number stands for that kind
+arm : (room : ℕ) (last : Tick) (again loaded : Bool) (p : List ℕ) (said k : Kind) (r : Taken) → said ≡ k
+    → r ≡ fittedOf room (timedOf last (takenBy again k loaded p)) → r ≡ fittedOf room (timedOf last (takenBy again said loaded p))
+arm room last again loaded p said k r told given = given ∙ ap (λ (x : Kind). fittedOf room (timedOf last (takenBy again x loaded p))) (sym told)
+
+-- and one of which the state decides nothing
+stateless : (room : ℕ) (last : Tick) (again loaded : Bool) (p : List ℕ) (said k : Kind) (r : Taken) → said ≡ k → Stateless k
+    → r ≡ takenBy again k loaded p → r ≡ fittedOf room (timedOf last (takenBy again said loaded p))
+stateless room last again loaded p said k r told s given = arm room last again loaded p said k r told (given ∙ passes last again loaded p room k s)
+
+returns : tie.Need-returns
+returns c =
+    let a = c .before .before .before .before .before .args in
+    stateless (a .room) (a .last) (a .again) (a .loaded) (now (a .p)) _ _ _ (c .before .before .k .given .1) tt (c .image-taken .ensures)
+
+-- a reading is taken by whether an image was accepted
+read : (c : tie.After-reading-taken) → let a = c .before .before .before .before .args in c .reading-taken .result ≡ takenBy false kind.Reading (a .loaded) (now (a .p))
+read c = c .reading-taken .ensures
+
+returns-2 : tie.Need-returns-2
+returns-2 c =
+    let a = c .before .before .before .before .args in
+    stateless (a .room) (a .last) (a .again) (a .loaded) (now (a .p)) _ _ _ (c .before .enum-told .given .1) tt (read c)
+
+returns-3 : tie.Need-returns-3
+returns-3 c =
+    let a = c .before .before .before .before .args in
+    stateless (a .room) (a .last) (a .again) (a .loaded) (now (a .p)) _ _ _ (c .before .enum-told2 .given .1) tt (c .conversion-taken .ensures)
+
+returns-4 : tie.Need-returns-4
+returns-4 c =
+    let a = c .before .before .before .before .before .args in
+    arm (a .room) (a .last) (a .again) (a .loaded) (now (a .p)) _ _ _ (c .before .before .k2 .given .1)
+    (c .transaction-taken .ensures ∙ ap (fittedOf (a .room)) (transaction-timely (a .last) (a .again) (a .loaded) (now (a .p)) (c .before .before .k2 .given .0 .0)))
+
+returns-5 : tie.Need-returns-5
+returns-5 c =
+    let a = c .before .before .before .before .args in
+    stateless (a .room) (a .last) (a .again) (a .loaded) (now (a .p)) _ _ _ (c .before .enum-told3 .given .1) tt (c .power-on-taken .ensures)
+
+returns-6 : tie.Need-returns-6
+returns-6 c =
+    let a = c .before .before .before .before .args in
+    arm (a .room) (a .last) (a .again) (a .loaded) (now (a .p)) _ _ _ (c .before .enum-told4 .given .1)
+    (c .sample-taken .ensures ∙ sample-fits (a .last) (a .again) (a .loaded) (now (a .p)) (a .room))
+
+returns-7 : tie.Need-returns-7
+returns-7 c =
+    let a = c .before .before .before .args in
+    arm (a .room) (a .last) (a .again) (a .loaded) (now (a .p)) _ _ _ (c .enum-told5 .given .1) refl
+
+pub fitted-by-spec : {M : Type 1} → statement M
+fitted-by-spec =
+    tie.close
+    (tie.spec
+    (λ c. search needs)
+    (λ c κs. search needs)
+    (λ c. search needs)
+    (λ c κs. search needs)
+    (λ c. search needs)
+    (λ c κs. search needs)
+    (λ c. search needs)
+    (λ c κs. search needs)
+    (λ c. search needs)
+    (λ c κs. search needs)
+    (λ c. search needs)
+    (λ c κs. search needs)
+    (λ c. search needs)
+    returns
+    returns-2
+    returns-3
+    returns-4
+    returns-5
+    returns-6
+    returns-7)

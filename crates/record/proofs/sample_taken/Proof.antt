@@ -1,0 +1,31 @@
+use mathlib.Core.Path.{_≡_, sym, ap, _∙_}
+use denote.Ref.{now}
+use Rattle.slices.specs.Slices.{pairAt}
+use Rattle.ticks.specs.Ticks.{timelyOf}
+use borrow.Author.Tests.{eq-eqb, ne-eqb}
+use borrow.Author.Needs.{needs}
+use Rattle.record.proofs.sample_taken.Statement.{statement}
+use Rattle.record.proofs.sample_taken.Tie as tie
+
+-- the tick is that of the payload
+told : (c : tie.After-timely) → let a = c .before .before .before .before .before .before .before .args in timelyOf (a .last) (pairAt (now (a .p)) 4) ≡ c .timely .result
+told c = ap (timelyOf _) (sym (c .before .pair .ensures)) ∙ sym (c .timely .ensures)
+
+returns : tie.Need-returns
+returns c = simp (ne-eqb _ _ (c .if1 .taken))
+
+returns-2 : tie.Need-returns-2
+returns-2 c =
+    let c4 = c .before .before .before .before in
+    simp (eq-eqb _ _ (c4 .before .before .if1 .left), c4 .before .if2 .taken, c .before .before .before .offset32 .ensures, c4 .quad .ensures, c .before .before .pair .ensures, told (c .before) ∙ c .if3 .taken)
+
+returns-3 : tie.Need-returns-3
+returns-3 c =
+    let c4 = c .before .before .before .before in
+    simp (eq-eqb _ _ (c4 .before .before .if1 .left), c4 .before .if2 .taken, told (c .before) ∙ c .if3 .left)
+
+returns-4 : tie.Need-returns-4
+returns-4 c = simp (eq-eqb _ _ (c .before .if1 .left), c .if2 .left)
+
+pub sample-taken-spec : {M : Type 1} → statement M
+sample-taken-spec = tie.close (tie.spec returns (λ c κs. search needs) (λ c κs. search needs) (λ c κs. search needs) (λ c κs. search needs) returns-2 returns-3 returns-4)

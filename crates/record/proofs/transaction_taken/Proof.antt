@@ -1,0 +1,122 @@
+use mathlib.Core.Path.{_≡_, refl, sym, ap, _∙_}
+use mathlib.Core.Bool.{Bool, true, false}
+use mathlib.Core.List.{List}
+use Prim.Native.Nat.{ℕ, _+_, _≤_, _<_}
+use native.Mathlib.Omega.{arith}
+use borrow.Author.Tests.{le-leb, lt-leb, lt-ltb, le-ltb}
+use denote.Ref.{now}
+use lib.Dec.{ltb}
+use lib.ListN.{length, drop}
+use Rattle.slices.proofs.Laws.{part-rest}
+use Rattle.bus.specs.declared.Transaction.{Transaction}
+use Rattle.bus.specs.Ask.{askedOf}
+use Rattle.bus.proofs.Laws.{asked-placed}
+use Rattle.record.specs.declared.Form.{Form}
+use Rattle.record.specs.declared.Kind.the-variants as kind
+use Rattle.record.specs.declared.Refusal.the-variants as refusal
+use Rattle.record.specs.declared.Event.the-variants.{Transact}
+use Rattle.record.specs.declared.Taken.{Taken}
+use Rattle.record.specs.declared.Taken.the-variants.{Run, Refused}
+use Rattle.record.specs.Record.{headOf, limitOf, readCount, transactionIn, takenBy, fittedOf}
+use borrow.Author.Needs.{needs}
+use Rattle.record.proofs.transaction_taken.Statement.{statement}
+use Rattle.record.proofs.transaction_taken.Tie as tie
+
+-- what each test leaves, by the form's numbers as the code has them
+module _ (f : Form) (loaded : Bool) (room : ℕ) (p : List ℕ) {start most : ℕ} (es : start ≡ headOf f) (em : most ≡ limitOf f) where
+  abbrev Gives : Taken → Type 0
+  Gives t = t ≡ fittedOf room (takenBy false (kind.Transaction f) loaded p)
+
+  short : length p < start → Gives (Refused refusal.Size)
+  short h = let few : length p < headOf f = omega (arith, es) in rw (lt-leb _ _ few) refl
+
+  module _ (some : start ≤ length p) where
+    enough : headOf f ≤ length p
+    enough = omega (arith, es)
+
+    long : start + most < length p → Gives (Refused refusal.Size)
+    long h = let many : headOf f + limitOf f < length p = omega (arith, es, em) in rw (le-leb _ _ enough, lt-leb _ _ many) refl
+
+    module _ (fits : length p ≤ start + most) where
+      within : length p ≤ headOf f + limitOf f
+      within = omega (arith, es, em)
+
+      early : loaded ≡ false → Gives (Refused refusal.Order)
+      early none = rw (le-leb _ _ enough, le-leb _ _ within, none) refl
+
+      module _ (there : loaded ≡ true) {n : ℕ} (en : n ≡ readCount f p) where
+        over : most < n → Gives (Refused refusal.Count)
+        over h =
+            let many : limitOf f < readCount f p = omega (arith, en, em) in
+            rw (le-leb _ _ enough, le-leb _ _ within, there, lt-leb _ _ many) refl
+
+        module _ (few : n ≤ most) where
+          counted : readCount f p ≤ limitOf f
+          counted = omega (arith, en, em)
+
+          asks : transactionIn f p .count ≡ n
+          asks = asked-placed (headOf f) (readCount f p) (drop (headOf f) p) .counts ∙ sym en
+
+          full : room < n → Gives (Refused refusal.Room)
+          full h = rw (le-leb _ _ enough, le-leb _ _ within, there, le-leb _ _ counted, asks, lt-ltb _ _ h) refl
+
+          taken : n ≤ room → {t : Transaction} {master : List ℕ} → t ≡ askedOf start n master → master ≡ drop start p → Gives (Run (Transact t))
+          taken h {t} e m =
+              let same : t ≡ transactionIn f p = e ∙ (λ i. askedOf (es i) (en i) ((m ∙ ap (λ (x : ℕ). drop x p) es) i)) in
+              let roomy : ltb room (transactionIn f p .count) ≡ false = rw asks (le-ltb _ _ h) in
+              rw (le-leb _ _ enough, le-leb _ _ within, there, le-leb _ _ counted, roomy) (ap (λ (x : Transaction). Run (Transact x)) same)
+
+returns : tie.Need-returns
+returns c =
+    let a = c .before .before .before .before .args in
+    short (a .f) (a .loaded) (a .room) (now (a .p)) (c .before .before .head .ensures .0) (c .before .limit .ensures .0) (c .if1 .taken)
+
+returns-2 : tie.Need-returns-2
+returns-2 c =
+    let a = c .before .before .before .before .before .args in
+    long (a .f) (a .loaded) (a .room) (now (a .p)) (c .before .before .before .head .ensures .0) (c .before .before .limit .ensures .0) (c .before .if1 .left) (c .if2 .taken)
+
+returns-3 : tie.Need-returns-3
+returns-3 c =
+    let a = c .before .before .before .before .before .before .before .before .args in
+    over (a .f) (a .loaded) (a .room) (now (a .p)) (c .before .before .before .before .before .before .head .ensures .0) (c .before .before .before .before .before .limit .ensures .0) (c .before .before .before .before .if1 .left) (c .before .before .before .if2 .left) (c .before .before .if3 .taken) (c .before .read-count .ensures) (c .if4 .taken)
+
+returns-4 : tie.Need-returns-4
+returns-4 c =
+    let a = c .before .before .before .before .before .before .before .before .before .args in
+    full (a .f) (a .loaded) (a .room) (now (a .p)) (c .before .before .before .before .before .before .before .head .ensures .0) (c .before .before .before .before .before .before .limit .ensures .0) (c .before .before .before .before .before .if1 .left) (c .before .before .before .before .if2 .left) (c .before .before .before .if3 .taken) (c .before .before .read-count .ensures) (c .before .if4 .left) (c .if5 .taken)
+
+returns-5 : tie.Need-returns-5
+returns-5 c =
+    let a = c .before .before .before .before .before .before .before .before .before .before .before .args in
+    taken (a .f) (a .loaded) (a .room) (now (a .p)) (c .before .before .before .before .before .before .before .before .before .head .ensures .0) (c .before .before .before .before .before .before .before .before .limit .ensures .0) (c .before .before .before .before .before .before .before .if1 .left) (c .before .before .before .before .before .before .if2 .left) (c .before .before .before .before .before .if3 .taken) (c .before .before .before .before .read-count .ensures) (c .before .before .before .if4 .left) (c .before .before .if5 .left)
+    (c .asked .ensures) (part-rest (now (a .p)) _)
+
+returns-6 : tie.Need-returns-6
+returns-6 c =
+    let a = c .before .before .before .before .before .before .args in
+    early (a .f) (a .loaded) (a .room) (now (a .p)) (c .before .before .before .before .head .ensures .0) (c .before .before .before .limit .ensures .0) (c .before .before .if1 .left) (c .before .if2 .left) (c .if3 .left)
+
+read-count-requires : tie.Need-read-count-requires
+read-count-requires c κs = omega (arith, c .before .before .before .before .head .ensures .0, c .before .before .if1 .left)
+
+pub transaction-taken-spec : {M : Type 1} → statement M
+transaction-taken-spec =
+    tie.close
+    (tie.spec
+    (λ c κs. search needs)
+    (λ c κs. search needs)
+    returns
+    (λ c. search needs)
+    returns-2
+    read-count-requires
+    (λ c. search needs)
+    returns-3
+    returns-4
+    (λ c. search needs)
+    (λ c. search needs)
+    (λ c. search needs)
+    (λ c. search needs)
+    (λ c κs. search needs)
+    returns-5
+    returns-6)

@@ -1,0 +1,35 @@
+-- The contracts of this crate's public functions leave no choice.
+use mathlib.Core.Path.{refl, sym, ap, _∙_}
+use lib.ListN.{length}
+use denote.Ref.{now}
+use Rattle.once.specs.Once.{Once}
+use Rattle.runs.specs.Run.{Result, outcomeOf}
+use Rattle.runs.proofs.Ends.{runs-same}
+use Rattle.steps.specs.declared.Session.{Session}
+use Rattle.steps.specs.Step.{didOf}
+use Rattle.session_run.specs.declared.Ran.{Ran}
+use Rattle.session_run.specs.SessionRun.{emptyOf, resultOf}
+use Rattle.session_run.proofs.empty
+use Rattle.session_run.proofs.run
+use Rattle.session_run.proofs.take_out
+use Rattle.session_run.proofs.image_size
+
+pub empty-once : Once empty.ended empty.Reads.Pre empty.Reads.Learnt
+empty-once κs a r r′ w w′ p h h′ = (h .0 ∙ sym (h′ .0), refl)
+
+ran-of : Result Session → Ran
+ran-of r = record { outcome = r .outcome; session = r .state; lines = r .lines; replied = r .replied }
+
+pub run-once : Once run.ended run.Reads.Pre run.Reads.Learnt
+unfolding ran-of
+run-once κs a r r′ w w′ p h h′ =
+    let o = outcomeOf (length (now (a .0))) (length (now (a .1 .1 .0))) in
+    let e =
+    runs-same didOf emptyOf (now (a .0)) (now (a .1 .0)) (now (a .1 .1 .0)) (resultOf r) (resultOf r′) (w .1 .0) (w′ .1 .0) (w .1 .1 .0) (w′ .1 .1 .0) o h h′ in
+    (ap ran-of (e .0), λ i. (tt, (e .1 i, (e .2 i, tt))))
+
+pub take-out-once : Once «take_out».ended «take_out».Reads.Pre «take_out».Reads.Learnt
+take-out-once κs a r r′ w w′ p h h′ = (h .number ∙ sym (h′ .number), λ i. (tt, ((h .written ∙ sym (h′ .written)) i, tt)))
+
+pub image-size-once : Once «image_size».ended «image_size».Reads.Pre «image_size».Reads.Learnt
+image-size-once κs a r r′ w w′ p h h′ = (h ∙ sym h′, refl)

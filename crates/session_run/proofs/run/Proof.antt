@@ -1,0 +1,34 @@
+use mathlib.Core.Path.{refl, sym, _∙_}
+use Rattle.runs.proofs.Ends.{done-within}
+use borrow.Author.Needs.{needs}
+use Rattle.session_run.proofs.run.Statement.{statement}
+use Rattle.session_run.proofs.run.Tie as tie
+
+run-all-requires : tie.Need-run-all-requires
+run-all-requires c κs = done-within _ _ (sym (c .before .before .before .before .outcome-of .ensures) ∙ c .before .before .enum-told .given .1)
+
+returns : tie.Need-returns
+returns c = rw (sym (c .before .before .before .before .before .before .before .before .before .outcome-of .ensures) ∙ c .before .before .before .before .before .before .before .enum-told .given .1) (c .before .before .before .before .run-all .ensures)
+
+returns-2 : tie.Need-returns-2
+returns-2 c = rw (sym (c .before .before .before .outcome-of .ensures) ∙ c .before .enum-told2 .given .1, c .idle .ensures) (record { number = refl; result = refl; replies = refl; answered = refl })
+
+returns-3 : tie.Need-returns-3
+returns-3 c = rw (sym (c .before .before .before .outcome-of .ensures) ∙ c .before .enum-told3 .given .1, c .idle2 .ensures) (record { number = refl; result = refl; replies = refl; answered = refl })
+
+pub run-spec : {M : Type 1} → statement M
+run-spec =
+    tie.close
+    (tie.spec
+    (λ c κs. search needs)
+    (λ c. search needs)
+    run-all-requires
+    (λ c. search needs)
+    (λ c κs. search needs)
+    (λ c. search needs)
+    (λ c κs. search needs)
+    (λ c. search needs)
+    (λ c. search needs)
+    returns
+    returns-2
+    returns-3)

@@ -1,0 +1,283 @@
+-- Each turn of the loop takes one record, and what is still to come is the rest of the whole.
+use mathlib.Core.Path.{refl, sym, ap, _∙_}
+use mathlib.Core.Logic.{⊎-elim}
+use Prim.Native.Nat.{_-_, _<_}
+use native.Mathlib.Omega.{arith}
+use lib.ListN.{length, length-set}
+use denote.Ref.{now}
+use Rattle.slices.specs.Slices.{part}
+use Rattle.slices.proofs.Laws.{part-rest}
+use Rattle.record.specs.declared.Event.the-variants.{Change}
+use Rattle.runs.proofs.Going.{going-start, going-end, going-slot, going-more}
+use Rattle.steps.specs.declared.Asked.the-variants.{Run}
+use Rattle.steps.specs.Step.{SessionWF, ofSession, didOf}
+use Rattle.steps.proofs.Steps.{did-fits, session-replying}
+use Rattle.steps.proofs.Fronts.{Front, front, ran}
+use Rattle.steps.proofs.Turns.{master-starts, room-left, front-fits, front-within, whole-more, ended-cut, First, Later}
+use Rattle.session_run.specs.SessionRun.{emptyOf}
+use Rattle.session_run.proofs.Turns.{did-same, Turn, Stands, ran-taking, turn-idle, turn-silent, turn-reply}
+use borrow.Author.Needs.{needs}
+use Rattle.session_run.proofs.run_all.Statement.{statement}
+use Rattle.session_run.proofs.run_all.Tie as tie
+
+abbrev Inv-loop : tie.InvT-loop
+Inv-loop s room₀ answers₀ loaded₀ gauge₀ at₀ used₀ lines₀ room answers loaded gauge at used lines =
+    Stands emptyOf s room₀ answers₀ loaded gauge at used lines room answers
+
+abbrev μ-loop : tie.MeasureT-loop
+μ-loop s room₀ answers₀ loaded₀ gauge₀ at₀ used₀ lines₀ room answers loaded gauge at used lines = length s - at
+
+-- some bytes are left where the loop goes on
+more : (c : tie.Then1 Inv-loop μ-loop) → c .before .before .before .loop .at < length (now (c .before .before .before .before .before .before .before .before .before .args .s))
+more c =
+    let l = c .before .before .before in
+    whole-more (now (l .before .before .before .before .before .before .args .s)) (l .loop .at) (sym (c .before .whole .ensures) ∙ c .if1 .taken)
+
+-- what was read of the record at the front
+at-front : (c : tie.After-front Inv-loop μ-loop) → let l = c .before .before .before .before .before .loop in let s = now (c .before .before .before .before .before .before .before .before .before .before .before .args .s) in
+    Front ofSession (record { loaded = l .loaded; gauge = l .gauge }) (length (l .room) - l .used) (part (length s - l .at) s (l .at)) (c .front .result)
+at-front c = front ofSession session-replying _ _ _ (c .front .ensures)
+
+-- what each arm of the match leaves
+module _ (c : tie.At-match-came Inv-loop μ-loop) where
+  abbrev turn : Type 0
+  turn =
+      let l = c .before .before .before .before .before .before .before .loop in
+      let s = now (c .before .before .before .before .before .before .before .before .before .before .before .before .before .args .s) in
+      Turn (record { loaded = l .loaded; gauge = l .gauge }) (l .room) (l .used) (part (length s - l .at) s (l .at)) (c .match .loaded) (c .match .gauge) (c .match .room) (c .match .used) (c .match .line)
+
+  turned-none : First (c .match .came) → turn
+  turned-none w = turn-idle (at-front (c .before .before)) (w .1 .given .1) (c .before .before .before .before .before .before .before .loop .inv .wf .gauge) (w .3) (w .4) (w .2) (w .5) (w .6 ∙ c .before .code .ensures)
+
+  turned-image : (x : Later (c .match .came)) → First x → turn
+  turned-image x w =
+      let f = at-front (c .before .before) in
+      turn-silent f (w .7 .ensures .1) (w .9) (w .10) (ran ofSession f (w .1 .given .1 ∙ ap Run (w .4 .given .1))) (w .7 .ensures .0) refl (w .8) (w .11) (w .12 ∙ c .before .code .ensures)
+
+  turned-reading : (x : Later (c .match .came)) (y : Later x) → First y → turn
+  turned-reading x y w =
+      let f = at-front (c .before .before) in
+      turn-silent f (w .9 .ensures .1) (w .11) (w .12) (ran ofSession f (w .1 .given .1 ∙ ap Run (w .4 .given .1 ∙ ap Change (w .7 .given .1)))) (w .9 .ensures .0) refl (w .10) (w .13) (w .14 ∙ c .before .code .ensures)
+
+  turned-conversion : (x : Later (c .match .came)) (y : Later x) (z : Later y) → First z → turn
+  turned-conversion x y z w =
+      let f = at-front (c .before .before) in
+      turn-silent f (w .9 .ensures .1) (w .11) (w .12) (ran ofSession f (w .1 .given .1 ∙ ap Run (w .4 .given .1 ∙ ap Change (w .7 .given .1)))) (w .9 .ensures .0) refl (w .10) (w .13) (w .14 ∙ c .before .code .ensures)
+
+  turned-sample : (x : Later (c .match .came)) (y : Later x) (z : Later y) (v : Later z) → First v → turn
+  turned-sample x y z v w =
+      let f = at-front (c .before .before) in
+      turn-silent f (w .9 .ensures .1) (w .11) (w .12) (ran ofSession f (w .1 .given .1 ∙ ap Run (w .4 .given .1 ∙ ap Change (w .7 .given .1)))) (w .9 .ensures .0) refl (w .10) (w .13) (w .14 ∙ c .before .code .ensures)
+
+  turned-power-on : (x : Later (c .match .came)) (y : Later x) (z : Later y) (v : Later z) (u : Later v) → First u → turn
+  turned-power-on x y z v u w =
+      let f = at-front (c .before .before) in
+      turn-silent f (w .8 .ensures .1) (w .10) (w .11) (ran ofSession f (w .1 .given .1 ∙ ap Run (w .4 .given .1 ∙ ap Change (w .7 .given .1)))) (w .8 .ensures .0) refl (w .9) (w .12) (w .13 ∙ c .before .code .ensures)
+
+  turned-transaction : (x : Later (c .match .came)) (y : Later x) (z : Later y) (v : Later z) (u : Later v) → Later u → turn
+  turned-transaction x y z v u w =
+      let g = c .before .before .before .before .before .before .before .loop .inv in
+      let f = at-front (c .before .before) in
+      turn-reply f (w .9 .ensures .1 .1) (w .15) (w .16) (ran ofSession f (w .1 .given .1 ∙ ap Run (w .4 .given .1))) (omega (arith, g .going .used-fits, g .going .same-room)) (w .9 .ensures .0) (w .9 .ensures .1 .0) (w .14) (w .17) (w .18 ∙ w .13 .ensures)
+
+  turned : turn
+  turned =
+      ⊎-elim turned-none
+      (λ x. ⊎-elim (turned-image x)
+      (λ y. ⊎-elim (turned-reading x y)
+      (λ z. ⊎-elim (turned-conversion x y z)
+      (λ v. ⊎-elim (turned-sample x y z v)
+      (λ u. ⊎-elim (turned-power-on x y z v u) (turned-transaction x y z v u) u) v) z) y) x) (c .match .came)
+
+loop-holds : tie.Need-loop-holds Inv-loop μ-loop
+loop-holds c = rw (c .before .empty .ensures .0) (record { going = going-start didOf emptyOf _ _ _; wf = rw (c .before .empty .ensures .0) at (c .before .empty .ensures .1) })
+
+sub-l : tie.Need-sub-l Inv-loop μ-loop
+sub-l c = omega (arith, c .before .before .before .loop .inv .going .at-fits)
+
+part-l-start : tie.Need-part-l-start Inv-loop μ-loop
+part-l-start c = omega (arith, c .before .before .before .loop .inv .going .at-fits)
+
+part-l-end : tie.Need-part-l-end Inv-loop μ-loop
+part-l-end c = omega (arith, c .before .before .before .loop .inv .going .at-fits)
+
+sub-front : tie.Need-sub-front Inv-loop μ-loop
+sub-front c = omega (arith, c .before .before .before .before .loop .inv .going .used-fits, c .before .before .before .before .loop .inv .going .same-room)
+
+add-at : tie.Need-add-at Inv-loop μ-loop
+add-at c = omega (arith, front-within ofSession didOf did-same SessionWF (c .before .before .before .before .before .before .loop .inv) (more (c .before .before .before)) (at-front (c .before)) .0, c .before .before .before .before .before .before .loop .inv .going .at-fits, c .before .before .before .before .before .before .before .before .before .before .before .before .pre .0)
+
+sub-image-in : tie.Need-sub-image-in Inv-loop μ-loop
+sub-image-in c = omega (arith, ran ofSession (at-front (c .before .before .before .before .before .before .before)) (c .before .before .before .before .asked .given .1) .head)
+
+part-image-in-start : tie.Need-part-image-in-start Inv-loop μ-loop
+part-image-in-start c = omega (arith, ran ofSession (at-front (c .before .before .before .before .before .before .before)) (c .before .before .before .before .asked .given .1) .head)
+
+part-image-in-end : tie.Need-part-image-in-end Inv-loop μ-loop
+part-image-in-end c = omega (arith, front-fits ofSession didOf did-same SessionWF (c .before .before .before .before .before .before .before .before .before .before .before .before .loop .inv) (more (c .before .before .before .before .before .before .before .before .before)) (at-front (c .before .before .before .before .before .before .before)))
+
+image-in-requires : tie.Need-image-in-requires Inv-loop μ-loop
+image-in-requires c κs = ran-taking (ran ofSession (at-front (c .before .before .before .before .before .before .before .before)) (c .before .before .before .before .before .asked .given .1 ∙ ap Run (c .before .before .e .given .1))) .2
+
+read-requires : tie.Need-read-requires Inv-loop μ-loop
+read-requires c κs = c .before .before .before .before .before .before .before .before .before .before .before .before .before .before .before .loop .inv .wf .gauge
+
+convert-requires : tie.Need-convert-requires Inv-loop μ-loop
+convert-requires c κs = c .before .before .before .before .before .before .before .before .before .before .before .before .before .before .before .loop .inv .wf .gauge
+
+sample-requires : tie.Need-sample-requires Inv-loop μ-loop
+sample-requires c κs = c .before .before .before .before .before .before .before .before .before .before .before .before .before .before .before .loop .inv .wf .gauge
+
+add-from : tie.Need-add-from Inv-loop μ-loop
+add-from c = omega (arith, ran-taking (ran ofSession (at-front (c .before .before .before .before .before .before .before .before)) (c .before .before .before .before .before .asked .given .1 ∙ ap Run (c .before .before .e3 .given .1))) .1 .near)
+
+sub-transact : tie.Need-sub-transact Inv-loop μ-loop
+sub-transact c =
+    let x = ran ofSession (at-front (c .before .before .before .before .before .before .before .before)) (c .before .before .before .before .before .asked .given .1 ∙ ap Run (c .before .before .e3 .given .1)) in
+    omega (arith, master-starts ofSession x (ran-taking x .1))
+
+part-transact-start : tie.Need-part-transact-start Inv-loop μ-loop
+part-transact-start c =
+    let x = ran ofSession (at-front (c .before .before .before .before .before .before .before .before)) (c .before .before .before .before .before .asked .given .1 ∙ ap Run (c .before .before .e3 .given .1)) in
+    omega (arith, master-starts ofSession x (ran-taking x .1))
+
+part-transact-end : tie.Need-part-transact-end Inv-loop μ-loop
+part-transact-end c = omega (arith, front-fits ofSession didOf did-same SessionWF (c .before .before .before .before .before .before .before .before .before .before .before .before .before .loop .inv) (more (c .before .before .before .before .before .before .before .before .before .before)) (at-front (c .before .before .before .before .before .before .before .before)))
+
+sub-transact-2 : tie.Need-sub-transact-2 Inv-loop μ-loop
+sub-transact-2 c = omega (arith, c .before .before .before .before .before .before .before .before .before .before .before .before .before .before .loop .inv .going .used-fits, c .before .before .before .before .before .before .before .before .before .before .before .before .before .before .loop .inv .going .same-room)
+
+part-transact-start-2 : tie.Need-part-transact-start-2 Inv-loop μ-loop
+part-transact-start-2 c = omega (arith, c .before .before .before .before .before .before .before .before .before .before .before .before .before .before .loop .inv .going .used-fits, c .before .before .before .before .before .before .before .before .before .before .before .before .before .before .loop .inv .going .same-room)
+
+part-transact-end-2 : tie.Need-part-transact-end-2 Inv-loop μ-loop
+part-transact-end-2 c = omega (arith, c .before .before .before .before .before .before .before .before .before .before .before .before .before .before .loop .inv .going .used-fits, c .before .before .before .before .before .before .before .before .before .before .before .before .before .before .loop .inv .going .same-room)
+
+transact-requires : tie.Need-transact-requires Inv-loop μ-loop
+transact-requires c κs =
+    let l = c .before .before .before .before .before .before .before .before .before .before .before .before .before .before .before .loop in
+    let x = ran ofSession (at-front (c .before .before .before .before .before .before .before .before .before .before)) (c .before .before .before .before .before .before .before .asked .given .1 ∙ ap Run (c .before .before .before .before .e3 .given .1)) in
+    (l .inv .wf .gauge, omega (arith, x .held, room-left (l .room) (l .used)))
+
+add-used : tie.Need-add-used Inv-loop μ-loop
+add-used c = omega (arith, ran ofSession (at-front (c .before .before .before .before .before .before .before .before .before .before .before .before .before .before)) (c .before .before .before .before .before .before .before .before .before .before .before .asked .given .1 ∙ ap Run (c .before .before .before .before .before .before .before .before .e3 .given .1)) .held, c .before .before .before .before .before .before .before .before .before .before .before .before .before .before .before .before .before .before .before .loop .inv .going .used-fits, c .before .before .before .before .before .before .before .before .before .before .before .before .before .before .before .before .before .before .before .loop .inv .going .same-room, c .before .before .before .before .before .before .before .before .before .before .before .before .before .before .before .before .before .before .before .before .before .before .before .before .before .good .1 .0)
+
+mul-answers : tie.Need-mul-answers Inv-loop μ-loop
+mul-answers c = omega (arith, c .before .before .before .before .before .before .before .loop .inv .going .slots (more (c .before .before .before .before)), c .before .before .before .before .before .before .before .loop .inv .going .at-fits, c .before .before .before .before .before .before .before .before .before .before .before .before .before .pre .0)
+
+slice-write-answers : tie.Need-slice-write-answers Inv-loop μ-loop
+slice-write-answers c = going-slot didOf emptyOf (c .before .before .before .before .before .before .before .loop .inv .going) (more (c .before .before .before .before)) (c .before .before .before .before .before .before .before .before .before .before .before .before .before .pre .1)
+
+add-lines : tie.Need-add-lines Inv-loop μ-loop
+add-lines c = omega (arith, c .before .before .before .before .before .before .before .loop .inv .going .slots (more (c .before .before .before .before)), c .before .before .before .before .before .before .before .loop .inv .going .at-fits, c .before .before .before .before .before .before .before .before .before .before .before .before .before .pre .0)
+
+loop-less : tie.Need-loop-less Inv-loop μ-loop
+loop-less c = omega (arith, front-within ofSession didOf did-same SessionWF (c .before .before .before .before .before .before .before .loop .inv) (more (c .before .before .before .before)) (at-front (c .before .before)), c .before .before .before .before .before .before .before .loop .inv .going .at-fits)
+
+loop-again : tie.Need-loop-again Inv-loop μ-loop
+loop-again c =
+    let t = turned c in
+    record { going = going-more didOf emptyOf (c .before .before .before .before .before .before .before .loop .inv .going) (more (c .before .before .before .before)) did-fits (part-rest (now (c .before .before .before .before .before .before .before .before .before .before .before .before .before .args .s)) (c .before .before .before .before .before .before .before .loop .at)) (at-front (c .before .before) .used) (t .left); wf = t .kept }
+
+slots-left : (c : tie.Else1 Inv-loop μ-loop) → let l = c .before .before .before .loop in let a = c .before .before .before .before .before .before .before .before .before in
+    l .at < length (now (a .args .s)) → l .lines < length (l .answers)
+slots-left c h = going-slot didOf emptyOf (c .before .before .before .loop .inv .going) h (c .before .before .before .before .before .before .before .before .before .pre .1)
+
+mul-answers-2 : tie.Need-mul-answers-2 Inv-loop μ-loop
+mul-answers-2 c =
+    let l = c .before .before .before .before .before .loop in
+    omega (arith, l .inv .going .slots (c .before .if2 .taken), l .inv .going .at-fits, c .before .before .before .before .before .before .before .before .before .before .before .pre .0)
+
+slice-write-answers-2 : tie.Need-slice-write-answers-2 Inv-loop μ-loop
+slice-write-answers-2 c = slots-left (c .before .before) (c .before .if2 .taken)
+
+add-lines-2 : tie.Need-add-lines-2 Inv-loop μ-loop
+add-lines-2 c =
+    let l = c .before .before .before .before .before .loop in
+    omega (arith, l .inv .going .slots (c .before .if2 .taken), l .inv .going .at-fits, c .before .before .before .before .before .before .before .before .before .before .before .pre .0)
+
+same-length : tie.Need-same-length Inv-loop μ-loop
+same-length c = c .before .before .before .before .before .loop .inv .going .same-room
+
+same-length-2 : tie.Need-same-length-2 Inv-loop μ-loop
+same-length-2 c =
+    let l = c .before .before .before .before .before .loop in
+    length-set (l .answers) (l .lines) (c .code3 .result) ∙ l .inv .going .same-answers
+
+returns : tie.Need-returns Inv-loop μ-loop
+returns c =
+    let d = c .before .before in
+    ended-cut ofSession didOf did-same SessionWF did-fits session-replying (d .before .before .before .loop .inv) (c .before .if2 .taken) (sym (d .before .whole .ensures) ∙ d .if1 .left) (c .code3 .ensures)
+
+same-length-3 : tie.Need-same-length-3 Inv-loop μ-loop
+same-length-3 c = c .before .before .before .before .loop .inv .going .same-room
+
+same-length-4 : tie.Need-same-length-4 Inv-loop μ-loop
+same-length-4 c = c .before .before .before .before .loop .inv .going .same-answers
+
+returns-2 : tie.Need-returns-2 Inv-loop μ-loop
+returns-2 c = going-end didOf emptyOf (c .before .before .before .before .loop .inv .going) (c .if2 .left)
+
+pub run-all-spec : {M : Type 1} → statement M
+run-all-spec =
+    tie.close
+    (tie.spec
+    Inv-loop
+    μ-loop
+    (λ c κs. search needs)
+    loop-holds
+    (λ c. omega (arith, c .loop .inv .going .at-fits))
+    (λ c. omega (arith, c .loop .inv .going .at-fits))
+    (λ c. omega (arith, c .loop .inv .going .at-fits))
+    (λ c κs. search needs)
+    sub-l
+    part-l-start
+    part-l-end
+    sub-front
+    (λ c κs. search needs)
+    (λ c κs. search needs)
+    add-at
+    (λ c. search needs)
+    (λ c. search needs)
+    (λ c. search needs)
+    sub-image-in
+    part-image-in-start
+    part-image-in-end
+    image-in-requires
+    (λ c. search needs)
+    (λ c. search needs)
+    read-requires
+    (λ c. search needs)
+    convert-requires
+    (λ c. search needs)
+    sample-requires
+    (λ c. search needs)
+    (λ c κs. search needs)
+    (λ c. search needs)
+    (λ c. search needs)
+    add-from
+    sub-transact
+    part-transact-start
+    part-transact-end
+    sub-transact-2
+    part-transact-start-2
+    part-transact-end-2
+    transact-requires
+    (λ c. search needs)
+    add-used
+    (λ c κs. search needs)
+    mul-answers
+    slice-write-answers
+    add-lines
+    loop-less
+    loop-again
+    (λ c κs. search needs)
+    mul-answers-2
+    slice-write-answers-2
+    add-lines-2
+    same-length
+    same-length-2
+    returns
+    same-length-3
+    same-length-4
+    returns-2)

@@ -1,0 +1,73 @@
+use mathlib.Core.Path.{_≡_, refl, sym, ap, _∙_}
+use mathlib.Core.Bool.{Bool}
+use mathlib.Core.List.{List}
+use Prim.Native.Nat.{ℕ, _≤_, _<_}
+use denote.Ref.{now}
+use native.Mathlib.Omega.{arith}
+use Rattle.record.specs.declared.Kind.{Kind}
+use Rattle.tray_record.specs.Tray.{aheadOf, acceptedFor}
+use borrow.Author.Needs.{needs}
+use Rattle.tray_record.proofs.accepted.Statement.{statement}
+use Rattle.tray_record.proofs.accepted.Tie as tie
+
+-- a kind with a slot byte ahead has that byte
+first : (n : ℕ) (said k : Kind) → aheadOf said ≤ n → said ≡ k → aheadOf k ≡ 1 → 0 < n
+first n said k fits told one = omega (arith, ap aheadOf told)
+
+-- what the kind at hand says is what the kind says
+accept : (said k : Kind) (count : ℕ) (closed : Bool) (p : List ℕ) → said ≡ k → acceptedFor count closed k p ≡ acceptedFor count closed said p
+accept said k count closed p told = ap (λ (x : Kind). acceptedFor count closed x p) (sym told)
+
+shared-slice-read-result : tie.Need-shared-slice-read-result
+shared-slice-read-result c = let d = c .before .before .before .before in first _ _ _ (d .pre) (c .before .enum-told2 .given .1) refl
+
+shared-slice-read-result-2 : tie.Need-shared-slice-read-result-2
+shared-slice-read-result-2 c = let d = c .before .before .before .before in first _ _ _ (d .pre) (c .before .enum-told3 .given .1) refl
+
+shared-slice-read-result-3 : tie.Need-shared-slice-read-result-3
+shared-slice-read-result-3 c = let d = c .before .before .before .before in first _ _ _ (d .pre) (c .before .enum-told5 .given .1) refl
+
+shared-slice-read-result-4 : tie.Need-shared-slice-read-result-4
+shared-slice-read-result-4 c = let d = c .before .before .before .before in first _ _ _ (d .pre) (c .before .enum-told6 .given .1) refl
+
+returns : tie.Need-returns
+returns c = let a = c .before .before .before .before .args in c .or .ensures ∙ accept _ _ (a .count) (a .closed) (now (a .p)) (c .before .enum-told .given .1)
+
+returns-2 : tie.Need-returns-2
+returns-2 c = let a = c .before .before .before .before .args in accept _ _ (a .count) (a .closed) (now (a .p)) (c .before .enum-told2 .given .1)
+
+returns-3 : tie.Need-returns-3
+returns-3 c = let a = c .before .before .before .before .args in accept _ _ (a .count) (a .closed) (now (a .p)) (c .before .enum-told3 .given .1)
+
+returns-4 : tie.Need-returns-4
+returns-4 c = let a = c .before .before .before .args in accept _ _ (a .count) (a .closed) (now (a .p)) (c .enum-told4 .given .1)
+
+returns-5 : tie.Need-returns-5
+returns-5 c = let a = c .before .before .before .before .args in accept _ _ (a .count) (a .closed) (now (a .p)) (c .before .enum-told5 .given .1)
+
+returns-6 : tie.Need-returns-6
+returns-6 c = let a = c .before .before .before .before .args in accept _ _ (a .count) (a .closed) (now (a .p)) (c .before .enum-told6 .given .1)
+
+pub accepted-spec : {M : Type 1} → statement M
+accepted-spec =
+    tie.close
+    (tie.spec
+    (λ c. search needs)
+    (λ c κs. search needs)
+    (λ c. search needs)
+    shared-slice-read-result
+    (λ c. search needs)
+    shared-slice-read-result-2
+    (λ c. search needs)
+    (λ c. search needs)
+    shared-slice-read-result-3
+    (λ c. search needs)
+    shared-slice-read-result-4
+    (λ c. search needs)
+    returns
+    returns-2
+    returns-3
+    returns-4
+    returns-5
+    returns-6
+    (λ c. search needs))

@@ -1,0 +1,349 @@
+// One record of a tray, read; the search over its packs; and a transaction that every pack hears.
+use bus::Rom;
+use bus::Transaction;
+use gauge::Gauge;
+use record::Form;
+use record::IMAGE_SIZE;
+use record::Kind;
+use record::Refusal;
+use record::Taken;
+use state::Common;
+use state::Label;
+use state::Meter;
+use state::Profile;
+use state::Tick;
+use steps::Record;
+ghost use mathlib.Core.Path.{_≡_};
+ghost use mathlib.Core.List.{_++_};
+ghost use Prim.Native.Nat.{_≤_, _<_};
+ghost use lib.ListN.{length, drop};
+ghost use Rattle.gauge.specs.Gauge.{GaugeWF};
+ghost use Rattle.gauge.specs.Act.{actOf, replyOf};
+ghost use Rattle.record.specs.Record.{fittedOf};
+ghost use Rattle.steps.specs.Steps.{frontBy};
+ghost use Rattle.tray_record.specs.Wire.{andBytes};
+ghost use Rattle.tray_record.specs.Tray.{emptyTray, TrayWF, searchOf, trayKindOf, aheadOf, acceptedFor, trayAskedAt, isFound, matchedOf, aimedBy, trayReach, packOf, actedAt, actedFirst, wiredFirst, trayActed, trayReply, namedSlot, imageAt};
+
+// The packs on one line, each by its parts; how many there are; and whether the opening is closed.
+pub struct Tray {
+    pub count: u8,
+    pub closed: bool,
+    pub commons: [Common; 8],
+    pub labels: [Label; 8],
+    pub meters: [Meter; 8],
+}
+
+// A slot whose pack has an address, or none.
+pub enum Found {
+    At(u8),
+    Nowhere,
+}
+
+// Before the first record.
+pub fn empty() -> Tray
+    ensures { λ r. ⌜ r ≡ emptyTray ⌝ }
+    ensures kept { λ r. ⌜ TrayWF r ⌝ }
+{
+    let zeros = [0u8; IMAGE_SIZE];
+    let g = pack::image_in(Profile::Ds2781, &zeros);
+    let k = g.common;
+    let l = g.label;
+    let m = g.meter;
+    Tray {
+        count: 0,
+        closed: false,
+        commons: [k; 8],
+        labels: [l; 8],
+        meters: [m; 8],
+    }
+}
+
+// ---- what a record asks
+
+// The slot that the record at the front names, where a tray can have it.
+pub fn slot(l: &[u8]) -> usize
+    ensures { λ r. ⌜ r ≡ namedSlot (now (l .entry)) ⌝ }
+    ensures small { λ r. ⌜ r < 8 ⌝ }
+{
+    if 4 < l.len() {
+        let s = slices::wide(l[4]);
+        if s < 8 {
+            return s;
+        }
+    }
+    0
+}
+
+// Whether the record at the front is an image, long enough for its address.
+pub fn image_at(l: &[u8]) -> bool
+    ensures { λ r. ⌜ r ≡ imageAt (now (l .entry)) ⌝ }
+{
+    if l.len() < 4 + IMAGE_SIZE {
+        return false;
+    }
+    let kind = slices::pair(l, 2);
+    numbers::or(kind == 1, kind == 8)
+}
+
+fn kind_of(n: u16) -> Kind
+    ensures { λ r. ⌜ r ≡ trayKindOf n ⌝ }
+{
+    match n {
+        1 => Kind::Image(Profile::Ds2781),
+        4 => Kind::Transaction(Form::Short),
+        7 => Kind::Transaction(Form::Long),
+        8 => Kind::Image(Profile::Ds2775),
+        18 => Kind::Reading,
+        19 => Kind::Conversion,
+        21 => Kind::PowerOn,
+        22 => Kind::Sample,
+        _ => Kind::Unknown,
+    }
+}
+
+// How many bytes stand ahead of the old payload.
+fn ahead(k: Kind) -> usize
+    ensures { λ r. ⌜ r ≡ aheadOf k ⌝ }
+    ensures small { λ r. ⌜ r ≤ 1 ⌝ }
+{
+    match k {
+        Kind::Image(_) => 0,
+        Kind::Reading => 1,
+        Kind::Conversion => 1,
+        Kind::Transaction(_) => 0,
+        Kind::PowerOn => 1,
+        Kind::Sample => 1,
+        Kind::Unknown => 0,
+    }
+}
+
+// What stands for an accepted image in a plain session.
+fn accepted(k: Kind, count: u8, closed: bool, p: &[u8]) -> bool
+    requires { ⌜ aheadOf k ≤ length (now p) ⌝ }
+    ensures { λ r. ⌜ r ≡ acceptedFor count closed k (now (p .entry)) ⌝ }
+{
+    match k {
+        Kind::Image(_) => numbers::or(closed, 8 <= count),
+        Kind::Reading => p[0] < count,
+        Kind::Conversion => p[0] < count,
+        Kind::Transaction(_) => 0 < count,
+        Kind::PowerOn => p[0] < count,
+        Kind::Sample => p[0] < count,
+        Kind::Unknown => false,
+    }
+}
+
+fn asked(
+    kind: u16,
+    count: u8,
+    closed: bool,
+    again: bool,
+    last: Tick,
+    room: usize,
+    p: &[u8],
+) -> Taken
+    ensures { λ r. ⌜ r ≡ fittedOf room (trayAskedAt count closed again last kind (now (p .entry))) ⌝ }
+{
+    let k = kind_of(kind);
+    let from = ahead(k);
+    if p.len() < from {
+        return Taken::Refused(Refusal::Size);
+    }
+    let loaded = accepted(k, count, closed, p);
+    record::fitted_by(k, again, loaded, last, room, &p[from..])
+}
+
+// The record at the front of l, by whether an accepted pack has an image's address, by the tick of the slot's pack, and with so many bytes of
+// reply room left.
+pub fn front(l: &[u8], count: u8, closed: bool, again: bool, last: Tick, room: usize) -> Record
+    ensures { λ r. ⌜ r ≡ frontBy (trayAskedAt count closed again last) room (now (l .entry)) ⌝ }
+{
+    if runs::whole(l) {
+        let n = slices::pair(l, 0) as usize;
+        let kind = slices::pair(l, 2);
+        let end = 4 + n;
+        let t = asked(kind, count, closed, again, last, room, &l[4..end]);
+        return steps::read_off(kind, end, t);
+    }
+    steps::refused(0, 2, l.len())
+}
+
+// ---- the search
+
+// An address has eight bytes, which is told to a proof.
+fn sized(address: [u8; 8])
+    ensures { λ _. ⌜ length address ≡ 8 ⌝ }
+{}
+
+// The slot whose pack has the address in the eight bytes.
+fn search(commons: [Common; 8], count: u8, address: &[u8]) -> Found
+    requires { ⌜ (count ≤ 8) × (length (now address) ≡ 8) ⌝ }
+    ensures { λ r. ⌜ r ≡ searchOf commons count (now (address .entry)) ⌝ }
+{
+    let n = slices::wide(count);
+    let mut i = 0;
+    'slots: while i < n {
+        let slot = i;
+        i += 1;
+        let k = commons[slot];
+        let own = k.address;
+        sized(own);
+        let mut j = 0;
+        while j < 8 {
+            if own[j] != address[j] {
+                continue 'slots;
+            }
+            j += 1;
+        }
+        return Found::At(slot as u8);
+    }
+    Found::Nowhere
+}
+
+// Whether an accepted pack has the address in the eight bytes.
+pub fn known(commons: [Common; 8], count: u8, address: &[u8]) -> bool
+    requires { ⌜ (count ≤ 8) × (length (now address) ≡ 8) ⌝ }
+    ensures { λ r. ⌜ r ≡ isFound (searchOf commons count (now (address .entry))) ⌝ }
+{
+    match search(commons, count, address) {
+        Found::At(_) => true,
+        Found::Nowhere => false,
+    }
+}
+
+// The slot whose pack a Match selects.
+fn matched(commons: [Common; 8], count: u8, master: &[u8]) -> Found
+    requires { ⌜ count ≤ 8 ⌝ }
+    ensures { λ r. ⌜ r ≡ matchedOf commons count (now (master .entry)) ⌝ }
+{
+    if master.len() < 9 {
+        return Found::Nowhere;
+    }
+    search(commons, count, &master[1..9])
+}
+
+// ---- a transaction that every pack hears
+
+// Another reply on the same line.
+fn wire(reply: &[u8], room: &mut [u8])
+    requires { ⌜ length (now reply) ≤ length (now room) ⌝ }
+    ensures { λ _. ⌜ now (room .exit) ≡ andBytes (now (room .entry)) (now (reply .entry)) ⌝ }
+{
+    let mut i = 0;
+    while i < reply.len() {
+        room[i] = room[i] & reply[i];
+        i += 1;
+    }
+}
+
+// A pack that hears a transaction with others: its reply joins theirs at the front of the room.
+fn heard(g: Gauge, t: Transaction, master: &[u8], room: &mut [u8]) -> Gauge
+    requires { ⌜ GaugeWF g ⌝ }
+    requires { ⌜ t .count ≤ 256 ⌝ }
+    requires { ⌜ t .count ≤ length (now room) ⌝ }
+    ensures { λ r. ⌜ r ≡ actOf g t (now (master .entry)) ⌝ }
+    ensures replied { λ r. ⌜ now (room .exit) ≡ andBytes (now (room .entry)) (replyOf g t (now (master .entry))) ⌝ }
+    ensures kept { λ r. ⌜ GaugeWF r ⌝ }
+{
+    let n = t.count as usize;
+    let mut reply = [0u8; 256];
+    let h = g.transact(t, master, &mut reply);
+    wire(&reply[..n], room);
+    h
+}
+
+// Each pack carries the transaction out by itself; their replies go to the front of the room as one.
+fn every(mut tray: Tray, t: Transaction, master: &[u8], room: &mut [u8]) -> Tray
+    requires { ⌜ TrayWF tray ⌝ }
+    requires { ⌜ t .count ≤ 256 ⌝ }
+    requires { ⌜ t .count ≤ length (now room) ⌝ }
+    ensures { λ r. ⌜ r ≡ actedFirst t (now (master .entry)) tray (tray .count) ⌝ }
+    ensures replied { λ r. ⌜ now (room .exit) ≡ wiredFirst t (now (master .entry)) tray (tray .count) ++ drop (t .count) (now (room .entry)) ⌝ }
+    ensures kept { λ r. ⌜ TrayWF r ⌝ }
+{
+    let n = t.count as usize;
+    let count = slices::wide(tray.count);
+    replies::idle(&mut room[..n]);
+    let mut i = 0;
+    while i < count {
+        let k = tray.commons[i];
+        let l = tray.labels[i];
+        let m = tray.meters[i];
+        let g = Gauge {
+            common: k,
+            label: l,
+            meter: m,
+        };
+        let h = heard(g, t, master, room);
+        let common = h.common;
+        let label = h.label;
+        let meter = h.meter;
+        tray.commons[i] = common;
+        tray.labels[i] = label;
+        tray.meters[i] = meter;
+        i += 1;
+    }
+    tray
+}
+
+// ---- a transaction
+
+// Whom a transaction is for: the slot that a Match finds, or every pack.
+fn aimed(rom: Rom, commons: [Common; 8], count: u8, master: &[u8]) -> Found
+    requires { ⌜ count ≤ 8 ⌝ }
+    ensures { λ r. ⌜ r ≡ aimedBy rom (matchedOf commons count (now (master .entry))) ⌝ }
+{
+    match rom {
+        Rom::Match => matched(commons, count, master),
+        Rom::Net33 => Found::Nowhere,
+        Rom::Net39 => Found::Nowhere,
+        Rom::Skip => Found::Nowhere,
+        Rom::Quiet => Found::Nowhere,
+    }
+}
+
+// It goes to one pack alone.
+fn one(mut tray: Tray, slot: u8, t: Transaction, master: &[u8], room: &mut [u8]) -> Tray
+    requires { ⌜ TrayWF tray ⌝ }
+    requires { ⌜ slot < 8 ⌝ }
+    requires { ⌜ t .count ≤ length (now room) ⌝ }
+    ensures { λ r. ⌜ r ≡ actedAt t (now (master .entry)) tray slot tray ⌝ }
+    ensures replied { λ r. ⌜ now (room .exit) ≡ replyOf (packOf tray slot) t (now (master .entry)) ++ drop (t .count) (now (room .entry)) ⌝ }
+    ensures kept { λ r. ⌜ TrayWF r ⌝ }
+{
+    let i = slices::wide(slot);
+    let k = tray.commons[i];
+    let l = tray.labels[i];
+    let m = tray.meters[i];
+    let g = Gauge {
+        common: k,
+        label: l,
+        meter: m,
+    };
+    let h = g.transact(t, master, room);
+    let common = h.common;
+    let label = h.label;
+    let meter = h.meter;
+    tray.commons[i] = common;
+    tray.labels[i] = label;
+    tray.meters[i] = meter;
+    tray
+}
+
+// A transaction: its reply goes to the front of the room, exactly its read count of bytes.
+pub fn transacted(tray: Tray, t: Transaction, master: &[u8], room: &mut [u8]) -> Tray
+    requires { ⌜ TrayWF tray ⌝ }
+    requires { ⌜ t .count ≤ 256 ⌝ }
+    requires { ⌜ t .count ≤ length (now room) ⌝ }
+    ensures { λ r. ⌜ r ≡ trayActed t (now (master .entry)) (trayReach tray t (now (master .entry))) tray ⌝ }
+    ensures replied { λ r. ⌜ now (room .exit) ≡ trayReply t (now (master .entry)) (trayReach tray t (now (master .entry))) tray ++ drop (t .count) (now (room .entry)) ⌝ }
+    ensures kept { λ r. ⌜ TrayWF r ⌝ }
+{
+    let rom = t.rom;
+    let commons = tray.commons;
+    let f = aimed(rom, commons, tray.count, master);
+    match f {
+        Found::At(i) => one(tray, i, t, master, room),
+        Found::Nowhere => every(tray, t, master, room),
+    }
+}

@@ -1,0 +1,198 @@
+-- What the arms of the match leave of a tray, and of the room.
+use mathlib.Core.Path.{_≡_, refl, sym, ap, subst, _∙_}
+use mathlib.Core.Bool.{true}
+use mathlib.Core.List.{List, [], _∷_, _++_}
+use Prim.Native.Nat.{ℕ, zero, suc, _+_, _-_, _≤_, _<_}
+use native.Mathlib.Omega.{arith}
+use lib.ListN.{length, getD, set, take, drop, length-set}
+use Rattle.slices.specs.Slices.{part, pairAt}
+use Rattle.bus.specs.declared.Transaction.{Transaction}
+use Rattle.state.specs.declared.Label.{Label}
+use Rattle.label.specs.Label.{labelPoweredOf}
+use Rattle.state.specs.declared.Meter.{Meter}
+use Rattle.state.specs.State.{MeterWF, restartedOf}
+use Rattle.gauge.specs.declared.Gauge.{Gauge}
+use Rattle.meter.specs.Convert.{convertOf}
+use Rattle.meter.specs.Read.{readOf}
+use Rattle.samples.specs.Samples.{sampleOf}
+use Rattle.gauge.specs.Gauge.{GaugeWF, withMeter, conversionOf, samplingOf, readingOf, powerOnOf}
+use Rattle.gauge.specs.Change.{changedOf}
+use Rattle.state.specs.declared.Profile.{Profile}
+use Rattle.pack.specs.Image.{imageOf}
+use Rattle.record.specs.declared.Change.{Change as Changes}
+use Rattle.record.specs.declared.Change.the-variants.{Reading, Conversion, Sample, PowerOn}
+use Rattle.record.specs.declared.Event.{Event}
+use Rattle.record.specs.declared.Event.the-variants.{Image, Change, Transact}
+use Rattle.record.specs.declared.Taken.the-variants as taken
+use Rattle.record.specs.Record.{masterOf}
+use Rattle.runs.specs.Record.{Rec}
+use Rattle.runs.specs.Run.{silently, codeOf}
+use Rattle.steps.specs.declared.Asked.the-variants as asked
+use Rattle.steps.specs.declared.Record.{Record}
+use Rattle.steps.specs.Steps.{recordBy}
+use Rattle.runs.proofs.Lines.{Fits}
+use Rattle.steps.proofs.Steps.{record-fits}
+use Rattle.steps.proofs.Fronts.{payloadOf, Ran, Front}
+use Rattle.steps.proofs.Turns as every
+use Rattle.steps.proofs.Turns.{master-part}
+use Rattle.tray_record.specs.declared.Tray.{Tray}
+use Rattle.tray_record.specs.Tray.{noGauge, packOf, storedOf, closedOf, packJoined, slotIn, againOf, namedSlot, trayReach, trayActed, trayReply, ofTray, trayDid, TrayWF}
+use Rattle.tray_record.proofs.Laws.{within, set-each}
+use Rattle.tray_record.proofs.Hearing.{tray-replying}
+use Rattle.tray_record.proofs.Fronts.{named-slot}
+use Rattle.tray_record.proofs.Taking.{TrayTaking, tray-taking}
+
+pub did-same : (τ : Tray) (room : ℕ) (r : Rec) → trayDid τ room r ≡ recordBy ofTray τ room r
+unfolding trayDid
+did-same τ room r = refl
+
+pub did-fits : Fits trayDid
+unfolding trayDid
+did-fits = record { answer = record-fits ofTray tray-replying .answer; reply = record-fits ofTray tray-replying .reply }
+
+abbrev pub Turn : Tray → List ℕ → ℕ → List ℕ → Tray → List ℕ → ℕ → ℕ → Type 0
+Turn = every.Turn ofTray trayDid did-same TrayWF
+
+abbrev pub Stands : Tray → List ℕ → List ℕ → List ℕ → Tray → ℕ → ℕ → ℕ → List ℕ → List ℕ → Type 0
+Stands = every.Stands ofTray trayDid did-same TrayWF
+
+-- what is taken has what it asks for
+pub ran-taking : {τ : Tray} {room : ℕ} {l : List ℕ} {used : ℕ} {e : Event} → Ran ofTray τ room l used e
+    → TrayTaking (τ .count) (τ .closed) (payloadOf used l) (againOf τ (payloadOf used l)) (taken.Run e)
+ran-taking {τ} {l = l} {used} x =
+    subst (TrayTaking (τ .count) (τ .closed) (payloadOf used l) (againOf τ (payloadOf used l))) (x .told) (tray-taking τ (pairAt l 2) (payloadOf used l))
+
+-- the slot of a slot's event is one of eight, and the one that was named
+slot-inside : {τ : Tray} {room : ℕ} {l : List ℕ} {used : ℕ} {c : Changes} → TrayWF τ → Ran ofTray τ room l used (Change c) → slotIn (payloadOf used l) < 8
+slot-inside w x = omega (arith, ran-taking x .1, w .few)
+
+slot-named : {τ : Tray} {room : ℕ} {l : List ℕ} {used : ℕ} {c : Changes} {i : ℕ} → TrayWF τ → Ran ofTray τ room l used (Change c) → i ≡ namedSlot l → i ≡ slotIn (payloadOf used l)
+slot-named {l = l} {used} w x e = e ∙ named-slot (used - 4) l (ran-taking x .0) (slot-inside w x)
+
+-- ---- what a slot's event leaves
+
+set-itself : {A : Type 0} (l : List A) (i : ℕ) (d : A) → i < length l → set l i (getD l i d) ≡ l
+set-itself [] i d h = absurd (omega arith)
+set-itself (x ∷ l) zero d h = refl
+set-itself {A} (x ∷ l) (suc i) d h = ap (λ (r : List A). x ∷ r) (set-itself l i d (omega arith))
+
+-- another label and meter in a slot
+abbrev pub partsAt : Tray → ℕ → Label → Meter → Tray
+partsAt τ i l m = record { count = τ .count; closed = τ .closed; commons = τ .commons; labels = set (τ .labels) i l; meters = set (τ .meters) i m }
+
+-- another meter in a slot of a tray that is closed
+abbrev pub meterAt : Tray → ℕ → Meter → Tray
+meterAt τ i m = record { count = τ .count; closed = true; commons = τ .commons; labels = τ .labels; meters = set (τ .meters) i m }
+
+module _ (τ : Tray) (i : ℕ) (w : TrayWF τ) (h : i < 8) where
+  parts-stored : (g : Gauge) → g .common ≡ packOf τ i .common → partsAt τ i (g .label) (g .meter) ≡ storedOf τ i g
+  parts-stored g e =
+      let c = set-itself (τ .commons) i (noGauge .common) (omega (arith, w .sizes .0)) in
+      λ x. record { count = τ .count; closed = τ .closed; commons = (sym (ap (set (τ .commons) i) e ∙ c)) x; labels = set (τ .labels) i (g .label); meters = set (τ .meters) i (g .meter) }
+
+  meter-stored : (m : Meter) → meterAt τ i m ≡ closedOf (storedOf τ i (withMeter (packOf τ i) m))
+  meter-stored m =
+      let l = set-itself (τ .labels) i (noGauge .label) (omega (arith, w .sizes .1)) in
+      (λ x. record { count = τ .count; closed = true; commons = τ .commons; labels = (sym l) x; meters = set (τ .meters) i m })
+      ∙ ap closedOf (parts-stored (withMeter (packOf τ i) m) refl)
+
+  powered-stored : (b : Label) (d : Meter) {l : Label} {m : Meter} → l ≡ labelPoweredOf (getD (τ .labels) i b) → m ≡ restartedOf (getD (τ .meters) i d)
+      → partsAt τ i l m ≡ storedOf τ i (powerOnOf (packOf τ i))
+  unfolding powerOnOf
+  powered-stored b d {l} {m} el em =
+      let label : l ≡ labelPoweredOf (packOf τ i .label) = el ∙ ap labelPoweredOf (within (τ .labels) i b (noGauge .label) (omega (arith, w .sizes .1))) in
+      let meter : m ≡ restartedOf (packOf τ i .meter) = em ∙ ap restartedOf (within (τ .meters) i d (noGauge .meter) (omega (arith, w .sizes .2))) in
+      (λ x. partsAt τ i (label x) (meter x)) ∙ parts-stored (powerOnOf (packOf τ i)) refl
+
+  parts-wf : (l : Label) (m : Meter) → MeterWF m → TrayWF (partsAt τ i l m)
+  parts-wf l m v = record {
+    few = w .few;
+    sizes = (w .sizes .0, length-set (τ .labels) i l ∙ w .sizes .1, length-set (τ .meters) i m ∙ w .sizes .2);
+    packs = λ j. record { meter = set-each MeterWF (noGauge .meter) (τ .meters) i m v (λ k. w .packs k .meter) j };
+  }
+
+  meter-wf : (m : Meter) → MeterWF m → TrayWF (meterAt τ i m)
+  meter-wf m v = record {
+    few = w .few;
+    sizes = (w .sizes .0, w .sizes .1, length-set (τ .meters) i m ∙ w .sizes .2);
+    packs = λ j. record { meter = set-each MeterWF (noGauge .meter) (τ .meters) i m v (λ k. w .packs k .meter) j };
+  }
+
+pub joined-at : (τ : Tray) {i : ℕ} {g h : Gauge} → i ≡ τ .count → g ≡ h
+    → _≡_ {A = Tray} (record { count = τ .count + 1; closed = τ .closed; commons = set (τ .commons) i (g .common); labels = set (τ .labels) i (g .label); meters = set (τ .meters) i (g .meter) })
+    (packJoined τ h)
+joined-at τ ei eg = rw (ei, eg) refl
+
+pub join-wf : (τ : Tray) (g : Gauge) → TrayWF τ → τ .count < 8 → GaugeWF g → TrayWF (packJoined τ g)
+join-wf τ g w h v = record {
+  few = omega arith;
+  sizes = (
+    length-set (τ .commons) (τ .count) (g .common) ∙ w .sizes .0,
+    length-set (τ .labels) (τ .count) (g .label) ∙ w .sizes .1,
+    length-set (τ .meters) (τ .count) (g .meter) ∙ w .sizes .2,
+  );
+  packs = λ j. record { meter = set-each MeterWF (noGauge .meter) (τ .meters) (τ .count) (g .meter) (v .meter) (λ k. w .packs k .meter) j };
+}
+
+-- ---- what changes the meter alone
+
+pub reading-by : (volt temp : ℕ) (g : Gauge) → changedOf g (Reading volt temp) ≡ withMeter g (readOf (g .meter) volt temp)
+unfolding readingOf
+reading-by volt temp g = refl
+
+pub conversion-by : (raw : ℕ) (g : Gauge) → changedOf g (Conversion raw) ≡ withMeter g (convertOf (g .meter) raw)
+unfolding conversionOf
+conversion-by raw g = refl
+
+pub sample-by : (raw tick : ℕ) (g : Gauge) → changedOf g (Sample raw tick) ≡ withMeter g (sampleOf (g .meter) raw tick)
+unfolding samplingOf
+sample-by raw tick g = refl
+
+-- ---- the arms
+
+module _ {τ : Tray} {room : List ℕ} {used : ℕ} {l : List ℕ} {r : Record} {σ : Tray} {after : List ℕ} {next line : ℕ}
+    (f : Front ofTray τ (length room - used) l r) (w : TrayWF τ) where
+  pub turn-idle : r .event ≡ asked.Nothing → σ ≡ τ → after ≡ room → next ≡ used → line ≡ codeOf (r .kind) (r .answer) 0 → Turn τ room used l σ after next line
+  turn-idle a e = every.turn-idle ofTray trayDid did-same TrayWF f (subst TrayWF (sym e) w) a e
+
+  pub turn-image : {k : Profile} {θ : Tray} → Ran ofTray τ (length room - used) l (r .used) (Image k) → TrayWF θ
+      → θ ≡ packJoined τ (imageOf k (payloadOf (r .used) l)) → σ ≡ θ
+      → after ≡ room → next ≡ used → line ≡ codeOf (r .kind) (r .answer) 0 → Turn τ room used l σ after next line
+  turn-image x v e eσ =
+      every.turn-silent ofTray trayDid did-same TrayWF f (subst TrayWF (sym eσ) v) x (ap (λ (s : Tray). silently s 0) (sym (eσ ∙ e)))
+
+  -- an event of a slot: its pack afterwards
+  module _ {c : Changes} {i : ℕ} (x : Ran ofTray τ (length room - used) l (r .used) (Change c)) (ei : i ≡ namedSlot l) where
+    done : {g : Gauge} → changedOf (packOf τ i) c ≡ g → σ ≡ closedOf (storedOf τ i g) → TrayWF σ
+        → after ≡ room → next ≡ used → line ≡ codeOf (r .kind) (r .answer) 0 → Turn τ room used l σ after next line
+    done {g} eg e v =
+        let s : σ ≡ closedOf (storedOf τ (slotIn (payloadOf (r .used) l)) (changedOf (packOf τ (slotIn (payloadOf (r .used) l))) c)) =
+        e ∙ ap (λ (h : Gauge). closedOf (storedOf τ i h)) (sym eg) ∙ ap (λ (j : ℕ). closedOf (storedOf τ j (changedOf (packOf τ j) c))) (slot-named w x ei) in
+        every.turn-silent ofTray trayDid did-same TrayWF f v x (ap (λ (t : Tray). silently t 0) (sym s))
+
+    pub turn-meter : (M : Meter → Meter) → ((g : Gauge) → changedOf g c ≡ withMeter g (M (g .meter))) → (d : Meter) {m : Meter} → MeterWF m → m ≡ M (getD (τ .meters) i d)
+        → σ ≡ meterAt τ i m → after ≡ room → next ≡ used → line ≡ codeOf (r .kind) (r .answer) 0 → Turn τ room used l σ after next line
+    turn-meter M by d {m} v em e =
+        let inside : i < 8 = omega (arith, slot-named w x ei, slot-inside w x) in
+        let same : m ≡ M (packOf τ i .meter) = em ∙ ap M (within (τ .meters) i d (noGauge .meter) (omega (arith, inside, w .sizes .2))) in
+        done (by (packOf τ i) ∙ ap (withMeter (packOf τ i)) (sym same)) (e ∙ meter-stored τ i w inside m) (subst TrayWF (sym e) (meter-wf τ i w inside m v))
+
+    pub turn-powered : c ≡ PowerOn → (b : Label) (d : Meter) {n : Label} {m : Meter} → MeterWF m → n ≡ labelPoweredOf (getD (τ .labels) i b) → m ≡ restartedOf (getD (τ .meters) i d)
+        → σ ≡ closedOf (partsAt τ i n m) → after ≡ room → next ≡ used → line ≡ codeOf (r .kind) (r .answer) 0 → Turn τ room used l σ after next line
+    turn-powered ec b d {n} {m} v en em e =
+        let inside : i < 8 = omega (arith, slot-named w x ei, slot-inside w x) in
+        let u = parts-wf τ i w inside n m v in
+        done (ap (changedOf (packOf τ i)) ec) (e ∙ ap closedOf (powered-stored τ i w inside b d en em)) (subst TrayWF (sym e) (record { few = u .few; sizes = u .sizes; packs = u .packs }))
+
+  -- a transaction: its master bytes were lent, and the room that is left
+  pub turn-transact : {t : Transaction} {back : List ℕ} {θ : Tray} → Ran ofTray τ (length room - used) l (r .used) (Transact t) → used ≤ length room → TrayWF θ
+      → let m = part (r .used - (4 + t .start)) l (4 + t .start) in θ ≡ trayActed t m (trayReach τ t m) τ
+      → back ≡ trayReply t m (trayReach τ t m) τ ++ drop (t .count) (part (length room - used) room used)
+      → σ ≡ closedOf θ
+      → after ≡ take used room ++ (back ++ drop (length room - used) (drop used room))
+      → next ≡ used + t .count → line ≡ codeOf (r .kind) (r .answer) (t .count) → Turn τ room used l σ after next line
+  turn-transact {t} {back} {θ} x fits v e ea eσ =
+      let m = master-part (r .used) (t .start) l in
+      let s : σ ≡ closedOf (trayActed t (masterOf t (payloadOf (r .used) l)) (trayReach τ t (masterOf t (payloadOf (r .used) l))) τ) = eσ ∙ ap closedOf (e ∙ ap (λ (b : List ℕ). trayActed t b (trayReach τ t b) τ) (sym m)) in
+      let b : back ≡ trayReply t (masterOf t (payloadOf (r .used) l)) (trayReach τ t (masterOf t (payloadOf (r .used) l))) τ ++ drop (t .count) (part (length room - used) room used) = rw m ea in
+      every.turn-reply ofTray trayDid did-same TrayWF f (subst TrayWF (sym eσ) (record { few = v .few; sizes = v .sizes; packs = v .packs })) tray-replying x fits s b

@@ -1,0 +1,31 @@
+-- The contracts of this crate's public functions leave no choice.
+use mathlib.Core.Path.{refl, sym, ap, _∙_}
+use lib.ListN.{length}
+use denote.Ref.{now}
+use Rattle.once.specs.Once.{Once}
+use Rattle.runs.specs.Run.{Result, outcomeOf}
+use Rattle.runs.proofs.Ends.{runs-same}
+use Rattle.tray_record.specs.declared.Tray.{Tray}
+use Rattle.tray_record.specs.Tray.{emptyTray, trayDid}
+use Rattle.tray_run.specs.declared.Ran.{Ran}
+use Rattle.tray_run.specs.TrayRun.{trayResultOf}
+use Rattle.tray_run.proofs.run
+use Rattle.tray_run.proofs.take_out
+use Rattle.tray_run.proofs.image_size
+
+ran-of : Result Tray → Ran
+ran-of r = record { outcome = r .outcome; tray = r .state; lines = r .lines; replied = r .replied }
+
+pub run-once : Once run.ended run.Reads.Pre run.Reads.Learnt
+unfolding ran-of
+run-once κs a r r′ w w′ p h h′ =
+    let o = outcomeOf (length (now (a .0))) (length (now (a .1 .1 .0))) in
+    let e =
+    runs-same trayDid emptyTray (now (a .0)) (now (a .1 .0)) (now (a .1 .1 .0)) (trayResultOf r) (trayResultOf r′) (w .1 .0) (w′ .1 .0) (w .1 .1 .0) (w′ .1 .1 .0) o h h′ in
+    (ap ran-of (e .0), λ i. (tt, (e .1 i, (e .2 i, tt))))
+
+pub take-out-once : Once «take_out».ended «take_out».Reads.Pre «take_out».Reads.Learnt
+take-out-once κs a r r′ w w′ p h h′ = (h .number ∙ sym (h′ .number), λ i. (tt, (tt, ((h .written ∙ sym (h′ .written)) i, tt))))
+
+pub image-size-once : Once «image_size».ended «image_size».Reads.Pre «image_size».Reads.Learnt
+image-size-once κs a r r′ w w′ p h h′ = (h ∙ sym h′, refl)
