@@ -10,15 +10,14 @@ use borrow.Author.Tests.{lt-leb}
 use Rattle.numbers.specs.Choice.{both, butNot}
 use Rattle.numbers.proofs.Bounds.{picked}
 use Rattle.slices.proofs.Laws.{laid-none, laid-length}
-use Rattle.profile.specs.Profile.{countsCycles}
+use Rattle.state.specs.State.{countsCycles}
 use Rattle.state.specs.declared.Cycles.{Cycles}
 use Rattle.state.specs.declared.Block.{Block}
 use Rattle.state.specs.declared.Cells.{Cells}
 use Rattle.state.specs.declared.Meter.{Meter}
-use Rattle.state.specs.State.{withCells}
+use Rattle.block1.specs.Block1.{withCells, reachesOf, porfWrittenOf, acrWrittenOf, lockWrittenOf, cyclesWrittenOf, blockWrittenOf, cellsWrittenOf, meterWrittenOf, blockCopiedOf, blockRecalledOf, meterCopiedOf, meterRecalledOf, meterLockedOf, BlockSized}
 use Rattle.label.specs.Label.{inLabel, inBlock}
 use Rattle.label.proofs.Kept.{but-none, or-none}
-use Rattle.block1.specs.Block1.{reachesOf, porfWrittenOf, acrWrittenOf, lockWrittenOf, cyclesWrittenOf, blockWrittenOf, cellsWrittenOf, meterWrittenOf, blockCopiedOf, blockRecalledOf, meterCopiedOf, meterRecalledOf, meterLockedOf, BlockSized}
 
 module _ (b : Block) (locked : Bool) (a : ℕ) where
   module _ (bytes : List ℕ) where

@@ -9,14 +9,11 @@ use Rattle.numbers.specs.Offset.{zeroAt}
 use Rattle.numbers.proofs.Bounds.{picked}
 use Rattle.slices.specs.Slices.{laidOf}
 use Rattle.state.specs.declared.Charge.{Charge}
-use Rattle.charge.specs.Charge.{countedOf}
-use Rattle.full.specs.Full.{averagedOf, foundOf, settledOf}
-use Rattle.reading.specs.Reading.{emptiedOf, seenOf}
+use Rattle.conversion.specs.Conversion.{countedOf, averagedOf, foundOf, settledOf, withCharge, withFlow, flowedOf, convertOf}
+use Rattle.reading.specs.Reading.{emptiedOf, seenOf, drainedOf, shownOf, readOf}
 use Rattle.state.specs.declared.Meter.{Meter}
-use Rattle.state.specs.State.{withCharge, withFlow, noFlow, poweredOf}
-use Rattle.meter.specs.Convert.{flowedOf, convertOf}
-use Rattle.meter.specs.Read.{drainedOf, shownOf, readOf}
-use Rattle.meter.proofs.Figures.{M, withByte, plus, powered, readAt, Figure, _is_, Hold}
+use Rattle.state.specs.State.{noFlow, poweredOf}
+use Rattle.reading.proofs.Figures.{M, withByte, plus, powered, readAt, Figure, _is_, Hold}
 use Rattle.block1.specs.Block1.{reachesOf, acrWrittenOf, blockWrittenOf, meterWrittenOf}
 
 -- ---- the meters

@@ -9,16 +9,26 @@ use Rattle.numbers.specs.Choice.{pick, both, either, butNot}
 use Rattle.numbers.specs.Offset.{joinedOf}
 use Rattle.slices.specs.Slices.{laidOf}
 use Rattle.state.specs.declared.Charge.{Charge}
-use Rattle.charge.specs.Charge.{setOf, markedOf}
-use Rattle.profile.specs.Profile.{countsCycles}
+use Rattle.conversion.specs.Conversion.{setOf, markedOf, withFlags}
+use Rattle.state.specs.State.{countsCycles}
 use Rattle.state.specs.declared.Cycles.{Cycles}
 use Rattle.state.specs.declared.Flags.{Flags}
 use Rattle.state.specs.declared.Block.{Block}
 use Rattle.state.specs.declared.Locks.{Locks}
 use Rattle.state.specs.declared.Cells.{Cells}
 use Rattle.state.specs.declared.Meter.{Meter}
-use Rattle.state.specs.State.{withCells, withBlock, withLocks, withFlags}
 use Rattle.label.specs.Label.{inLabel, inBlock}
+
+-- ---- a meter with its cells replaced, and cells with a part replaced
+
+abbrev pub withCells : Meter → Cells → Meter
+withCells m cells = record { cells = cells; charge = m .charge; cycles = m .cycles; flow = m .flow; shown = m .shown }
+
+abbrev pub withBlock : Cells → Block → Cells
+withBlock c block = record { profile = c .profile; block = block; locks = c .locks; saved = c .saved }
+
+abbrev pub withLocks : Cells → Locks → Cells
+withLocks c locks = record { profile = c .profile; block = c .block; locks = locks; saved = c .saved }
 
 -- ---- 6Ch: bytes written from the address a upward. A write runs upward and nothing wraps, so that it reaches each address at most once
 

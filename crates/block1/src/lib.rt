@@ -50,7 +50,7 @@ fn acr_written(mut g: Charge, a: usize, bytes: &[u8]) -> Charge
     if numbers::and(reaches(a, bytes, 0x10), reaches(a, bytes, 0x11)) {
         let acr = numbers::joined(byte_for(a, bytes, 0x10), byte_for(a, bytes, 0x11));
         g.mark = true;
-        return charge::set(g, acr, false);
+        return conversion::set(g, acr, false);
     }
     g
 }
@@ -73,7 +73,7 @@ fn cycles_written(mut y: Cycles, c: Cells, a: usize, bytes: &[u8]) -> Cycles
 {
     if reaches(a, bytes, 0x1e) {
         let f = c.profile;
-        if numbers::and_not(profile::counts(f), c.locks.bl1) {
+        if numbers::and_not(state::counts(f), c.locks.bl1) {
             let count = byte_for(a, bytes, 0x1e);
             y.count = count;
         }

@@ -13,8 +13,8 @@ use Rattle.record.specs.Record.{masterOf, takenOf, timedOf}
 use Rattle.record.proofs.Fits.{Taking, timed-taking}
 use Rattle.runs.specs.Record.{Rec, whole, cut}
 use Rattle.runs.specs.Run.{endAfter}
-use Rattle.steps.specs.declared.Session.{Session}
-use Rattle.steps.specs.Step.{loadedWith, lastTick, takenDid, didOf}
+use Rattle.runs.specs.declared.Session.{Session}
+use Rattle.runs.specs.SessionRecord.{loadedWith, lastTick, takenDid, didOf}
 use Rattle.demands.specs.Class.{classOf}
 use Rattle.demands.proofs.Choice.{contrary}
 use Rattle.demands.proofs.Fitted.{fitted-has}

@@ -18,7 +18,7 @@ use Rattle.record.specs.declared.Event.the-variants.{Image, Change, Transact}
 use Rattle.record.specs.declared.Taken.{Taken}
 use Rattle.record.specs.declared.Taken.the-variants.{Run, Refused}
 use Rattle.record.specs.Record.{kindOf, transactionIn, masterOf}
-use Rattle.steps.specs.Steps.{answeredBy}
+use Rattle.runs.specs.AnyRecord.{answeredBy}
 use Rattle.tray_record.specs.declared.Tray.{Tray}
 use Rattle.tray_record.specs.Tray.{packOf, trayKindOf, aheadOf, slotIn, Reach, one, trayReach, trayActed, trayTold, ofTray, trayDid}
 use Rattle.demands.specs.Longer.{formKind}

@@ -12,7 +12,7 @@ use Rattle.numbers.specs.Choice.{pick, either}
 use Rattle.numbers.proofs.Bounds.{picked}
 use Rattle.slices.specs.Slices.{pairAt}
 use Rattle.state.specs.declared.Tick.{Tick}
-use Rattle.ticks.specs.Ticks.{timelyOf}
+use Rattle.state.specs.State.{timelyOf}
 use Rattle.bus.specs.declared.Rom.{Rom}
 use Rattle.bus.specs.declared.Rom.the-variants as rom
 use Rattle.bus.specs.declared.Transaction.{Transaction}

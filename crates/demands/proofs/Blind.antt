@@ -6,14 +6,13 @@ use Prim.Native.Nat.{ℕ, zero, suc}
 use lib.ListN.{drop}
 use Rattle.numbers.specs.Choice.{pick}
 use Rattle.numbers.proofs.Bounds.{through}
-use Rattle.ticks.specs.Ticks.{elapsedOf}
+use Rattle.state.specs.State.{elapsedOf, poweredOf}
 use Rattle.state.specs.declared.Block.{Block}
 use Rattle.state.specs.declared.Locks.{Locks}
 use Rattle.state.specs.declared.Cells.{Cells}
 use Rattle.state.specs.declared.Meter.{Meter}
-use Rattle.state.specs.State.{poweredOf}
-use Rattle.meter.specs.Convert.{flowedOf, convertOf}
-use Rattle.meter.specs.Read.{shownOf, readOf}
+use Rattle.conversion.specs.Conversion.{flowedOf, convertOf}
+use Rattle.reading.specs.Reading.{shownOf, readOf}
 use Rattle.samples.specs.Samples.{sampledOf, sampleOf}
 use Rattle.label.specs.Label.{commonLockedOf}
 use Rattle.block1.specs.Block1.{lockWrittenOf, blockWrittenOf, blockCopiedOf, blockRecalledOf, locksLockedOf, meterWrittenOf, meterCopiedOf, meterRecalledOf, meterLockedOf}
@@ -23,7 +22,7 @@ use Rattle.replies.specs.Reply.{selectedOf}
 use Rattle.gauge.specs.declared.Gauge.{Gauge}
 use Rattle.gauge.specs.Gauge.{conversionOf, samplingOf, readingOf, powerOnOf, writtenOf, copiedOf, recalledOf, lockedOf}
 use Rattle.gauge.specs.Act.{ranBy, ranOf, actOf}
-use Rattle.pack.specs.Image.{imageOf}
+use Rattle.gauge.specs.Image.{imageOf}
 use Rattle.record.specs.declared.Change.the-variants.{Reading, Conversion, Sample, PowerOn}
 use Rattle.demands.specs.History.{Happening, imaged, changed, transacted, happened}
 use Rattle.demands.specs.Books.{Entry, conversionsIn, bookedSum, entriesOf, ledgerOf, recounted, FromEvents}

@@ -10,21 +10,18 @@ use lib.Dec.{leb}
 use lib.IntN.{ℤ, pos, negsuc, _+ℤ_, _-ℤ_, +ℤ-idl, +ℤ-idr, +ℤ-assoc, +ℤ-comm, +ℤ-negℤ-cancel, pos-ne-negsuc}
 use lib.ListN.{drop, replicate}
 use Rattle.numbers.specs.Choice.{pick, both}
-use Rattle.numbers.specs.Offset.{value, clampZ, joinedOf}
+use Rattle.numbers.specs.Offset.{value, clampZ, joinedOf, orZero}
 use Rattle.numbers.proofs.Bounds.{picked, both-true}
-use Rattle.ticks.specs.Ticks.{elapsedOf}
+use Rattle.state.specs.State.{elapsedOf}
 use Rattle.params.specs.Params.{countingOf}
 use Rattle.state.specs.declared.Charge.{Charge}
-use Rattle.charge.specs.Charge.{setOf, markedOf, countedOf}
-use Rattle.full.specs.Full.{settledOf}
+use Rattle.conversion.specs.Conversion.{setOf, markedOf, countedOf, settledOf, flowedOf, convertOf, blankedZ, addedZ, currentIn, correctsFull}
 use Rattle.state.specs.declared.Meter.{Meter}
-use Rattle.meter.specs.Convert.{flowedOf, convertOf}
-use Rattle.meter.specs.Read.{shownOf, readOf}
-use Rattle.meter.specs.Signed.{orZero, blankedZ, addedZ}
-use Rattle.meter.specs.Corrections.{currentIn, correctsFull, correctsEmpty, emptiedIn}
-use Rattle.meter.proofs.Meaning.{count-means}
-use Rattle.meter.proofs.OffsetConversion.{convert-made}
-use Rattle.meter.proofs.Corrections.{converted-means, converted-charge, uncorrected, read-charge}
+use Rattle.reading.specs.Reading.{shownOf, readOf, correctsEmpty, emptiedIn}
+use Rattle.conversion.proofs.Meaning.{count-means}
+use Rattle.conversion.proofs.OffsetConversion.{convert-made}
+use Rattle.conversion.proofs.Corrections.{converted-means, converted-charge, uncorrected}
+use Rattle.reading.proofs.Corrections.{read-charge}
 use Rattle.samples.specs.Samples.{sampledOf, sampleOf}
 use Rattle.samples.proofs.Laws.{sampled-first}
 use Rattle.block1.specs.Block1.{reachesOf, byteFor, acrWrittenOf, meterWrittenOf, meterCopiedOf, meterRecalledOf, meterLockedOf}

@@ -8,15 +8,10 @@ use lib.ListN.{length, getD, drop, replicate}
 use Rattle.crc.specs.Crc as crc
 use Rattle.state.specs.declared.Profile.the-variants.{Ds2781, Ds2775}
 use Rattle.slices.specs.Slices.{laidOf}
-use Rattle.ticks.specs.Ticks.{timelyOf}
-use Rattle.state.specs.State.{poweredOf}
-use Rattle.charge.specs.Charge.{countedOf, shareOf}
-use Rattle.full.specs.Full.{averagedOf, foundOf, settledOf}
-use Rattle.model.specs.Model.{slopesOver, linesOf}
-use Rattle.reading.specs.Reading.{drainingOf, pointOf, emptiedOf, seenOf}
-use Rattle.meter.specs.Convert.{flowedOf, convertOf}
-use Rattle.meter.specs.Read.{drainedOf, shownOf, readOf}
-use Rattle.meter.specs.Signed.{minus}
+use Rattle.state.specs.State.{timelyOf, poweredOf}
+use Rattle.conversion.specs.Conversion.{countedOf, shareOf, averagedOf, foundOf, settledOf, flowedOf, convertOf}
+use Rattle.reading.specs.Reading.{slopesOver, linesOf, drainingOf, pointOf, emptiedOf, seenOf, drainedOf, shownOf, readOf}
+use Rattle.numbers.specs.Offset.{minus}
 use Rattle.samples.specs.Samples.{sampledOf, sampleOf}
 use Rattle.block1.specs.Block1.{reachesOf, acrWrittenOf, lockWrittenOf, meterWrittenOf, blockWrittenOf, meterCopiedOf, blockCopiedOf, meterRecalledOf, blockRecalledOf, meterLockedOf}
 use Rattle.label.specs.Label.{inLabel, inBlock, labelWrittenOf, labelCopiedOf, labelRecalledOf, commonLockedOf}
@@ -24,11 +19,11 @@ use Rattle.bus.specs.Ask.{romBy, commandOf, askedAt, askedOf, ownOf}
 use Rattle.gauge.specs.Gauge.{conversionOf, samplingOf, readingOf, powerOnOf, writtenOf, copiedOf, recalledOf, lockedOf}
 use Rattle.replies.specs.Reply.{selectedOf}
 use Rattle.gauge.specs.Act.{ranOf, actOf, replyOf}
-use Rattle.pack.specs.Image.{imageOf}
+use Rattle.gauge.specs.Image.{imageOf}
 use Rattle.record.specs.Record.{kindOf, addressedOf, orderedOf, judgedAmong, takenOf}
 use Rattle.runs.specs.Record.{Rec, whole, wholeOf, recOf, sizeOf}
-use Rattle.steps.specs.declared.Session.{Session}
-use Rattle.steps.specs.Step.{didOf}
+use Rattle.runs.specs.declared.Session.{Session}
+use Rattle.runs.specs.SessionRecord.{didOf}
 use Rattle.session_run.specs.SessionRun.{emptyOf}
 use Rattle.tray_record.specs.declared.Tray.{Tray}
 use Rattle.tray_record.specs.Tray.{emptyTray, searchOf, trayKindOf, matchedOf, trayDid}

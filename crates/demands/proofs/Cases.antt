@@ -11,7 +11,7 @@ use Rattle.record.specs.declared.Refusal.the-variants.{Breaks, Repeated}
 use Rattle.record.specs.declared.Taken.the-variants.{Refused}
 use Rattle.record.specs.Record.{kindOf, takenOf}
 use Rattle.runs.specs.Record.{Rec, whole, cut}
-use Rattle.ticks.specs.Ticks.{timelyOf}
+use Rattle.state.specs.State.{timelyOf}
 use Rattle.tray_record.specs.Tray.{trayKindOf}
 use Rattle.demands.specs.Longer.{recordIn, reading}
 use Rattle.demands.specs.Sections.{Class, labelling, gauging, fence}

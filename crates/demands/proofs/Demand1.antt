@@ -15,9 +15,9 @@ use Rattle.record.specs.Record.{refusalNumber, asksOf, fittedOf}
 use Rattle.record.proofs.Fits.{refusal-range, NumberedTo, plain-numbered}
 use Rattle.runs.specs.Record.{Rec, whole, cut}
 use Rattle.runs.specs.Run.{Did}
-use Rattle.steps.specs.Steps.{Steps, answeredBy, recordBy}
-use Rattle.steps.specs.Step.{lastTick, ofSession, didOf}
-use Rattle.steps.proofs.Steps.{Replying, session-replying}
+use Rattle.runs.specs.AnyRecord.{Steps, answeredBy, recordBy}
+use Rattle.runs.specs.SessionRecord.{lastTick, ofSession, didOf}
+use Rattle.runs.proofs.AnyRecord.{Replying, session-replying}
 use Rattle.session_run.specs.SessionRun.{emptyOf}
 use Rattle.tray_record.specs.Tray.{emptyTray, trayTold, ofTray, trayDid}
 use Rattle.demands.specs.Demand1.{Numbered, sessionMost, trayMost, Demand1}

@@ -9,24 +9,24 @@ use lib.Seq.{take-at}
 use lib.Dec.{eqb, leb}
 use borrow.Author.Tests.{le-leb, le-ltb, lt-ltb}
 use Rattle.state.specs.declared.Profile.{Profile}
-use Rattle.profile.specs.Profile.{imageSizeOf}
+use Rattle.state.specs.State.{imageSizeOf}
 use Rattle.demands.specs.Images.{imageKind, profileOf}
 use Rattle.demands.proofs.Images.{session-image}
 use Rattle.numbers.specs.Choice.{pick}
 use Rattle.gauge.specs.declared.Gauge.{Gauge}
 use Rattle.gauge.specs.Gauge.{powerOnOf}
-use Rattle.pack.specs.Image.{imageOf, bytesOf, sizeFor, roomAfter}
-use Rattle.pack.specs.Reach.{Reached}
-use Rattle.pack.proofs.Image.{image-length}
-use Rattle.pack.proofs.Reached.{reached-sized, out-judged, out-in}
+use Rattle.gauge.specs.Image.{imageOf, bytesOf, sizeFor, roomAfter}
+use Rattle.gauge.specs.Reach.{Reached}
+use Rattle.gauge.proofs.Image.{image-length}
+use Rattle.gauge.proofs.Reached.{reached-sized, out-judged, out-in}
 use Rattle.record.specs.declared.Event.the-variants.{Image}
 use Rattle.record.specs.declared.Refusal.the-variants.{Breaks}
 use Rattle.record.specs.declared.Taken.the-variants.{Run, Refused}
 use Rattle.record.specs.Record.{kindOf, orderedOf, judgedAmong, judgedBy, takenOf}
 use Rattle.runs.specs.Record.{Rec, whole, recsOf, recordOf}
 use Rattle.runs.specs.Run.{Did, Line, silently, endAfter}
-use Rattle.steps.specs.declared.Session.{Session}
-use Rattle.steps.specs.Step.{loadedWith, didOf}
+use Rattle.runs.specs.declared.Session.{Session}
+use Rattle.runs.specs.SessionRecord.{loadedWith, didOf}
 use Rattle.session_run.specs.SessionRun.{emptyOf}
 use Rattle.tray_record.specs.declared.Tray.{Tray}
 use Rattle.tray_record.specs.Tray.{emptyTray, packOf, trayKindOf, trayDid}

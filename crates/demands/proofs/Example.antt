@@ -10,7 +10,7 @@ use Rattle.state.specs.declared.Profile.the-variants.{Ds2781, Ds2775}
 use Rattle.demands.specs.Images.{imageKind, profileOf}
 use Rattle.crc.specs.Crc as crc
 use Rattle.state.specs.State.{poweredOf}
-use Rattle.meter.specs.Convert.{flowedOf, convertOf}
+use Rattle.conversion.specs.Conversion.{flowedOf, convertOf}
 use Rattle.block1.specs.Block1.{meterWrittenOf, blockWrittenOf, meterCopiedOf, blockCopiedOf}
 use Rattle.slices.specs.Slices.{laidOf}
 use Rattle.label.specs.Label.{inLabel, inBlock, labelByte, labelWrittenOf, labelCopiedOf}
@@ -19,8 +19,8 @@ use Rattle.bus.specs.Ask.{romBy, commandOf, askedAt, askedOf}
 use Rattle.gauge.specs.Gauge.{conversionOf, powerOnOf, writtenOf, copiedOf}
 use Rattle.replies.specs.Reply.{readByte, selectedOf, sourceByte}
 use Rattle.gauge.specs.Act.{ranOf, actOf, replyOf}
-use Rattle.pack.specs.Image.{imageOf, sizeFor}
-use Rattle.pack.proofs.Image.{size-few}
+use Rattle.gauge.specs.Image.{imageOf, sizeFor}
+use Rattle.gauge.proofs.Image.{size-few}
 use Rattle.record.specs.Image.{imageAddress}
 use Rattle.record.specs.Record.{kindOf, addressedOf, orderedOf, judgedAmong, takenOf}
 use Rattle.preset_session.specs.declared.Written.the-variants as Written
@@ -28,8 +28,8 @@ use Rattle.preset_session.specs.PresetSession.{programmingOf, answerOf, Granted
 use Rattle.runs.specs.declared.Outcome.the-variants.{Done}
 use Rattle.runs.specs.Record.{Rec, whole, wholeOf, recOf, sizeOf, recsOf, recordOf}
 use Rattle.runs.specs.Run.{Line}
-use Rattle.steps.specs.declared.Session.{Session}
-use Rattle.steps.specs.Step.{didOf}
+use Rattle.runs.specs.declared.Session.{Session}
+use Rattle.runs.specs.SessionRecord.{didOf}
 use Rattle.session_run.specs.SessionRun.{emptyOf, sessionOf, takeOutNumber, takeOutRoom}
 use Rattle.demands.specs.Call.{Call, Within}
 use Rattle.demands.specs.Demand2.{Fresh, eepromBreaks, Crossed, AnswersImage, Carried, PowersOn}

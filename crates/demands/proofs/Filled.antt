@@ -14,8 +14,8 @@ use Rattle.gauge.specs.declared.Gauge.{Gauge}
 use Rattle.gauge.specs.Change.{changedOf}
 use Rattle.gauge.specs.Act.{actOf}
 use Rattle.gauge.proofs.Kept.{address-kept}
-use Rattle.pack.specs.Image.{imageOf}
-use Rattle.pack.specs.Reach.{Reached, accepted, changed, acted-on}
+use Rattle.gauge.specs.Image.{imageOf}
+use Rattle.gauge.specs.Reach.{Reached, accepted, changed, acted-on}
 use Rattle.record.specs.declared.Kind.{Kind}
 use Rattle.record.specs.declared.Event.{Event}
 use Rattle.record.specs.declared.Event.the-variants.{Image, Change, Transact}
@@ -24,7 +24,7 @@ use Rattle.record.specs.declared.Taken.the-variants.{Run, Refused}
 use Rattle.record.specs.Record.{masterOf}
 use Rattle.runs.specs.Record.{Rec, whole, cut}
 use Rattle.runs.specs.Run.{endAfter}
-use Rattle.steps.specs.Steps.{answeredBy}
+use Rattle.runs.specs.AnyRecord.{answeredBy}
 use Rattle.tray_record.specs.declared.Tray.{Tray}
 use Rattle.tray_record.specs.Tray.{emptyTray, packOf, trayKindOf, slotIn, trayReach, trayEvent, trayTold, ofTray, trayDid}
 use Rattle.demands.specs.History.{hearsOf}

@@ -10,10 +10,10 @@ use lib.ListN.{length, drop}
 use Rattle.numbers.specs.Choice.{pick, either}
 use Rattle.state.specs.declared.Meter.{Meter}
 use Rattle.params.specs.Params.{rnaopOf}
-use Rattle.meter.specs.Convert.{convertOf}
-use Rattle.meter.specs.Read.{readOf}
+use Rattle.conversion.specs.Conversion.{convertOf}
+use Rattle.reading.specs.Reading.{readOf}
 use Rattle.samples.specs.Samples.{sampleOf}
-use Rattle.ticks.specs.Ticks.{timelyOf}
+use Rattle.state.specs.State.{timelyOf}
 use Rattle.state.specs.declared.Common.{Common}
 use Rattle.state.specs.declared.Label.{Label}
 use Rattle.label.specs.Label.{inLabel, labelByte, labelWrittenOf, labelCopiedOf, labelRecalledOf}
@@ -41,8 +41,8 @@ use Rattle.record.specs.declared.Taken.{Taken}
 use Rattle.record.specs.declared.Taken.the-variants.{Run, Refused}
 use Rattle.runs.specs.Record.{Rec, whole, cut}
 use Rattle.runs.specs.Run.{Did}
-use Rattle.steps.specs.declared.Session.{Session}
-use Rattle.steps.specs.Step.{loadedWith, takenDid}
+use Rattle.runs.specs.declared.Session.{Session}
+use Rattle.runs.specs.SessionRecord.{loadedWith, takenDid}
 use Rattle.record.specs.Record.{refusalNumber, masterOf, takenOf}
 use Rattle.demands.specs.Sections.{Class, labelling, gauging, fence}
 use Rattle.demands.specs.Class.{touchedBy, touchedOf, touchedClass, changeClass, takenClass, classOf}

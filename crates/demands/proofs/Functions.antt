@@ -7,8 +7,8 @@ use denote.Triple.Entry.{Args, Res}
 use denote.Triple.Clauses.{Lasts, atExit}
 use Rattle.runs.specs.Record.{Rec}
 use Rattle.runs.specs.Run.{Did}
-use Rattle.steps.specs.declared.Session.{Session}
-use Rattle.steps.specs.Step.{didOf}
+use Rattle.runs.specs.declared.Session.{Session}
+use Rattle.runs.specs.SessionRecord.{didOf}
 use Rattle.session_run.specs.SessionRun.{emptyOf, resultOf, TakenOut}
 use Rattle.session_run.proofs.run
 use Rattle.session_run.proofs.take_out

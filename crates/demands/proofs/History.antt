@@ -12,7 +12,7 @@ use Rattle.numbers.specs.Choice.{pick}
 use Rattle.numbers.proofs.Bounds.{picked, through}
 use Rattle.state.specs.declared.Profile.{Profile}
 use Rattle.gauge.specs.declared.Gauge.{Gauge}
-use Rattle.pack.specs.Image.{imageOf}
+use Rattle.gauge.specs.Image.{imageOf}
 use Rattle.record.specs.declared.Event.{Event}
 use Rattle.record.specs.declared.Event.the-variants.{Image, Change, Transact}
 use Rattle.record.specs.declared.Taken.{Taken}
@@ -21,9 +21,9 @@ use Rattle.record.specs.Record.{masterOf, takenOf, timedOf, fittedOf}
 use Rattle.record.proofs.Fits.{Taking, timed-taking}
 use Rattle.runs.specs.Record.{Rec, whole, cut, recsOf}
 use Rattle.runs.specs.Run.{Did, endAfter}
-use Rattle.steps.specs.declared.Session.{Session}
-use Rattle.steps.specs.Steps.{answeredBy}
-use Rattle.steps.specs.Step.{lastTick, ofSession, didOf}
+use Rattle.runs.specs.declared.Session.{Session}
+use Rattle.runs.specs.AnyRecord.{answeredBy}
+use Rattle.runs.specs.SessionRecord.{lastTick, ofSession, didOf}
 use Rattle.session_run.specs.SessionRun.{emptyOf}
 use Rattle.tray_record.specs.declared.Tray.{Tray}
 use Rattle.tray_record.specs.Tray.{emptyTray, packOf, trayKindOf, slotIn, Reach, one, every, trayReach, trayTold, trayEvent, ofTray, trayDid}

@@ -18,7 +18,7 @@ use Rattle.record.specs.Record.{masterOf, fittedOf}
 use Rattle.record.proofs.Fits.{transaction-timely}
 use Rattle.runs.specs.Record.{Rec, whole, recsOf}
 use Rattle.runs.specs.Run.{Line, lineOf, linesAfter, endAfter}
-use Rattle.steps.specs.Steps.{answeredBy}
+use Rattle.runs.specs.AnyRecord.{answeredBy}
 use Rattle.tray_record.specs.declared.Tray.{Tray}
 use Rattle.tray_record.specs.Tray.{emptyTray, trayKindOf, againOf, slotTick, trayTold, one, trayReach, trayReply, ofTray, trayDid}
 use Rattle.demands.specs.Call.{Call, Within, gotOf, Stopped}

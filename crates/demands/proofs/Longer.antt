@@ -30,9 +30,9 @@ use Rattle.record.specs.Record.{headOf, limitOf, readCount, kindOf, masterOf, t
 use Rattle.record.proofs.Fits.{transaction-timely}
 use Rattle.runs.specs.Record.{Rec, kindIn}
 use Rattle.runs.specs.Run.{Did, linesAfter, endAfter, repliesOf}
-use Rattle.steps.specs.declared.Session.{Session}
-use Rattle.steps.specs.Steps.{Steps, answeredBy, recordBy}
-use Rattle.steps.specs.Step.{loadedWith, lastTick, ofSession, didOf}
+use Rattle.runs.specs.declared.Session.{Session}
+use Rattle.runs.specs.AnyRecord.{Steps, answeredBy, recordBy}
+use Rattle.runs.specs.SessionRecord.{loadedWith, lastTick, ofSession, didOf}
 use Rattle.tray_record.specs.declared.Tray.{Tray}
 use Rattle.tray_record.specs.Tray.{packOf, storedOf, closedOf, againOf, slotTick, Reach, one, every, trayReach, actedFirst, wiredFirst, trayActed, trayReply, ofTray, trayDid}
 use Rattle.tray_record.specs.Wire.{andBytes}

@@ -5,15 +5,15 @@ use Prim.Native.Nat.{ℕ}
 use native.Mathlib.Nat.{sub-zero}
 use lib.ListN.{length, take}
 use Rattle.state.specs.declared.Profile.the-variants.{Ds2781}
-use Rattle.pack.specs.Image.{imageOf}
+use Rattle.gauge.specs.Image.{imageOf}
 use Rattle.record.specs.Image.{imageSize}
 use Rattle.mending.specs.Worth.{Accepted}
 use Rattle.mending.proofs.Worth.{accepted, by-call}
 use Rattle.runs.specs.Record.{whole, recsOf}
 use Rattle.runs.specs.Run.{silently}
 use Rattle.runs.proofs.Records.{recs-record}
-use Rattle.steps.specs.declared.Session.{Session}
-use Rattle.steps.specs.Step.{loadedWith, didOf}
+use Rattle.runs.specs.declared.Session.{Session}
+use Rattle.runs.specs.SessionRecord.{loadedWith, didOf}
 use Rattle.session_run.specs.SessionRun.{emptyOf}
 use Rattle.demands.specs.Call.{Call}
 use Rattle.demands.specs.Mending.{MendedFirst, MendedTheorem}

@@ -14,7 +14,7 @@ use Rattle.state.specs.declared.Profile.{Profile}
 use Rattle.numbers.specs.Choice.{pick, both}
 use Rattle.bus.specs.declared.Transaction.{Transaction}
 use Rattle.gauge.specs.declared.Gauge.{Gauge}
-use Rattle.pack.specs.Image.{imageOf}
+use Rattle.gauge.specs.Image.{imageOf}
 use Rattle.record.specs.declared.Kind.{Kind}
 use Rattle.record.specs.declared.Kind.the-variants as kind
 use Rattle.record.specs.declared.Refusal.the-variants as refusal

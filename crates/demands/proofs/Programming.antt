@@ -26,8 +26,8 @@ use Rattle.replies.proofs.Listed.{listed-length, listed-at}
 use Rattle.gauge.specs.declared.Gauge.{Gauge}
 use Rattle.gauge.specs.Gauge.{withMeter, writtenOf, copiedOf}
 use Rattle.gauge.specs.Act.{ranBy, ranOf, actOf, replyOf}
-use Rattle.pack.specs.Image.{imageOf}
-use Rattle.pack.proofs.Reached.{accepted-length, image-sized}
+use Rattle.gauge.specs.Image.{imageOf}
+use Rattle.gauge.proofs.Reached.{accepted-length, image-sized}
 use Rattle.record.specs.declared.Event.the-variants.{Transact}
 use Rattle.record.specs.declared.Taken.the-variants.{Run}
 use Rattle.record.specs.Image.{imageSize}
@@ -39,8 +39,8 @@ use Rattle.preset_session.specs.declared.Written.{Written}
 use Rattle.preset_session.specs.declared.Written.the-variants.{Done}
 use Rattle.preset_session.specs.PresetSession.{writePayload, copyPayload, readPayload, programmingOf, programmingSize, answerOf, Granted}
 use Rattle.preset_session.proofs.Laws.{granted, done, programming-length}
-use Rattle.steps.specs.declared.Session.{Session}
-use Rattle.steps.specs.Step.{loadedWith, didOf}
+use Rattle.runs.specs.declared.Session.{Session}
+use Rattle.runs.specs.SessionRecord.{loadedWith, didOf}
 use Rattle.session_run.specs.SessionRun.{emptyOf}
 use Rattle.demands.specs.Call.{Call, Within, linesIn}
 use Rattle.demands.proofs.Moments.{running, tells}

@@ -4,7 +4,7 @@ use mathlib.Core.Bool.{true, false}
 use mathlib.Core.List.{List, [], _∷_}
 use Prim.Native.Nat.{ℕ, _-_}
 use lib.ListN.{length}
-use Rattle.pack.specs.Reach.{Reached, accepted, changed, acted-on}
+use Rattle.gauge.specs.Reach.{Reached, accepted, changed, acted-on}
 use Rattle.record.specs.declared.Event.the-variants.{Image, Change, Transact}
 use Rattle.record.specs.declared.Taken.{Taken}
 use Rattle.record.specs.declared.Taken.the-variants.{Run, Refused}
@@ -12,8 +12,8 @@ use Rattle.record.specs.Record.{masterOf, takenOf, timedOf}
 use Rattle.record.proofs.Fits.{Taking, timed-taking}
 use Rattle.runs.specs.Record.{Rec, whole, cut}
 use Rattle.runs.specs.Run.{endAfter}
-use Rattle.steps.specs.declared.Session.{Session}
-use Rattle.steps.specs.Step.{lastTick, takenDid, didOf}
+use Rattle.runs.specs.declared.Session.{Session}
+use Rattle.runs.specs.SessionRecord.{lastTick, takenDid, didOf}
 use Rattle.demands.proofs.Fitted.{fitted-has}
 
 abbrev pub Loaded : Session → Type 0

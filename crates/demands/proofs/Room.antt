@@ -16,9 +16,9 @@ use Rattle.record.specs.Record.{masterOf, takenOf, changeTimely, timedOf, asksO
 use Rattle.record.proofs.Fits.{timed-taking}
 use Rattle.runs.specs.Record.{Rec, whole, cut}
 use Rattle.runs.specs.Run.{Did, silently, Line, lineOf, linesAfter, endAfter}
-use Rattle.steps.specs.declared.Session.{Session}
-use Rattle.steps.specs.Step.{loadedWith, lastTick, takenDid, didOf}
-use Rattle.steps.proofs.Steps.{reply-length}
+use Rattle.runs.specs.declared.Session.{Session}
+use Rattle.runs.specs.SessionRecord.{loadedWith, lastTick, takenDid, didOf}
+use Rattle.runs.proofs.AnyRecord.{reply-length}
 use Rattle.demands.specs.Class.{sessionAsked}
 use Rattle.demands.specs.Demand3.{takenAsks, recAsks, asksAll}
 use Rattle.demands.proofs.Mix.{endFrom, gotFrom}

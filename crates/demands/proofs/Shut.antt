@@ -9,12 +9,10 @@ use borrow.Author.Tests.{ltb-true, le-leb}
 use lib.Dec.{leb, eqb}
 use lib.ListN.{length, getD, drop}
 use Rattle.state.specs.declared.Profile.{Profile}
-use Rattle.profile.specs.Profile.{imageSizeOf}
+use Rattle.state.specs.State.{imageSizeOf, noTick, timelyOf}
 use Rattle.numbers.specs.Choice.{pick}
 use Rattle.numbers.proofs.Bounds.{picked}
 use Rattle.state.specs.declared.Tick.{Tick}
-use Rattle.state.specs.State.{noTick}
-use Rattle.ticks.specs.Ticks.{timelyOf}
 use Rattle.gauge.specs.declared.Gauge.{Gauge}
 use Rattle.record.specs.declared.Change.the-variants as change
 use Rattle.record.specs.declared.Kind.{Kind}
@@ -27,7 +25,7 @@ use Rattle.record.specs.declared.Taken.the-variants.{Run, Refused}
 use Rattle.record.specs.Record.{limitOf, readCount, dueOf, eventOf, takenBy, timedOf}
 use Rattle.runs.specs.Record.{Rec, whole, cut}
 use Rattle.runs.specs.Run.{Did, silently, Line, lineOf, linesAfter, endAfter}
-use Rattle.steps.specs.Steps.{Steps, answeredBy}
+use Rattle.runs.specs.AnyRecord.{Steps, answeredBy}
 use Rattle.tray_record.specs.declared.Tray.{Tray}
 use Rattle.tray_record.specs.Tray.{packOf, trayKindOf, aheadOf, slotIn, acceptedFor, trayAskedBy, againOf, slotTick, trayTold, trayEvent, ofTray, trayDid}
 use Rattle.demands.specs.Sections.{fence}

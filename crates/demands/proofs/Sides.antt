@@ -27,9 +27,9 @@ use Rattle.record.specs.declared.Taken.the-variants.{Run, Refused}
 use Rattle.record.specs.Record.{masterOf, changeTimely, timedOf}
 use Rattle.runs.specs.Record.{Rec, whole, cut, kindIn}
 use Rattle.runs.specs.Run.{Did}
-use Rattle.steps.specs.declared.Session.{Session}
-use Rattle.steps.specs.Steps.{answeredBy}
-use Rattle.steps.specs.Step.{loadedWith, takenDid}
+use Rattle.runs.specs.declared.Session.{Session}
+use Rattle.runs.specs.AnyRecord.{answeredBy}
+use Rattle.runs.specs.SessionRecord.{loadedWith, takenDid}
 use Rattle.tray_record.specs.declared.Tray.{Tray}
 use Rattle.tray_record.specs.Tray.{noGauge, packOf, slotIn, slotTick, Reach, one, every, reachFound, matchedOf, aimedBy, trayReach, trayTold, wiredFirst, trayReply}
 use Rattle.demands.specs.Sections.{Class, labelling, gauging, fence}

@@ -19,8 +19,8 @@ use Rattle.record.specs.declared.Taken.the-variants.{Run, Refused}
 use Rattle.record.specs.Record.{kindOf, transactionIn, masterOf, takenOf, timedOf}
 use Rattle.record.proofs.Fits.{transaction-timely}
 use Rattle.runs.specs.Record.{whole, recsOf}
-use Rattle.steps.specs.Steps.{answeredBy}
-use Rattle.steps.specs.Step.{loadedWith, lastTick, takenDid, didOf}
+use Rattle.runs.specs.AnyRecord.{answeredBy}
+use Rattle.runs.specs.SessionRecord.{loadedWith, lastTick, takenDid, didOf}
 use Rattle.tray_record.specs.declared.Tray.{Tray}
 use Rattle.tray_record.specs.Tray.{emptyTray, packOf, trayKindOf, aheadOf, againOf, slotTick, trayTold, Reach, one, trayReach, trayActed, trayReply, ofTray, trayDid}
 use Rattle.demands.specs.Call.{Call, Within}

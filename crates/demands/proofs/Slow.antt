@@ -6,19 +6,18 @@ use Prim.Native.Nat.{ℕ, zero, suc, _-_, zero-le}
 use borrow.Author.Tests.{le-ltb}
 use native.Mathlib.Nat.{sub-zero}
 use lib.ListN.{replicate}
-use Rattle.state.specs.State.{noTick, withFlow, withTick}
-use Rattle.ticks.specs.Ticks.{elapsedOf, timelyOf}
+use Rattle.state.specs.State.{noTick, elapsedOf, timelyOf}
+use Rattle.conversion.specs.Conversion.{withFlow, flowedOf, convertOf}
+use Rattle.samples.specs.Samples.{withTick, sampledOf, sampleOf}
 use Rattle.state.specs.declared.Meter.{Meter}
-use Rattle.meter.specs.Convert.{flowedOf, convertOf}
-use Rattle.samples.specs.Samples.{sampledOf, sampleOf}
 use Rattle.samples.proofs.Laws.{sampled-first}
 use Rattle.gauge.specs.declared.Gauge.{Gauge}
 use Rattle.gauge.specs.Gauge.{withMeter, conversionOf, samplingOf}
 use Rattle.record.specs.Record.{kindOf, countAt, takenOf}
 use Rattle.runs.specs.Record.{Rec}
 use Rattle.runs.specs.Run.{silently, endAfter}
-use Rattle.steps.specs.declared.Session.{Session}
-use Rattle.steps.specs.Step.{loadedWith, didOf}
+use Rattle.runs.specs.declared.Session.{Session}
+use Rattle.runs.specs.SessionRecord.{loadedWith, didOf}
 use Rattle.demands.specs.Slow.{Sample, tickIn, sampling, converting, Timely, oneByOne, untickedGauge, unticked, Slow}
 
 -- One record

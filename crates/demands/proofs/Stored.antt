@@ -8,8 +8,8 @@ use Rattle.numbers.specs.Choice.{pick, both, butNot}
 use Rattle.numbers.proofs.Bounds.{through}
 use Rattle.state.specs.declared.Profile.{Profile}
 use Rattle.state.specs.State.{poweredOf}
-use Rattle.meter.specs.Convert.{flowedOf, convertOf}
-use Rattle.meter.specs.Read.{shownOf, readOf}
+use Rattle.conversion.specs.Conversion.{flowedOf, convertOf}
+use Rattle.reading.specs.Reading.{shownOf, readOf}
 use Rattle.state.specs.declared.Label.{Label}
 use Rattle.label.specs.Label.{inLabel, inBlock, labelCopiedOf}
 use Rattle.label.proofs.Kept.{label-written-eeprom, label-recalled-eeprom}
@@ -27,7 +27,7 @@ use Rattle.gauge.specs.Change.{changedOf}
 use Rattle.gauge.specs.Act.{ranBy, ranOf, actOf}
 use Rattle.gauge.proofs.Kept as kept
 use Rattle.gauge.proofs.Kept.{locked-label-eeprom, locked-block-eeprom}
-use Rattle.pack.specs.Image.{imageOf}
+use Rattle.gauge.specs.Image.{imageOf}
 use Rattle.record.specs.declared.Change.{Change}
 use Rattle.demands.specs.History.{Happening, imaged, changed, transacted, happened, lived, NoImage, Imageless}
 use Rattle.demands.specs.Stored.{Memory, block0, block1, shadowIn, eepromIn, lockedIn, hasAddress, imageIn, isCopy, copyActs, storedBy, storedLast}

@@ -10,12 +10,12 @@ use lib.Dec.{eqb}
 use lib.ListN.{length, getD, length-append, List·getD-append}
 use lib.Seq.{getD-append-seam}
 use Rattle.state.specs.declared.Profile.{Profile}
-use Rattle.profile.specs.Profile.{imageSizeOf}
+use Rattle.state.specs.State.{imageSizeOf}
 use Rattle.demands.specs.Images.{imageKind}
 use Rattle.demands.proofs.Images.{tray-image}
 use Rattle.numbers.specs.Choice.{pick}
 use Rattle.gauge.specs.declared.Gauge.{Gauge}
-use Rattle.pack.specs.Image.{imageOf}
+use Rattle.gauge.specs.Image.{imageOf}
 use Rattle.record.specs.declared.Event.the-variants.{Image}
 use Rattle.record.specs.declared.Taken.the-variants.{Run}
 use Rattle.record.specs.Image.{imageAddress}

@@ -8,9 +8,8 @@ use Rattle.state.specs.declared.Profile.{Profile}
 use Rattle.state.specs.declared.Profile.the-variants.{Ds2781, Ds2775}
 use Rattle.crc.specs.Crc as crc
 use Rattle.slices.specs.Slices.{laidOf}
-use Rattle.ticks.specs.Ticks.{timelyOf}
-use Rattle.state.specs.State.{poweredOf}
-use Rattle.meter.specs.Convert.{flowedOf, convertOf}
+use Rattle.state.specs.State.{timelyOf, poweredOf}
+use Rattle.conversion.specs.Conversion.{flowedOf, convertOf}
 use Rattle.block1.specs.Block1.{meterWrittenOf, blockWrittenOf}
 use Rattle.label.specs.Label.{inLabel, inBlock, labelByte, labelWrittenOf}
 use Rattle.registers.specs.Registers.{registersOf, meterByte}
@@ -19,7 +18,7 @@ use Rattle.gauge.specs.Gauge.{conversionOf, powerOnOf, writtenOf}
 use Rattle.replies.specs.Reply.{readByte, selectedOf, sourceByte}
 use Rattle.gauge.specs.declared.Gauge.{Gauge}
 use Rattle.gauge.specs.Act.{ranOf, actOf, replyOf}
-use Rattle.pack.specs.Image.{imageOf, sizeFor}
+use Rattle.gauge.specs.Image.{imageOf, sizeFor}
 use Rattle.record.specs.declared.Form.the-variants.{Short}
 use Rattle.record.specs.Record.{addressedOf, orderedOf, judgedAmong}
 use Rattle.runs.specs.Record.{Rec, whole, wholeOf, recOf, sizeOf}

@@ -17,15 +17,11 @@ use Rattle.numbers.specs.Choice.{pick, both}
 use Rattle.numbers.specs.Offset.{value, clampZ, joinedOf}
 use Rattle.state.specs.declared.Profile.{Profile}
 use Rattle.state.specs.declared.Tick.{Tick}
-use Rattle.ticks.specs.Ticks.{tickOf, elapsedOf}
+use Rattle.state.specs.State.{tickOf, elapsedOf, acrOf, fractionOf}
 use Rattle.params.specs.Params.{nbenOf, countingOf, capacityOf}
-use Rattle.charge.specs.Charge.{acrOf, fractionOf, setOf, markedOf}
-use Rattle.full.specs.Full.{filledOf}
+use Rattle.conversion.specs.Conversion.{setOf, markedOf, filledOf, convertOf, chargeIn, correctsFull, currentZ, blankedZ}
 use Rattle.state.specs.declared.Meter.{Meter}
-use Rattle.meter.specs.Convert.{convertOf}
-use Rattle.meter.specs.Read.{readOf}
-use Rattle.meter.specs.Corrections.{chargeIn, correctsFull, correctsEmpty, emptiedIn}
-use Rattle.meter.specs.Signed.{currentZ, blankedZ}
+use Rattle.reading.specs.Reading.{readOf, correctsEmpty, emptiedIn}
 use Rattle.block1.specs.Block1.{reachesOf, byteFor}
 use Rattle.bus.specs.declared.Command.{Command}
 use Rattle.bus.specs.declared.Command.the-variants.{Read, Write, Copy, Recall, Lock, Nothing}

@@ -11,8 +11,8 @@ use mathlib.Core.List.{List, [], _∷_, _++_}
 use Prim.Native.Nat.{ℕ, _+_, _-_, _≤_, _<_}
 use lib.ListN.{length, take}
 use Rattle.state.specs.declared.Profile.{Profile}
-use Rattle.profile.specs.Profile.{imageSizeOf}
-use Rattle.pack.specs.Image.{sizeFor}
+use Rattle.state.specs.State.{imageSizeOf}
+use Rattle.gauge.specs.Image.{sizeFor}
 use Rattle.demands.specs.Images.{imageKind, profileOf}
 use Rattle.slices.specs.Slices.{put}
 use Rattle.params.specs.declared.Breaks.{Breaks}
@@ -22,8 +22,8 @@ use Rattle.gauge.specs.Gauge.{powerOnOf}
 use Rattle.record.specs.Record.{orderedOf}
 use Rattle.runs.specs.Record.{Rec, whole, recsOf, recordOf}
 use Rattle.runs.specs.Run.{Did, Line, lineOf, endAfter, codesOf}
-use Rattle.steps.specs.declared.Session.{Session}
-use Rattle.steps.specs.Step.{didOf, loadedWith}
+use Rattle.runs.specs.declared.Session.{Session}
+use Rattle.runs.specs.SessionRecord.{didOf, loadedWith}
 use Rattle.session_run.specs.SessionRun.{emptyOf, TakenOut}
 use Rattle.tray_record.specs.declared.Tray.{Tray}
 use Rattle.tray_record.specs.Tray.{emptyTray, packOf, trayDid}

@@ -19,9 +19,9 @@ use Rattle.record.specs.Record.{takenOf, asksOf}
 use Rattle.runs.specs.Record.{Rec, whole, cut, recsOf}
 use Rattle.runs.specs.Run.{Did}
 use Rattle.replies.specs.Reply.{selectedOf}
-use Rattle.pack.specs.Image.{imageOf}
-use Rattle.steps.specs.declared.Session.{Session}
-use Rattle.steps.specs.Step.{didOf}
+use Rattle.gauge.specs.Image.{imageOf}
+use Rattle.runs.specs.declared.Session.{Session}
+use Rattle.runs.specs.SessionRecord.{didOf}
 use Rattle.session_run.specs.SessionRun.{emptyOf}
 use Rattle.tray_record.specs.declared.Tray.{Tray}
 use Rattle.tray_record.specs.Tray.{emptyTray, packJoined, trayTold, trayDid}

@@ -11,7 +11,7 @@ use Rattle.bus.specs.declared.Transaction.{Transaction}
 use Rattle.gauge.specs.declared.Gauge.{Gauge}
 use Rattle.gauge.specs.Change.{changedOf}
 use Rattle.gauge.specs.Act.{actOf}
-use Rattle.pack.specs.Image.{imageOf}
+use Rattle.gauge.specs.Image.{imageOf}
 use Rattle.record.specs.declared.Change.{Change as Changes}
 use Rattle.record.specs.declared.Event.{Event}
 use Rattle.record.specs.declared.Event.the-variants.{Image, Change, Transact}
@@ -20,9 +20,9 @@ use Rattle.record.specs.declared.Taken.the-variants.{Run, Refused}
 use Rattle.record.specs.Record.{masterOf, fittedOf}
 use Rattle.runs.specs.Record.{Rec, whole, cut, recsOf}
 use Rattle.runs.specs.Run.{Did}
-use Rattle.steps.specs.declared.Session.{Session}
-use Rattle.steps.specs.Steps.{Steps}
-use Rattle.steps.specs.Step.{ofSession}
+use Rattle.runs.specs.declared.Session.{Session}
+use Rattle.runs.specs.AnyRecord.{Steps}
+use Rattle.runs.specs.SessionRecord.{ofSession}
 use Rattle.tray_record.specs.declared.Tray.{Tray}
 use Rattle.tray_record.specs.Tray.{packOf, slotIn, Reach, one, every, trayReach, ofTray}
 use Rattle.demands.specs.Call.{Call, Within, Stopped}

@@ -17,7 +17,7 @@ use Rattle.record.specs.declared.Taken.the-variants.{Run, Refused}
 use Rattle.record.specs.Record.{limitOf, sizedOf, transactionOf}
 use Rattle.runs.specs.Record.{Rec, whole}
 use Rattle.runs.specs.Run.{Did, Line, linesAfter, endAfter, repliesOf}
-use Rattle.steps.specs.Step.{loadedWith, didOf}
+use Rattle.runs.specs.SessionRecord.{loadedWith, didOf}
 use Rattle.tray_record.specs.Tray.{trayDid}
 use Rattle.demands.specs.Class.{classOf, trayClass}
 

@@ -10,13 +10,13 @@ use Prim.Native.Nat.{ℕ}
 use lib.ListN.{length, take}
 use Rattle.state.specs.declared.Profile.the-variants.{Ds2781}
 use Rattle.record.specs.Image.{imageSize}
-use Rattle.pack.specs.Image.{imageOf}
+use Rattle.gauge.specs.Image.{imageOf}
 use Rattle.mending.specs.declared.Mended.the-variants.{Done}
 use Rattle.mending.specs.Mending.{Mending}
 use Rattle.runs.specs.Record.{recsOf, recordOf}
 use Rattle.runs.specs.Run.{linesAfter}
-use Rattle.steps.specs.declared.Session.{Session}
-use Rattle.steps.specs.Step.{didOf, loadedWith}
+use Rattle.runs.specs.declared.Session.{Session}
+use Rattle.runs.specs.SessionRecord.{didOf, loadedWith}
 use Rattle.session_run.specs.SessionRun.{emptyOf}
 use Rattle.demands.specs.Call.{Call, Within, linesIn, Told}
 

@@ -13,14 +13,14 @@ use Rattle.state.specs.declared.Profile.the-variants.{Ds2781}
 use Rattle.gauge.specs.declared.Gauge.{Gauge}
 use Rattle.gauge.specs.Gauge.{withMeter}
 use Rattle.block1.specs.Block1.{reblockedOf}
-use Rattle.pack.specs.Image.{imageOf}
+use Rattle.gauge.specs.Image.{imageOf}
 use Rattle.record.specs.Image.{imageAddress, imageLabel, imageAcr, imageAging, imageBl0, imageBl1}
 use Rattle.preset_session.specs.declared.Written.{Written}
 use Rattle.preset_session.specs.declared.Written.the-variants.{Done}
 use Rattle.preset_session.specs.PresetSession.{programmingSize, writtenNumber, Granted, Programming}
 use Rattle.runs.specs.Run.{Line}
-use Rattle.steps.specs.declared.Session.{Session}
-use Rattle.steps.specs.Step.{didOf, loadedWith}
+use Rattle.runs.specs.declared.Session.{Session}
+use Rattle.runs.specs.SessionRecord.{didOf, loadedWith}
 use Rattle.session_run.specs.SessionRun.{emptyOf}
 use Rattle.demands.specs.Call.{Call, Allowed, linesIn, Told}
 

@@ -6,8 +6,8 @@ use Prim.Native.Nat.{ℕ, _<_}
 use Rattle.record.specs.declared.Form.{Form}
 use Rattle.runs.specs.Record.{whole}
 use Rattle.runs.specs.Run.{Did}
-use Rattle.steps.specs.declared.Session.{Session}
-use Rattle.steps.specs.Step.{loadedWith, didOf}
+use Rattle.runs.specs.declared.Session.{Session}
+use Rattle.runs.specs.SessionRecord.{loadedWith, didOf}
 use Rattle.tray_record.specs.declared.Tray.{Tray}
 use Rattle.tray_record.specs.Tray.{emptyTray, packOf, one, trayDid}
 use Rattle.demands.specs.Call.{Call, Within}

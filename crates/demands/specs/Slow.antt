@@ -7,14 +7,15 @@ use mathlib.Core.List.{List, [], _∷_, _++_, map}
 use Prim.Native.Nat.{ℕ, _+_, _*_}
 use lib.ListN.{replicate}
 use Rattle.state.specs.declared.Tick.{Tick}
-use Rattle.state.specs.State.{noTick, withFlow, withTick}
-use Rattle.ticks.specs.Ticks.{tickOf, elapsedOf, timelyOf}
+use Rattle.state.specs.State.{noTick, tickOf, elapsedOf, timelyOf}
+use Rattle.conversion.specs.Conversion.{withFlow}
+use Rattle.samples.specs.Samples.{withTick}
 use Rattle.gauge.specs.declared.Gauge.{Gauge}
 use Rattle.gauge.specs.Gauge.{withMeter}
 use Rattle.runs.specs.Record.{Rec, whole}
 use Rattle.runs.specs.Run.{endAfter}
-use Rattle.steps.specs.declared.Session.{Session}
-use Rattle.steps.specs.Step.{loadedWith, didOf}
+use Rattle.runs.specs.declared.Session.{Session}
+use Rattle.runs.specs.SessionRecord.{loadedWith, didOf}
 
 -- the bytes of a raw current and of a tick, as a record has them
 pub record Sample : Type 0 where

@@ -24,8 +24,8 @@ use Rattle.gauge.specs.declared.Gauge.{Gauge}
 use Rattle.runs.specs.Record.{recsOf}
 use Rattle.runs.specs.Run.{endAfter, Runs}
 use Rattle.runs.proofs.Ends.{within-done}
-use Rattle.steps.specs.declared.Session.{Session}
-use Rattle.steps.specs.Step.{didOf}
+use Rattle.runs.specs.declared.Session.{Session}
+use Rattle.runs.specs.SessionRecord.{didOf}
 use Rattle.session_run.specs.declared.Ran.{Ran}
 use Rattle.session_run.specs.SessionRun.{emptyOf, resultOf}
 use Rattle.engines.specs.Engines.{sizeWords, chargeSound, averageSound, soundOf, linesText, gaugeAfter, comparedSpeech}

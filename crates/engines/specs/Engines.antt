@@ -19,7 +19,7 @@ use Rattle.registers.specs.Registers.{registersOf}
 use Rattle.gauge.specs.declared.Gauge.{Gauge}
 use Rattle.runs.specs.Record.{recsOf}
 use Rattle.runs.specs.Run.{endAfter}
-use Rattle.steps.specs.Step.{didOf}
+use Rattle.runs.specs.SessionRecord.{didOf}
 use Rattle.session_run.specs.SessionRun.{emptyOf}
 
 -- engines

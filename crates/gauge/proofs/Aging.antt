@@ -9,16 +9,11 @@ use Rattle.numbers.specs.Offset.{joinedOf}
 use Rattle.numbers.proofs.Bounds.{picked}
 use Rattle.params.specs.Params.{countingOf}
 use Rattle.state.specs.declared.Charge.{Charge}
-use Rattle.charge.specs.Charge.{acrOf, setOf, markedOf}
-use Rattle.charge.proofs.Laws.{counted-stays}
-use Rattle.full.specs.Full.{filledOf, settledOf}
-use Rattle.ticks.specs.Ticks.{elapsedOf}
+use Rattle.state.specs.State.{acrOf, elapsedOf, poweredOf}
+use Rattle.conversion.specs.Conversion.{setOf, markedOf, filledOf, settledOf, flowedOf, convertOf, currentIn, chargeIn}
+use Rattle.conversion.proofs.ChargeLaws.{counted-stays}
 use Rattle.state.specs.declared.Meter.{Meter}
-use Rattle.state.specs.State.{poweredOf}
-use Rattle.meter.specs.Convert.{flowedOf, convertOf}
-use Rattle.meter.specs.Corrections.{currentIn, chargeIn}
-use Rattle.meter.specs.Read.{readOf, drainedOf, shownOf}
-use Rattle.reading.specs.Reading.{emptiedOf}
+use Rattle.reading.specs.Reading.{readOf, drainedOf, shownOf, emptiedOf}
 use Rattle.samples.specs.Samples.{sampledOf, sampleOf}
 use Rattle.samples.proofs.Laws.{neither}
 use Rattle.block1.specs.Block1.{reachesOf, byteFor, acrWrittenOf, meterWrittenOf, meterCopiedOf, meterRecalledOf, meterLockedOf}

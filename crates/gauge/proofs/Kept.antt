@@ -6,22 +6,19 @@ use Prim.Native.Nat.{ℕ, zero, suc}
 use lib.ListN.{drop}
 use Rattle.numbers.proofs.Bounds.{picked}
 use Rattle.state.specs.declared.Profile.{Profile}
-use Rattle.cycles.specs.Cycles.{cycledOf}
+use Rattle.conversion.specs.Conversion.{cycledOf, flowedOf, convertOf}
 use Rattle.state.specs.declared.Charge.{Charge}
 use Rattle.state.specs.declared.Saved.{Saved}
-use Rattle.reading.specs.Reading.{keptOf}
+use Rattle.reading.specs.Reading.{keptOf, readOf, drainedOf, shownOf}
 use Rattle.state.specs.declared.Locks.{Locks}
 use Rattle.state.specs.declared.Block.{Block}
-use Rattle.state.specs.State.{withCells, withLocks, poweredOf}
-use Rattle.meter.specs.Convert.{flowedOf, convertOf}
-use Rattle.meter.specs.Read.{readOf, drainedOf, shownOf}
-use Rattle.ticks.specs.Ticks.{elapsedOf}
+use Rattle.block1.specs.Block1.{withCells, withLocks, meterWrittenOf, meterCopiedOf, meterRecalledOf, meterLockedOf}
+use Rattle.state.specs.State.{poweredOf, elapsedOf}
 use Rattle.samples.specs.Samples.{sampledOf, tickedOf, sampleOf}
 use Rattle.state.specs.declared.Common.{Common}
 use Rattle.state.specs.declared.Label.{Label}
 use Rattle.label.specs.Label.{inLabel, inBlock, commonLockedOf}
 use Rattle.label.proofs.Kept.{label-written-sized, label-written-eeprom, label-copied-sized, label-copied-locked, label-copied-elsewhere, label-recalled-sized, label-recalled-eeprom, label-recalled-elsewhere, common-locked-elsewhere}
-use Rattle.block1.specs.Block1.{meterWrittenOf, meterCopiedOf, meterRecalledOf, meterLockedOf}
 use Rattle.block1.proofs.Kept.{written-sized, written-eeprom, copied-sized, copied-locked, copied-elsewhere, recalled-sized, recalled-eeprom, recalled-elsewhere, locked-elsewhere, cycles-uncounted}
 use Rattle.bus.specs.declared.Command.{Command}
 use Rattle.bus.specs.declared.Command.the-variants.{Read, Write, Copy, Recall, Lock, Nothing}

@@ -13,19 +13,13 @@ use Rattle.numbers.specs.Offset.{zeroAt}
 use Rattle.numbers.proofs.Bounds.{through}
 use Rattle.state.specs.declared.Profile.{Profile}
 use Rattle.state.specs.declared.Profile.the-variants.{Ds2781, Ds2775}
-use Rattle.profile.specs.Profile.{countsCycles}
+use Rattle.state.specs.State.{countsCycles, elapsedOf, poweredOf}
 use Rattle.params.specs.declared.Counting.{Counting}
 use Rattle.params.specs.Params.{countingOf}
 use Rattle.state.specs.declared.Charge.{Charge}
-use Rattle.charge.specs.Charge.{blankedOf, countedOf}
-use Rattle.cycles.specs.Cycles.{cycledOf}
-use Rattle.ticks.specs.Ticks.{elapsedOf}
-use Rattle.reading.specs.Reading.{keptOf}
+use Rattle.conversion.specs.Conversion.{blankedOf, countedOf, cycledOf, withCharge, flowedOf, convertOf, currentIn}
+use Rattle.reading.specs.Reading.{keptOf, readOf, drainedOf, shownOf}
 use Rattle.state.specs.declared.Meter.{Meter}
-use Rattle.state.specs.State.{withCharge, poweredOf}
-use Rattle.meter.specs.Convert.{flowedOf, convertOf}
-use Rattle.meter.specs.Corrections.{currentIn}
-use Rattle.meter.specs.Read.{readOf, drainedOf, shownOf}
 use Rattle.samples.specs.Samples.{sampledOf, tickedOf, sampleOf}
 use Rattle.samples.proofs.Laws.{neither}
 use Rattle.state.specs.declared.Common.{Common}

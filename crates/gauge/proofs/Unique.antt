@@ -6,6 +6,8 @@ use Rattle.gauge.proofs.Gauge.sample
 use Rattle.gauge.proofs.Gauge.read
 use Rattle.gauge.proofs.Gauge.power_on
 use Rattle.gauge.proofs.Gauge.transact
+use Rattle.gauge.proofs.image_in
+use Rattle.gauge.proofs.image_out
 
 pub convert-once : Once convert.ended convert.Reads.Pre convert.Reads.Learnt
 convert-once κs a r r′ w w′ p h h′ = (h .0 ∙ sym (h′ .0), refl)
@@ -21,3 +23,9 @@ power-on-once κs a r r′ w w′ p h h′ = (h .0 ∙ sym (h′ .0), refl)
 
 pub transact-once : Once transact.ended transact.Reads.Pre transact.Reads.Learnt
 transact-once κs a r r′ w w′ p h h′ = (h .0 ∙ sym (h′ .0), λ i. (tt, (tt, (tt, ((h .1 .0 ∙ sym (h′ .1 .0)) i, tt)))))
+
+pub image-in-once : Once image_in.ended image_in.Reads.Pre image_in.Reads.Learnt
+image-in-once κs a r r′ w w′ p h h′ = (h .0 ∙ sym (h′ .0), refl)
+
+pub image-out-once : Once image_out.ended image_out.Reads.Pre image_out.Reads.Learnt
+image-out-once κs a r r′ w w′ p h h′ = (h .fits ∙ sym (h′ .fits), λ i. (tt, ((h .written ∙ sym (h′ .written)) i, tt)))

@@ -6,11 +6,9 @@ use Prim.Native.Nat.{ℕ, zero, suc, _+_, _*_}
 use lib.Dec.{ltb, leb, eqb}
 use Rattle.numbers.specs.Choice.{both, either, butNot}
 use Rattle.params.specs.Params.{countingOf, capacityOf}
-use Rattle.charge.specs.Charge.{fallOf}
-use Rattle.ticks.specs.Ticks.{elapsedOf}
+use Rattle.conversion.specs.Conversion.{fallOf, chargeIn, correctsFull}
+use Rattle.state.specs.State.{elapsedOf, asIn}
 use Rattle.state.specs.declared.Meter.{Meter}
-use Rattle.state.specs.State.{asIn}
-use Rattle.meter.specs.Corrections.{chargeIn, correctsFull}
 use Rattle.samples.specs.Samples.{sampledOf}
 use Rattle.bus.specs.declared.Transaction.{Transaction}
 use Rattle.record.specs.declared.Change.{Change}

@@ -4,11 +4,10 @@ use mathlib.Core.Path.{_≡_}
 use mathlib.Core.Bool.{false}
 use mathlib.Core.List.{List}
 use lib.ListN.{length}
-use Rattle.profile.specs.Profile.{countsCycles}
+use Rattle.state.specs.State.{countsCycles, MeterWF, restartedOf, LabelSized}
 use Rattle.state.specs.declared.Meter.{Meter}
-use Rattle.state.specs.State.{MeterWF, restartedOf, LabelSized}
-use Rattle.meter.specs.Convert.{convertOf}
-use Rattle.meter.specs.Read.{readOf}
+use Rattle.conversion.specs.Conversion.{convertOf}
+use Rattle.reading.specs.Reading.{readOf}
 use Rattle.samples.specs.Samples.{sampleOf}
 use Rattle.state.specs.declared.Label.{Label}
 use Rattle.label.specs.Label.{labelWrittenOf, labelCopiedOf, labelPoweredOf, labelRecalledOf, commonLockedOf}

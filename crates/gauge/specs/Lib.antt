@@ -4,3 +4,7 @@ pub mod Act
 pub mod Kept
 pub mod Aging
 pub mod Profiles
+pub mod Image
+pub mod Reach
+pub mod ImageProfiles
+pub mod ImageAging

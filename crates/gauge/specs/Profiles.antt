@@ -11,11 +11,10 @@ use Rattle.numbers.specs.Offset.{zeroAt}
 use Rattle.state.specs.declared.Profile.the-variants.{Ds2781}
 use Rattle.params.specs.Params.{countingOf}
 use Rattle.state.specs.declared.Charge.{Charge}
-use Rattle.ticks.specs.Ticks.{elapsedOf}
+use Rattle.state.specs.State.{elapsedOf}
 use Rattle.state.specs.declared.Cells.{Cells}
 use Rattle.state.specs.declared.Meter.{Meter}
-use Rattle.state.specs.State.{withCharge}
-use Rattle.meter.specs.Corrections.{currentIn}
+use Rattle.conversion.specs.Conversion.{withCharge, currentIn}
 use Rattle.samples.specs.Samples.{sampledOf}
 use Rattle.bus.specs.declared.Transaction.{Transaction}
 use Rattle.replies.specs.declared.Source.{Source}

@@ -9,12 +9,12 @@ use Rattle.slices.proofs.Laws.{put-front}
 use Rattle.streams.specs.declared.Said.{Said}
 use Rattle.streams.specs.declared.Stream.the-variants.{Output}
 use Rattle.streams.specs.Streams.{Saying, error, refusedText}
-use Rattle.transfer.specs.declared.Why.{Why}
-use Rattle.transfer.specs.declared.Answer.{Answer}
-use Rattle.transfer.specs.declared.Answer.the-variants.{Done, Refused}
-use Rattle.transfer.specs.Export.{whyNumber}
-use Rattle.transfer.specs.Import.{linesOf, dataAt, importedOf, importSize, importAnswer, Importing}
-use Rattle.transfer.proofs.Lines.{import-sized}
+use Rattle.hex.specs.declared.Why.{Why}
+use Rattle.hex.specs.declared.Answer.{Answer}
+use Rattle.hex.specs.declared.Answer.the-variants.{Done, Refused}
+use Rattle.hex.specs.Export.{whyNumber}
+use Rattle.hex.specs.Import.{linesOf, dataAt, importedOf, importSize, importAnswer, Importing}
+use Rattle.hex.proofs.Lines.{import-sized}
 use Rattle.hex_in.specs.HexIn.{whyWords, overText, mostText, roomSize, hexInSpeech}
 
 -- a refusal, by its number and its words

@@ -6,14 +6,14 @@ use lib.Dec.{ltb}
 use lib.ListN.{length}
 use Rattle.numbers.specs.Choice.{pick}
 use Rattle.streams.specs.Streams.{Speech, output, error, unreadText, refusedText}
-use Rattle.ihex.specs.declared.Fault.{Fault}
-use Rattle.ihex.specs.declared.Fault.the-variants.{Form, Checksum, Record}
-use Rattle.transfer.specs.declared.Why.{Why}
-use Rattle.transfer.specs.declared.Why.the-variants.{Line, Whole, Image, Room}
-use Rattle.transfer.specs.declared.Answer.{Answer}
-use Rattle.transfer.specs.declared.Answer.the-variants.{Done, Refused}
-use Rattle.transfer.specs.Export.{whyNumber}
-use Rattle.transfer.specs.Import.{linesOf, importedOf, importAnswer}
+use Rattle.hex.specs.declared.Fault.{Fault}
+use Rattle.hex.specs.declared.Fault.the-variants.{Form, Checksum, Record}
+use Rattle.hex.specs.declared.Why.{Why}
+use Rattle.hex.specs.declared.Why.the-variants.{Line, Whole, Image, Room}
+use Rattle.hex.specs.declared.Answer.{Answer}
+use Rattle.hex.specs.declared.Answer.the-variants.{Done, Refused}
+use Rattle.hex.specs.Export.{whyNumber}
+use Rattle.hex.specs.Import.{linesOf, importedOf, importAnswer}
 
 -- hex_in
 abbrev pub hexInName : List ℕ

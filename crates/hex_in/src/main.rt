@@ -1,16 +1,16 @@
 // hex_in: reads Intel HEX on standard input and writes the 48 bytes that it has, a label and block 1
-use ihex::Fault;
+use hex::Answer;
+use hex::Fault;
+use hex::Why;
 use streams::Input;
 use streams::Said;
 use streams::Stream;
-use transfer::Answer;
-use transfer::Why;
 ghost use mathlib.Core.Path.{_≡_};
 ghost use mathlib.Core.List.{List};
 ghost use Prim.Native.Nat.{ℕ};
 ghost use lib.ListN.{length};
 ghost use Rattle.streams.specs.Streams.{Front, Saying, error, refusedText};
-ghost use Rattle.transfer.specs.Export.{whyNumber};
+ghost use Rattle.hex.specs.Export.{whyNumber};
 ghost use Rattle.hex_in.specs.HexIn.{faultWords, whyWords, roomSize, hexInSpeech, hexInOf};
 
 fn put_fault(number: u8, fault: Fault, room: &mut [u8]) -> Said
@@ -36,7 +36,7 @@ fn put_why(why: Why, room: &mut [u8]) -> Said
     requires { ⌜ length (now room) ≡ roomSize ⌝ }
     ensures { λ r. ⌜ Saying (error (refusedText (whyNumber why) (whyWords why))) (now (room .entry)) r (now (room .exit)) ⌝ }
 {
-    let number = transfer::number(Answer::Refused(why));
+    let number = hex::number(Answer::Refused(why));
     match why {
         Why::Line(fault) => put_fault(number, fault, room),
         Why::Whole => streams::put_refused(
@@ -62,7 +62,7 @@ fn put_import(text: &[u8], room: &mut [u8]) -> Said
             count: count,
         };
     }
-    let answer = transfer::read(text, room);
+    let answer = hex::read(text, room);
     match answer {
         Answer::Done => {
             let to = Stream::Output;

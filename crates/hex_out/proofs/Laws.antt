@@ -14,12 +14,12 @@ use Rattle.streams.specs.Streams.{Front, Within, Saying, error, refusedText}
 use Rattle.streams.proofs.Laws.{cut, seen}
 use Rattle.record.specs.Image.{imageSize, imageBlock}
 use Rattle.record.specs.Record.{judgedAmong}
-use Rattle.transfer.specs.declared.Why.{Why}
-use Rattle.transfer.specs.declared.Why.the-variants.{Image}
-use Rattle.transfer.specs.declared.Answer.{Answer}
-use Rattle.transfer.specs.declared.Answer.the-variants.{Done, Refused}
-use Rattle.transfer.specs.Export.{whyNumber, acceptedOf, bothAccepted, labelOf, exportText, exportSize, exportAnswer, Exporting}
-use Rattle.transfer.proofs.Texts.{granted, label-sized, block-sized, text-length}
+use Rattle.hex.specs.declared.Why.{Why}
+use Rattle.hex.specs.declared.Why.the-variants.{Image}
+use Rattle.hex.specs.declared.Answer.{Answer}
+use Rattle.hex.specs.declared.Answer.the-variants.{Done, Refused}
+use Rattle.hex.specs.Export.{whyNumber, acceptedOf, bothAccepted, labelOf, exportText, exportSize, exportAnswer, Exporting}
+use Rattle.hex.proofs.Texts.{granted, label-sized, block-sized, text-length}
 use Rattle.hex_out.specs.HexOut.{whyWords, hexOutBy, hexOutSpeech}
 
 -- a refusal, by its number and its words

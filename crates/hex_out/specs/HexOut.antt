@@ -5,11 +5,11 @@ use Prim.Native.Nat.{ℕ}
 use Rattle.numbers.specs.Choice.{pick}
 use Rattle.streams.specs.Streams.{Speech, output, error, refusedText}
 use Rattle.record.specs.Image.{imageBlock}
-use Rattle.transfer.specs.declared.Why.{Why}
-use Rattle.transfer.specs.declared.Why.the-variants.{Line, Whole, Image, Room}
-use Rattle.transfer.specs.declared.Answer.{Answer}
-use Rattle.transfer.specs.declared.Answer.the-variants.{Done, Refused}
-use Rattle.transfer.specs.Export.{whyNumber, labelOf, exportText, exportSize, exportAnswer}
+use Rattle.hex.specs.declared.Why.{Why}
+use Rattle.hex.specs.declared.Why.the-variants.{Line, Whole, Image, Room}
+use Rattle.hex.specs.declared.Answer.{Answer}
+use Rattle.hex.specs.declared.Answer.the-variants.{Done, Refused}
+use Rattle.hex.specs.Export.{whyNumber, labelOf, exportText, exportSize, exportAnswer}
 
 -- ---- what the refusals mean
 

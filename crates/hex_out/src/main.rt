@@ -1,23 +1,23 @@
 // hex_out PACK FACTORY: writes the label and block 1 of a pack as Intel HEX, the label of the factory's image where the pack's block 0 is not locked
+use hex::Answer;
+use hex::Why;
 use streams::Input;
 use streams::Said;
 use streams::Stream;
-use transfer::Answer;
-use transfer::Why;
 ghost use mathlib.Core.Path.{_≡_};
 ghost use mathlib.Core.List.{List};
 ghost use Prim.Native.Nat.{ℕ};
 ghost use lib.ListN.{length};
 ghost use Rattle.numbers.specs.Choice.{either};
 ghost use Rattle.streams.specs.Streams.{Front, Saying, error, refusedText};
-ghost use Rattle.transfer.specs.Export.{whyNumber};
+ghost use Rattle.hex.specs.Export.{whyNumber};
 ghost use Rattle.hex_out.specs.HexOut.{whyWords, hexOutOf};
 
 fn put_why(why: Why, room: &mut [u8]) -> Said
     requires { ⌜ length (now room) ≡ 144 ⌝ }
     ensures { λ r. ⌜ Saying (error (refusedText (whyNumber why) (whyWords why))) (now (room .entry)) r (now (room .exit)) ⌝ }
 {
-    let number = transfer::number(Answer::Refused(why));
+    let number = hex::number(Answer::Refused(why));
     match why {
         Why::Line(_) => streams::put_refused(number, b"the text is refused", room),
         Why::Whole => streams::put_refused(number, b"the text is refused", room),
@@ -42,7 +42,7 @@ fn put_export<'a>(unread: bool, pack: &'a [u8], factory: &'a [u8], room: &mut [u
             count: 0,
         };
     }
-    let answer = transfer::write(pack, factory, room);
+    let answer = hex::write(pack, factory, room);
     match answer {
         Answer::Done => {
             let count = room.len();

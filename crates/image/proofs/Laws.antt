@@ -11,13 +11,13 @@ use Rattle.slices.proofs.Laws.{put-front}
 use Rattle.streams.specs.declared.Said.{Said}
 use Rattle.streams.specs.declared.Stream.the-variants.{Output}
 use Rattle.streams.specs.Streams.{Saying, error, refusedText}
-use Rattle.pack.specs.Image.{bytesOf, sizeFor}
-use Rattle.pack.proofs.Image.{size-few}
-use Rattle.steps.specs.declared.Session.{Session}
+use Rattle.gauge.specs.Image.{bytesOf, sizeFor}
+use Rattle.gauge.proofs.Image.{size-few}
+use Rattle.runs.specs.declared.Session.{Session}
 use Rattle.runs.specs.declared.Outcome.{Outcome}
 use Rattle.runs.specs.declared.Outcome.the-variants.{Done, Over}
 use Rattle.runs.specs.Run.{outcomeNumber}
-use Rattle.steps.specs.Step.{didOf}
+use Rattle.runs.specs.SessionRecord.{didOf}
 use Rattle.session_run.specs.declared.Ran.{Ran}
 use Rattle.session_run.specs.SessionRun.{emptyOf, resultOf, TakenOut}
 use Rattle.text.specs.Text.{overWords}

@@ -7,13 +7,13 @@ use Rattle.numbers.specs.Choice.{pick}
 use Rattle.streams.specs.Streams.{Speech, output, error, unreadText, refusedText}
 use Rattle.record.specs.declared.Refusal.the-variants.{Order}
 use Rattle.record.specs.Record.{refusalNumber}
-use Rattle.pack.specs.Image.{bytesOf}
-use Rattle.steps.specs.declared.Session.{Session}
+use Rattle.gauge.specs.Image.{bytesOf}
+use Rattle.runs.specs.declared.Session.{Session}
 use Rattle.runs.specs.declared.Outcome.{Outcome}
 use Rattle.runs.specs.declared.Outcome.the-variants.{Done, Over, Short}
 use Rattle.runs.specs.Record.{recsOf}
 use Rattle.runs.specs.Run.{endAfter, outcomeOf, outcomeNumber}
-use Rattle.steps.specs.Step.{didOf}
+use Rattle.runs.specs.SessionRecord.{didOf}
 use Rattle.session_run.specs.SessionRun.{emptyOf}
 use Rattle.text.specs.Text.{overWords, shortWords}
 

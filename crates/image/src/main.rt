@@ -1,6 +1,6 @@
 // image: runs the session on standard input and writes the pack image taken out at its end
 use runs::Outcome;
-use steps::Session;
+use runs::Session;
 use streams::Input;
 use streams::Said;
 use streams::Stream;

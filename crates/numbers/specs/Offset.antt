@@ -2,7 +2,7 @@
 -- 2^k - 1 are those from 0 up to 2^(k + 1) - 1, in the same order. `value` says which integer is meant.
 use Prim.Native.Nat.{ℕ, _+_, _*_, _%_, _^_, min, max}
 use lib.Dec.{ltb}
-use lib.IntN.{ℤ, pos, subℕ}
+use lib.IntN.{ℤ, pos, negsuc, negℤ, subℕ}
 use lib.Signed.{ltZ, shrZ}
 use Rattle.numbers.specs.Choice.{pick}
 
@@ -43,3 +43,19 @@ movedInto low high x = max (min x high) low
 -- two bytes as one number, the high one first
 abbrev pub joinedOf : ℕ → ℕ → ℕ
 joinedOf high low = high * 256 + low
+
+-- ---- integers, as document 01 words its signed steps
+
+abbrev pub minus : ℕ → ℤ
+minus n = negℤ (pos n)
+
+-- z, or 0 where z is below it
+abbrev pub orZero : ℤ → ℕ
+orZero (pos n) = n
+orZero (negsuc n) = 0
+
+abbrev pub atMostZ : ℤ → ℤ → ℤ
+atMostZ high z = pick (ltZ high z) high z
+
+abbrev pub atLeastZ : ℤ → ℤ → ℤ
+atLeastZ low z = pick (ltZ z low) low z

@@ -1,21 +1,23 @@
 -- What the definitions keep: a charge is well-formed after step 3, and bounds of what is seen; and what a per cent is.
 use mathlib.Core.Path.{_≡_, refl, sym}
-use mathlib.Core.Bool.{Bool}
-use Prim.Native.Nat.{ℕ, _*_, _/_, _≤_, _<_}
-use native.Mathlib.Nat.{le-div-iff-mul-le, div-lt-iff-lt-mul, div-zero}
+use mathlib.Core.Bool.{Bool, true, false}
+use Prim.Native.Nat.{ℕ, _≤_, _*_, _/_, _<_}
 use native.Mathlib.Omega.{arith}
-use lib.Dec.{ltb, eqb}
-use borrow.Author.Tests.{eqb-true, eqb-false}
 use Rattle.numbers.specs.Choice.{pick, butNot}
-use Rattle.numbers.proofs.Bounds.{picked}
-use Rattle.params.specs.declared.Curves.{Curves}
 use Rattle.params.specs.declared.Limits.{Limits}
 use Rattle.state.specs.declared.Charge.{Charge}
-use Rattle.state.specs.State.{ChargeWF}
-use Rattle.charge.specs.Charge.{acrOf}
-use Rattle.charge.proofs.Laws.{set-wf}
-use Rattle.model.proofs.Laws.{lines-full, lines-ae}
-use Rattle.reading.specs.Reading.{SeenWF, tempOf, degreesOf, emptiedOf, percentOf, seenOf}
+use Rattle.state.specs.State.{ChargeWF, MeterWF, acrOf}
+use Rattle.conversion.proofs.ChargeLaws.{share-high, set-wf}
+use Rattle.state.specs.declared.Results.{Results}
+use Rattle.reading.specs.declared.Seen.{Seen}
+use Rattle.reading.specs.Reading.{SeenWF, pointOf, drainedOf, shownOf, tempOf, degreesOf, emptiedOf, percentOf, seenOf}
+use Rattle.state.specs.declared.Meter.{Meter}
+use native.Mathlib.Nat.{le-div-iff-mul-le, div-lt-iff-lt-mul, div-zero}
+use lib.Dec.{ltb, eqb}
+use borrow.Author.Tests.{eqb-true, eqb-false}
+use Rattle.numbers.proofs.Bounds.{picked}
+use Rattle.params.specs.declared.Curves.{Curves}
+use Rattle.reading.proofs.ModelLaws.{lines-full, lines-ae}
 
 pub emptied-wf : (g : Charge) (holds point : Bool) (e : ℕ) → e ≤ 65535 → ChargeWF g → ChargeWF (emptiedOf g holds point e)
 unfolding emptiedOf
@@ -29,6 +31,15 @@ unfolding seenOf
 seen-wf p curves v t =
     let degrees = degreesOf (tempOf t) in
     record { volt = omega arith; temp = omega arith; full = lines-full curves degrees; ae = lines-ae curves degrees }
+
+pub drained-wf : (m : Meter) (p : Limits) (full40 : ℕ) (s : Seen) → full40 ≤ 65535 → SeenWF s → ChargeWF (m .charge) → ChargeWF (drainedOf m p full40 s)
+unfolding drainedOf
+drained-wf m p full40 s h seen w =
+    emptied-wf (m .charge) (s .holds) (pointOf (m .shown .reading) (m .flow .trace) p) _ (share-high _ full40 (omega (arith, seen .ae)) h) w
+
+pub shown-wf : (m : Meter) (s : Seen) (g : Charge) (r : Results) → SeenWF s → ChargeWF g → MeterWF m → MeterWF (shownOf m s g r)
+unfolding shownOf
+shown-wf m s g r seen h w = record { charge = h; average = w .average; full = seen .full; volt = seen .volt; temp = seen .temp }
 
 -- ---- per cents: below 100 where N < D, else 100, or 0 where D is 0
 

@@ -1,2 +1,11 @@
-pub mod Laws
+pub mod Figures
+pub mod Hundred
+pub mod Ends
+pub mod ModelLaws
+pub mod Product
 pub mod Unique
+pub mod Laws
+pub mod Corrections
+pub mod CycleCounter
+pub mod Meaning
+pub mod OffsetConversion

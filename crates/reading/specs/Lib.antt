@@ -1,1 +1,2 @@
+pub mod Product
 pub mod Reading

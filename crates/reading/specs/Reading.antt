@@ -1,21 +1,32 @@
--- Reading, step by step: 1 and 3 to 6. Voltage and temperature come as z + 2^31, currents are kept as z + 2^15.
-use Prim.Native.Nat.{ℕ, _+_, _-_, _*_, _/_, _^_, _≤_, _<_, min}
+-- Reading, in the six steps of document 01, each in its order. Voltage and temperature come as z + 2^31, degrees are kept as z + 2^7 and currents
+-- as z + 2^15 (offset form); beside a step that works on signed numbers stands its wording over the integers, `..Z`, and proofs/Meaning.antt has
+-- the law that both are the same.
+use Prim.Native.Nat.{ℕ, zero, suc, _+_, _-_, _*_, _/_, _^_, _≤_, _<_, min, max}
 use mathlib.Core.Bool.{Bool, true}
 use lib.Dec.{ltb, leb, eqb}
+use lib.IntN.{ℤ, pos, _+ℤ_, _-ℤ_, _*ℤ_}
+use lib.Signed.{ltZ, leZ}
 use Rattle.numbers.specs.Choice.{pick, both, either, butNot}
-use Rattle.numbers.specs.Offset.{zeroAt}
+use Rattle.numbers.specs.Offset.{zeroAt, value, clampZ, divZ, minus, orZero, atMostZ, atLeastZ}
+use Rattle.params.specs.declared.Breaks.{Breaks}
+use Rattle.params.specs.declared.Slopes.{Slopes}
 use Rattle.params.specs.declared.Curves.{Curves}
 use Rattle.params.specs.declared.Limits.{Limits}
 use Rattle.params.specs.declared.Capacity.{Capacity}
+use Rattle.params.specs.Params.{limitsOf, capacityOf, curvesOf}
 use Rattle.state.specs.declared.Charge.{Charge}
 use Rattle.state.specs.declared.Trace.{Trace}
-use Rattle.charge.specs.Charge.{acrOf, setOf, agedFullOf}
+use Rattle.state.specs.declared.Since.{Since}
 use Rattle.state.specs.declared.Model.{Model}
-use Rattle.model.specs.Model.{linesOf}
 use Rattle.state.specs.declared.Results.{Results}
 use Rattle.state.specs.declared.Reading.{Reading}
 use Rattle.state.specs.declared.Flags.{Flags}
 use Rattle.state.specs.declared.Saved.{Saved}
+use Rattle.state.specs.declared.Cells.{Cells}
+use Rattle.state.specs.declared.Flow.{Flow}
+use Rattle.state.specs.declared.Meter.{Meter}
+use Rattle.state.specs.State.{acrOf}
+use Rattle.conversion.specs.Conversion.{setOf, agedFullOf, shareOf}
 use Rattle.reading.specs.declared.Seen.{Seen}
 
 -- ---- step 1
@@ -24,13 +35,71 @@ use Rattle.reading.specs.declared.Seen.{Seen}
 abbrev pub voltOf : ℕ → ℕ
 voltOf raw = min (raw - zeroAt 31) 1023
 
+abbrev pub voltZ : ℤ → ℤ
+voltZ raw = clampZ (pos 0) (pos 1023) raw
+
 -- temperature clamped to -1,024..1,023 eighths of a degree, kept as z + 2^10
 abbrev pub tempOf : ℕ → ℕ
 tempOf raw = min (raw - (zeroAt 31 - zeroAt 10)) (2 ^ 11 - 1)
 
+abbrev pub tempZ : ℤ → ℤ
+tempZ raw = clampZ (minus 1024) (pos 1023) raw
+
 -- T = the temperature rounded to the nearest degree, halves upward, kept as z + 2^7: -128 to 128
 abbrev pub degreesOf : ℕ → ℕ
 degreesOf temp = (temp + 4) / 8
+
+abbrev pub degreesZ : ℤ → ℤ
+degreesZ temp = divZ (temp +ℤ pos 4) 8
+
+-- ---- step 2
+
+-- the step from t + 1 to t takes segment 4 if t ≥ TBP34, else 3 if t ≥ TBP23, else 2 if t ≥ TBP12, else 1
+abbrev pub slopeOf : Breaks → Slopes → ℕ → ℕ
+slopeOf b s t = pick (leb (b .b34) t) (s .s4) (pick (leb (b .b23) t) (s .s3) (pick (leb (b .b12) t) (s .s2) (s .s1)))
+
+abbrev pub slopeZ : Breaks → Slopes → ℤ → ℕ
+slopeZ b s t =
+    pick (leZ (value 7 (b .b34)) t) (s .s4)
+    (pick (leZ (value 7 (b .b23)) t) (s .s3) (pick (leZ (value 7 (b .b12)) t) (s .s2) (s .s1)))
+
+abbrev pub forty : ℕ
+forty = zeroAt 7 + 40
+
+-- the slopes of the first n steps going down from 40: the step number n + 1 leads to 39 - n
+unfoldable pub slopesOver : Breaks → Slopes → ℕ → ℕ
+slopesOver b s zero = 0
+slopesOver b s (suc n) = slopesOver b s n + slopeOf b s (forty - 1 - n)
+
+unfoldable pub slopesOverZ : Breaks → Slopes → ℕ → ℕ
+slopesOverZ b s zero = 0
+slopesOverZ b s (suc n) = slopesOverZ b s n + slopeZ b s (pos 39 -ℤ pos n)
+
+-- the slopes going down from 40 to t: 40 - t steps, none where t ≥ 40
+abbrev pub slopesTo : Breaks → Slopes → ℕ → ℕ
+slopesTo b s t = slopesOver b s (forty - t)
+
+abbrev pub slopesZ : Breaks → Slopes → ℤ → ℕ
+slopesZ b s t = slopesOverZ b s (orZero (pos 40 -ℤ t))
+
+-- FULL = 16,384 less the Full slopes, at least 8,192
+abbrev pub fullLineOf : ℕ → ℕ
+fullLineOf slopes = max (16384 - slopes) 8192
+
+abbrev pub fullLineZ : ℕ → ℤ
+fullLineZ slopes = atLeastZ (pos 8192) (pos 16384 -ℤ pos slopes)
+
+-- AE = 16 × byte 68h plus AE slopes, SE = SE slopes, each at most 8,191
+abbrev pub emptyLineOf : ℕ → ℕ → ℕ
+emptyLineOf start slopes = min (16 * start + slopes) 8191
+
+-- the three lines at t
+unfoldable pub linesOf : Curves → ℕ → Model
+linesOf p t = record {
+  full = fullLineOf (slopesTo (p .breaks) (p .full) t);
+  ae = emptyLineOf (p .start) (slopesTo (p .breaks) (p .ae) t);
+  se = emptyLineOf 0 (slopesTo (p .breaks) (p .se) t);
+}
 
 -- ---- step 3
 
@@ -38,24 +107,49 @@ degreesOf temp = (temp + 4) / 8
 abbrev pub holdsOf : ℕ → ℕ → Bool
 holdsOf volt vae = leb (4 * vae) volt
 
+-- what a reading sees: steps 1 and 2, with this test
+unfoldable pub seenOf : Limits → Curves → ℕ → ℕ → Seen
+seenOf p curves v t = record {
+  volt = voltOf v;
+  temp = tempOf t;
+  holds = holdsOf (voltOf v) (p .vae);
+  lines = linesOf curves (degreesOf (tempOf t));
+}
+
+-- what holds of it
+pub record SeenWF (s : Seen) : Type 0 where
+  pub volt : s .volt ≤ 1023
+  pub temp : s .temp < 2 ^ 11
+  pub full : s .lines .full ≤ 16384
+  pub ae : s .lines .ae ≤ 8191
+
 -- a current that is below -128 × IAE
 abbrev pub drainsOf : ℕ → ℕ → Bool
 drainsOf c iae = ltb c (zeroAt 15 - 128 * iae)
+
+abbrev pub drainsZ : ℤ → ℕ → Bool
+drainsZ c iae = ltZ c (minus (128 * iae))
 
 -- the last two CURRENTs exist and are both < -128 × IAE
 unfoldable pub drainingOf : Trace → ℕ → Bool
 drainingOf t iae = both (both (t .any) (t .two)) (both (drainsOf (t .last) iae) (drainsOf (t .before) iae))
 
--- the previous reading exists and was ≥ 4 × VAE, and the currents are such
+-- the empty point: the previous reading exists and was ≥ 4 × VAE, and the currents are such
 unfoldable pub pointOf : Reading → Trace → Limits → Bool
 pointOf previous t p = both (both (previous .known) (holdsOf (previous .volt) (p .vae))) (drainingOf t (p .iae))
 
--- at VOLT ≥ 4 × VAE this whole step is skipped. At the empty point ACR = E, fraction 0, LEARNF = (E > 0). Otherwise, with LEARNF 0 and ACR > E: ACR = E, fraction 0
+-- at VOLT ≥ 4 × VAE this whole step is skipped. At the empty point ACR = E, fraction 0, LEARNF = (E > 0). Otherwise, with LEARNF 0 and ACR > E:
+-- ACR = E, fraction 0
 unfoldable pub emptiedOf : Charge → Bool → Bool → ℕ → Charge
 emptiedOf g holds point e =
     pick holds g
     (pick point (setOf g e (ltb 0 e))
     (pick (butNot (ltb e (acrOf (g .count))) (g .learnf)) (setOf g e (g .learnf)) g))
+
+-- with E = AE × Full40 / 16,384 rounded down
+unfoldable pub drainedOf : Meter → Limits → ℕ → Seen → Charge
+drainedOf m p full40 s =
+    emptiedOf (m .charge) (s .holds) (pointOf (m .shown .reading) (m .flow .trace) p) (shareOf (s .lines .ae) full40)
 
 -- ---- step 4. With N ≤ 0 or D ≤ 0 the truncating difference is 0, and so is what is divided, or divided by 0
 
@@ -63,18 +157,31 @@ emptiedOf g holds point e =
 unfoldable pub leftOf : ℕ → ℕ → ℕ → ℕ
 leftOf acr empty full40 = 16384 * acr - empty * full40
 
+abbrev pub leftZ : ℕ → ℕ → ℕ → ℤ
+leftZ acr empty full40 = pos (16384 * acr) -ℤ pos (empty * full40)
+
 -- D = (AF - AE) × Full40
 unfoldable pub usableOf : ℕ → ℕ → ℕ → ℕ
 usableOf agedFull empty full40 = (agedFull - empty) * full40
 
--- RARC = 100 × N / D rounded down, at most 100
+abbrev pub usableZ : ℕ → ℕ → ℕ → ℤ
+usableZ agedFull empty full40 = (pos agedFull -ℤ pos empty) *ℤ pos full40
+
+-- RARC = 100 × N / D rounded down, at most 100; 0 if N ≤ 0 or D ≤ 0
 unfoldable pub percentOf : ℕ → ℕ → ℕ
 percentOf n d = min (100 * n / d) 100
 
--- RAAC = N × RSNSP / 2^22 rounded down
+abbrev pub percentZ : ℤ → ℤ → ℤ
+percentZ n d = pick (either (leZ n (pos 0)) (leZ d (pos 0))) (pos 0) (atMostZ (pos 100) (divZ (pos 100 *ℤ n) (orZero d)))
+
+-- RAAC = N × RSNSP / 2^22 rounded down, 0 if N ≤ 0
 unfoldable pub amountOf : ℕ → ℕ → ℕ
 amountOf n rsnsp = n * rsnsp / 2 ^ 22
 
+abbrev pub amountZ : ℤ → ℕ → ℤ
+amountZ n rsnsp = pick (leZ n (pos 0)) (pos 0) (divZ (n *ℤ pos rsnsp) (2 ^ 22))
+
+-- RSRC, RSAC likewise with SE
 unfoldable pub resultsOf : Model → ℕ → ℕ → Capacity → Results
 resultsOf l acr agedFull p = record {
   rarc = percentOf (leftOf acr (l .ae) (p .full40)) (usableOf agedFull (l .ae) (p .full40));
@@ -97,8 +204,9 @@ flaggedOf f holds r = record {
   sef = either (ltb (r .rsrc) 10) (butNot (f .sef) (ltb 15 (r .rsrc)));
 }
 
--- ---- step 6: unless first since power-on, if RARC divided by 4, rounded down, has changed
+-- ---- step 6
 
+-- unless first since power-on, if RARC divided by 4, rounded down, has changed
 abbrev pub savesOf : Bool → ℕ → ℕ → Bool
 savesOf known before rarc = butNot known (eqb (before / 4) (rarc / 4))
 
@@ -110,20 +218,62 @@ keptOf s save g cycles = record {
   cycles = pick save cycles (s .cycles);
 }
 
--- ---- what a reading sees
+-- ---- what full detection asks of readings: the lowest VOLT since the previous IAVG
 
--- what holds of it
-pub record SeenWF (s : Seen) : Type 0 where
-  pub volt : s .volt ≤ 1023
-  pub temp : s .temp < 2 ^ 11
-  pub full : s .lines .full ≤ 16384
-  pub ae : s .lines .ae ≤ 8191
+unfoldable pub loweredOf : Since → ℕ → Since
+loweredOf s volt = record { any = true; lowest = pick (s .any) (min (s .lowest) volt) volt }
 
--- steps 1 and 2, with the test of step 3
-unfoldable pub seenOf : Limits → Curves → ℕ → ℕ → Seen
-seenOf p curves v t = record {
-  volt = voltOf v;
-  temp = tempOf t;
-  holds = holdsOf (voltOf v) (p .vae);
-  lines = linesOf curves (degreesOf (tempOf t));
+-- ---- all six
+
+abbrev pub withSaved : Cells → Saved → Cells
+withSaved c saved = record { profile = c .profile; block = c .block; locks = c .locks; saved = saved }
+
+abbrev pub withSince : Flow → Since → Flow
+withSince f since = record { trace = f .trace; average = f .average; since = since; tick = f .tick }
+
+-- steps 5 and 6
+unfoldable pub shownOf : Meter → Seen → Charge → Results → Meter
+shownOf m s g r = record {
+  cells = withSaved (m .cells) (keptOf (m .cells .saved) (savesOf (m .shown .reading .known) (m .shown .results .rarc) (r .rarc)) g (m .cycles .count));
+  charge = g;
+  cycles = m .cycles;
+  flow = withSince (m .flow) (loweredOf (m .flow .since) (s .volt));
+  shown = record {
+    model = s .lines;
+    results = r;
+    reading = record { volt = s .volt; temp = s .temp; known = true };
+    flags = flaggedOf (m .shown .flags) (s .holds) r;
+  };
 }
+
+unfoldable pub readOf : Meter → ℕ → ℕ → Meter
+readOf m v t =
+    let block = m .cells .block .shadow in
+    let p = limitsOf block in
+    let full = capacityOf block in
+    let s = seenOf p (curvesOf block) v t in
+    let g = drainedOf m p (full .full40) s in
+    shownOf m s g (ratedOf g (s .lines) full)
+
+-- ---- what a reading of a voltage and a temperature finds in a meter
+
+abbrev pub seenIn : Meter → ℕ → ℕ → Seen
+seenIn m volt temp = let block = m .cells .block .shadow in seenOf (limitsOf block) (curvesOf block) volt temp
+
+-- E
+abbrev pub emptyIn : Meter → ℕ → ℕ → ℕ
+emptyIn m volt temp = shareOf (seenIn m volt temp .lines .ae) (capacityOf (m .cells .block .shadow) .full40)
+
+-- the empty point
+abbrev pub pointIn : Meter → Bool
+pointIn m = pointOf (m .shown .reading) (m .flow .trace) (limitsOf (m .cells .block .shadow))
+
+-- step 3 sets ACR outright: below 4 × VAE, at the empty point, or where ACR is above E with LEARNF 0
+abbrev pub correctsEmpty : Meter → ℕ → ℕ → Bool
+correctsEmpty m volt temp =
+    let above = ltb (emptyIn m volt temp) (acrOf (m .charge .count)) in
+    butNot (either (pointIn m) (butNot above (m .charge .learnf))) (seenIn m volt temp .holds)
+
+-- ACR = E, fraction 0; at the empty point LEARNF = (E > 0)
+abbrev pub emptiedIn : Meter → ℕ → ℕ → Charge
+emptiedIn m volt temp = let e = emptyIn m volt temp in setOf (m .charge) e (pick (pointIn m) (ltb 0 e) (m .charge .learnf))

@@ -1,18 +1,25 @@
-// A reading: what it sees, the empty point, the results, the flags and the saved cells.
+// A reading, in the six steps of document 01: the model, the empty point, the results, the flags and the saved cells.
+use params::Breaks;
 use params::Capacity;
 use params::Curves;
 use params::Limits;
+use params::Slopes;
 use state::Charge;
 use state::Flags;
+use state::Meter;
 use state::Model;
 use state::Reading;
 use state::Results;
 use state::Saved;
+use state::Shown;
+use state::Since;
 use state::Trace;
 ghost use mathlib.Core.Path.{_≡_};
-ghost use Prim.Native.Nat.{_*_, _≤_};
-ghost use Rattle.state.specs.State.{ChargeWF};
-ghost use Rattle.reading.specs.Reading.{SeenWF, voltOf, tempOf, seenOf, drainingOf, pointOf, emptiedOf, leftOf, usableOf, percentOf, amountOf, resultsOf, ratedOf, flaggedOf, keptOf};
+ghost use Prim.Native.Nat.{_≤_, _*_, _^_, _<_};
+ghost use Rattle.state.specs.State.{ChargeWF, MeterWF};
+ghost use Rattle.reading.specs.Reading.{loweredOf, SeenWF, drainedOf, shownOf, readOf, fullLineOf, emptyLineOf, linesOf, voltOf, tempOf, seenOf, drainingOf, pointOf, emptiedOf, leftOf, usableOf, percentOf, amountOf, resultsOf, ratedOf, flaggedOf, keptOf};
+ghost use Rattle.numbers.specs.Offset.{movedInto};
+ghost use Rattle.reading.specs.Product.{segmentsOf, weighedOf};
 
 // What a reading sees: steps 1 and 2, and whether VOLT ≥ 4 × VAE.
 pub struct Seen {
@@ -36,6 +43,86 @@ fn temp(raw: u32) -> u16
     numbers::at_most(2047, numbers::less(raw as u64, lowest)) as u16
 }
 
+// How many of the degrees from t up to 39 each segment has.
+struct Degrees {
+    s4: u8,
+    s3: u8,
+    s2: u8,
+    s1: u8,
+}
+
+// Where a segment that starts at top ends: at its breakpoint b, but at top if b is above it, and no lower than the lowest degree.
+fn end(lowest: u64, top: u64, b: u8) -> u64
+    requires { ⌜ lowest ≤ top ⌝ }
+    ensures { λ r. ⌜ r ≡ movedInto lowest top b ⌝ }
+    ensures inside { λ r. ⌜ (lowest ≤ r) × (r ≤ top) ⌝ }
+{
+    numbers::at_least(lowest, numbers::at_most(top, b as u64))
+}
+
+// Step 2: from 40 degrees, which stand as 168, down to t each segment starts where the one before it ends.
+fn segments(b: Breaks, t: u16) -> Degrees
+    ensures { λ r. ⌜ r ≡ segmentsOf b t ⌝ }
+{
+    let end1 = numbers::at_most(168, t as u64);
+    let end4 = end(end1, 168, b.b34);
+    let end3 = end(end1, end4, b.b23);
+    let end2 = end(end1, end3, b.b12);
+    Degrees {
+        s4: (168 - end4) as u8,
+        s3: (end4 - end3) as u8,
+        s2: (end3 - end2) as u8,
+        s1: (end2 - end1) as u8,
+    }
+}
+
+// Step 2: the slopes over a segment's degrees.
+fn stretch(degrees: u8, slope: u32) -> u64
+    ensures { λ r. ⌜ r ≡ degrees * slope ⌝ }
+    ensures small { λ r. ⌜ r < 2 ^ 40 ⌝ }
+{
+    (degrees as u64) * (slope as u64)
+}
+
+// Step 2: the slopes of a line going down, each as often as its segment has degrees.
+fn weighed(n: Degrees, s: Slopes) -> u64
+    ensures { λ r. ⌜ r ≡ weighedOf n s ⌝ }
+    ensures small { λ r. ⌜ r < 2 ^ 42 ⌝ }
+{
+    stretch(n.s4, s.s4) + stretch(n.s3, s.s3) + stretch(n.s2, s.s2) + stretch(n.s1, s.s1)
+}
+
+fn full_line(slopes: u64) -> u16
+    ensures { λ r. ⌜ r ≡ fullLineOf slopes ⌝ }
+{
+    numbers::at_least(8192, numbers::less(16384, slopes)) as u16
+}
+
+fn empty_line(start: u8, slopes: u64) -> u16
+    requires { ⌜ slopes < 2 ^ 42 ⌝ }
+    ensures { λ r. ⌜ r ≡ emptyLineOf start slopes ⌝ }
+{
+    let line = 16 * (start as u64) + slopes;
+    numbers::at_most(8191, line) as u16
+}
+
+// Step 2: the three lines at t degrees.
+pub fn lines(curves: Curves, t: u16) -> Model
+    ensures { λ r. ⌜ r ≡ linesOf curves t ⌝ }
+    ensures small { λ r. ⌜ (r .full ≤ 16384) × (r .ae ≤ 8191) ⌝ }
+{
+    let b = curves.breaks;
+    let full = curves.full;
+    let ae = curves.ae;
+    let se = curves.se;
+    let n = segments(b, t);
+    Model {
+        full: full_line(weighed(n, full)),
+        ae: empty_line(curves.start, weighed(n, ae)),
+        se: empty_line(0, weighed(n, se)),
+    }
+}
+
 impl Seen {
     // Steps 1 and 2, and the test of step 3.
     pub fn of(p: Limits, curves: Curves, v: u32, t: u32) -> Seen
@@ -44,7 +131,7 @@ impl Seen {
     {
         let volt = volt(v);
         let temp = temp(t);
-        let lines = model::lines(curves, (temp + 4) / 8);
+        let lines = lines(curves, (temp + 4) / 8);
         Seen {
             volt: volt,
             temp: temp,
@@ -79,12 +166,24 @@ pub fn emptied(mut g: Charge, holds: bool, point: bool, e: u16) -> Charge
         return g;
     }
     if point {
-        return charge::set(g, e, 0 < e);
+        return conversion::set(g, e, 0 < e);
     }
     if numbers::and_not((e as u32) < g.count / 4096, g.learnf) {
         g.count = (e as u32) * 4096;
     }
     g
+}
+
+// Step 3.
+fn drained(meter: Meter, p: Limits, full40: u16, s: Seen) -> Charge
+    requires { ⌜ ChargeWF (meter .charge) ⌝ }
+    requires { ⌜ SeenWF s ⌝ }
+    ensures { λ r. ⌜ r ≡ drainedOf meter p full40 s ⌝ }
+    ensures kept { λ r. ⌜ ChargeWF r ⌝ }
+{
+    let e = conversion::share(s.lines.ae as u32, full40) as u16;
+    let point = point(meter.shown.reading, meter.flow.trace, p);
+    emptied(meter.charge, s.holds, point, e)
 }
 
 // Step 4: N, or 0 where it is not above 0.
@@ -141,7 +240,7 @@ pub fn rated(g: Charge, lines: Model, p: Capacity) -> Results
     ensures { λ r. ⌜ r ≡ ratedOf g lines p ⌝ }
 {
     let acr = (g.count / 4096) as u16;
-    let af = charge::aged_full(lines.full, g.aging) as u16;
+    let af = conversion::aged_full(lines.full, g.aging) as u16;
     results_of(lines, acr, af, p)
 }
 
@@ -170,4 +269,63 @@ pub fn kept(saved: Saved, save: bool, g: Charge, cycles: u8) -> Saved
         aging: numbers::choose8(save, g.aging, saved.aging),
         cycles: numbers::choose8(save, cycles, saved.cycles),
     }
+}
+
+// A reading adds its VOLT.
+pub fn lowered(since: Since, volt: u16) -> Since
+    ensures { λ r. ⌜ r ≡ loweredOf since volt ⌝ }
+{
+    let lower = numbers::at_most(volt as u64, since.lowest as u64) as u16;
+    Since {
+        any: true,
+        lowest: numbers::choose16(since.any, lower, volt),
+    }
+}
+
+// Steps 5 and 6.
+fn shown(mut meter: Meter, s: Seen, g: Charge, r: Results) -> Meter
+    requires { ⌜ MeterWF meter ⌝ }
+    requires { ⌜ SeenWF s ⌝ }
+    requires { ⌜ ChargeWF g ⌝ }
+    ensures { λ m. ⌜ m ≡ shownOf meter s g r ⌝ }
+    ensures kept { λ m. ⌜ MeterWF m ⌝ }
+{
+    let same = meter.shown.results.rarc / 4 == r.rarc / 4;
+    let save = numbers::and_not(meter.shown.reading.known, same);
+    let saved = kept(meter.cells.saved, save, g, meter.cycles.count);
+    meter.cells.saved.acr = saved.acr;
+    meter.cells.saved.aging = saved.aging;
+    meter.cells.saved.cycles = saved.cycles;
+    meter.charge = g;
+    let since = lowered(meter.flow.since, s.volt);
+    meter.flow.since.any = since.any;
+    meter.flow.since.lowest = since.lowest;
+    let lines = s.lines;
+    let shown = Shown {
+        model: lines,
+        results: r,
+        reading: Reading {
+            volt: s.volt,
+            temp: s.temp,
+            known: true,
+        },
+        flags: flagged(meter.shown.flags, s.holds, r),
+    };
+    meter.shown = shown;
+    meter
+}
+
+// A reading of any signed 32-bit voltage and temperature, which come as z + 2^31.
+pub fn read(mut meter: Meter, v: u32, t: u32) -> Meter
+    requires { ⌜ MeterWF meter ⌝ }
+    ensures { λ r. ⌜ r ≡ readOf meter v t ⌝ }
+    ensures kept { λ r. ⌜ MeterWF r ⌝ }
+{
+    let p = Limits::of(&meter.cells.block.shadow);
+    let full = Capacity::of(&meter.cells.block.shadow);
+    let curves = Curves::of(&meter.cells.block.shadow);
+    let s = Seen::of(p, curves, v, t);
+    let g = drained(meter, p, full.full40, s);
+    let r = rated(g, s.lines, full);
+    shown(meter, s, g, r)
 }

@@ -10,9 +10,8 @@ use lib.ListN.{length, drop}
 use Rattle.numbers.proofs.Bounds.{picked, both-true}
 use Rattle.slices.specs.Slices.{pairAt}
 use Rattle.state.specs.declared.Tick.{Tick}
-use Rattle.ticks.specs.Ticks.{timelyOf}
+use Rattle.state.specs.State.{timelyOf, imageSizeOf}
 use Rattle.state.specs.declared.Profile.{Profile}
-use Rattle.profile.specs.Profile.{imageSizeOf}
 use Rattle.bus.specs.declared.Transaction.{Transaction}
 use Rattle.bus.proofs.Laws.{asked-placed}
 use Rattle.record.specs.declared.Form.{Form}

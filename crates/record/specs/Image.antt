@@ -9,7 +9,7 @@ use lib.ListN.{getD}
 use Rattle.slices.specs.Slices.{part, pairAt}
 use Rattle.numbers.specs.Choice.{pick}
 use Rattle.state.specs.declared.Profile.{Profile}
-use Rattle.profile.specs.Profile.{countsCycles}
+use Rattle.state.specs.State.{countsCycles}
 use Rattle.params.specs.declared.Breaks.{Breaks}
 use Rattle.params.specs.Params.{breaksOf}
 

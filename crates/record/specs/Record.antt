@@ -9,11 +9,10 @@ use Rattle.numbers.specs.Choice.{pick, both}
 use Rattle.numbers.specs.Offset.{zeroAt, offset32Of}
 use Rattle.slices.specs.Slices.{part, pairAt, quadAt}
 use Rattle.state.specs.declared.Tick.{Tick}
-use Rattle.ticks.specs.Ticks.{timelyOf}
+use Rattle.state.specs.State.{timelyOf, familyOf, imageSizeOf}
 use Rattle.crc.specs.Crc.{crcOf}
 use Rattle.state.specs.declared.Profile.{Profile}
 use Rattle.state.specs.declared.Profile.the-variants.{Ds2781, Ds2775}
-use Rattle.profile.specs.Profile.{familyOf, imageSizeOf}
 use Rattle.params.specs.declared.Breaks.{Breaks}
 use Rattle.bus.specs.declared.Transaction.{Transaction}
 use Rattle.bus.specs.Ask.{askedOf}

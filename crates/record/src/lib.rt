@@ -124,7 +124,7 @@ fn addressed(f: Profile, address: &[u8]) -> bool
     ensures { λ r. ⌜ r ≡ addressedOf f (now (address .entry)) ⌝ }
 {
     let c = crc::crc(&address[0..7]);
-    numbers::and(address[0] == profile::family(f), address[7] == c)
+    numbers::and(address[0] == state::family(f), address[7] == c)
 }
 
 // The breakpoints follow one another, and none is above 40 °C.
@@ -140,7 +140,7 @@ fn judged_among(f: Profile, again: bool, p: &[u8]) -> Taken
     ensures { λ r. ⌜ r ≡ judgedAmong f again (now (p .entry)) ⌝ }
 {
     let mut taken = Taken::Refused(Refusal::Size);
-    if p.len() == profile::size(f) {
+    if p.len() == state::size(f) {
         taken = Taken::Refused(Refusal::Address);
         if addressed(f, &p[ADDRESS_AT..LABEL_AT]) {
             taken = Taken::Refused(Refusal::Locks);
@@ -171,7 +171,7 @@ pub fn judged(p: &[u8]) -> Taken
 fn image_taken(f: Profile, again: bool, loaded: bool, p: &[u8]) -> Taken
     ensures { λ r. ⌜ r ≡ takenBy again (Kind.Image f) loaded (now (p .entry)) ⌝ }
 {
-    if p.len() != profile::size(f) {
+    if p.len() != state::size(f) {
         return Taken::Refused(Refusal::Size);
     }
     if !loaded {
@@ -289,7 +289,7 @@ fn sample_taken(loaded: bool, last: Tick, p: &[u8]) -> Taken
     if loaded {
         let current = numbers::offset32(slices::quad(p, 0));
         let tick = slices::pair(p, 4);
-        if ticks::timely(last, tick) {
+        if state::timely(last, tick) {
             return Taken::Run(Event::Change(Change::Sample(current, tick)));
         }
         return Taken::Refused(Refusal::Interval);

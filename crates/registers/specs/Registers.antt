@@ -7,12 +7,11 @@ use lib.ListN.{getD, set}
 use Rattle.numbers.specs.Choice.{pick}
 use Rattle.numbers.specs.Offset.{zeroAt}
 use Rattle.state.specs.declared.Flags.{Flags}
-use Rattle.profile.specs.Profile.{countsCycles}
+use Rattle.state.specs.State.{countsCycles, acrOf, fractionOf}
 use Rattle.state.specs.declared.Cycles.{Cycles}
 use Rattle.state.specs.declared.Cells.{Cells}
 use Rattle.state.specs.declared.Locks.{Locks}
 use Rattle.state.specs.declared.Meter.{Meter}
-use Rattle.charge.specs.Charge.{acrOf, fractionOf}
 use Rattle.state.specs.declared.Common.{Common}
 use Rattle.label.specs.Label.{inBlock}
 use Rattle.registers.specs.declared.Pair.{Pair}

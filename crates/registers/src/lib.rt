@@ -41,7 +41,7 @@ fn cycle_byte(c: Cells, y: Cycles) -> u8
     ensures { λ r. ⌜ r ≡ cycleByte c y ⌝ }
 {
     let f = c.profile;
-    numbers::choose8(profile::counts(f), y.count, 0xff)
+    numbers::choose8(state::counts(f), y.count, 0xff)
 }
 
 fn eeprom(k: Common, l: Locks) -> u8

@@ -6,6 +6,9 @@ use Rattle.runs.proofs.outcome_of
 use Rattle.runs.proofs.whole
 use Rattle.runs.proofs.put_record
 use Rattle.runs.proofs.code
+use Rattle.runs.proofs.refused
+use Rattle.runs.proofs.«read_off»
+use Rattle.runs.proofs.front
 
 pub outcome-number-once : Once outcome_number.ended outcome_number.Reads.Pre outcome_number.Reads.Learnt
 outcome-number-once κs a r r′ w w′ p h h′ = (h ∙ sym h′, refl)
@@ -21,3 +24,12 @@ put-record-once κs a r r′ w w′ p h h′ = (h .onward ∙ sym (h′ .onward)
 
 pub code-once : Once code.ended code.Reads.Pre code.Reads.Learnt
 code-once κs a r r′ w w′ p h h′ = (h ∙ sym h′, refl)
+
+pub refused-once : Once refused.ended refused.Reads.Pre refused.Reads.Learnt
+refused-once κs a r r′ w w′ p h h′ = (h ∙ sym h′, refl)
+
+pub read-off-once : Once «read_off».ended «read_off».Reads.Pre «read_off».Reads.Learnt
+read-off-once κs a r r′ w w′ p h h′ = (h ∙ sym h′, refl)
+
+pub front-once : Once front.ended front.Reads.Pre front.Reads.Learnt
+front-once κs a r r′ w w′ p h h′ = (h ∙ sym h′, refl)

@@ -1,2 +1,4 @@
 pub mod Record
 pub mod Run
+pub mod AnyRecord
+pub mod SessionRecord

@@ -13,17 +13,14 @@ use Rattle.params.specs.declared.Counting.{Counting}
 use Rattle.params.specs.declared.Limits.{Limits}
 use Rattle.params.specs.Params.{countingOf, limitsOf, capacityOf}
 use Rattle.state.specs.declared.Charge.{Charge}
-use Rattle.charge.specs.Charge.{currentOf, tracedOf, fallOf, countedOf}
+use Rattle.conversion.specs.Conversion.{currentOf, tracedOf, fallOf, countedOf, cycledOf, withFlags, offsetTurn, eighth, averagedOf, renewedOf, foundOf, settledOf, convertedOf, filledFlags, flowedOf, chargedOf, convertOf}
 use Rattle.state.specs.declared.Cycles.{Cycles}
-use Rattle.cycles.specs.Cycles.{cycledOf}
-use Rattle.cycles.proofs.Laws.{cycled-more}
+use Rattle.conversion.proofs.CycleLaws.{cycled-more}
 use Rattle.state.specs.declared.Average.{Average}
-use Rattle.state.specs.State.{AverageWF, MeterWF, withFlags}
-use Rattle.full.specs.Full.{offsetTurn, eighth, averagedOf, renewedOf, foundOf, settledOf}
-use Rattle.full.proofs.Laws.{settled-wf}
+use Rattle.state.specs.State.{AverageWF, MeterWF}
+use Rattle.conversion.proofs.FullLaws.{settled-wf}
 use Rattle.state.specs.declared.Flow.{Flow}
 use Rattle.state.specs.declared.Meter.{Meter}
-use Rattle.meter.specs.Convert.{convertedOf, filledFlags, flowedOf, chargedOf, convertOf}
 use Rattle.samples.specs.Samples.{sampledOf, tickedOf}
 use Rattle.samples.specs.Stretch.{chargeOver, traceOver, endsOver, averageOver, foundOver, flowOver, flowedOver, stretchedOf, Quiet, reachOf}
 use Rattle.samples.proofs.Charge.{charge-one, charge-more, charge-falls}

@@ -12,11 +12,10 @@ use Rattle.numbers.specs.Choice.{both}
 use Rattle.numbers.proofs.Bounds.{picked}
 use Rattle.params.specs.declared.Limits.{Limits}
 use Rattle.state.specs.declared.Trace.{Trace}
-use Rattle.charge.specs.Charge.{tracedOf}
+use Rattle.conversion.specs.Conversion.{tracedOf, nextMade, eighth, averagedOf, renewedOf, foundOf, taperingOf}
 use Rattle.state.specs.declared.Average.{Average}
 use Rattle.state.specs.declared.Since.{Since}
 use Rattle.state.specs.State.{AverageWF, runOf}
-use Rattle.full.specs.Full.{nextMade, eighth, averagedOf, renewedOf, foundOf, taperingOf}
 use Rattle.state.specs.declared.Flow.{Flow}
 use Rattle.samples.specs.Stretch.{traceOver, endsOver, seventhOf, meanOver, averageOver, foundOver, Quiet}
 use Rattle.samples.proofs.Numbers.{reached}

@@ -12,13 +12,11 @@ use Rattle.params.specs.Params.{countingOf, limitsOf, capacityOf}
 use Rattle.state.specs.declared.Profile.{Profile}
 use Rattle.state.specs.declared.Charge.{Charge}
 use Rattle.state.specs.declared.Trace.{Trace}
-use Rattle.charge.specs.Charge.{acrOf, turnedOf, blankedOf, fallOf}
+use Rattle.state.specs.State.{acrOf, runOf}
+use Rattle.conversion.specs.Conversion.{turnedOf, blankedOf, fallOf, withFlags, offsetTurn, renewedOf, foundOf, settledOf, convertedOf, filledFlags, chargedOf}
 use Rattle.state.specs.declared.Average.{Average}
-use Rattle.state.specs.State.{runOf, withFlags}
-use Rattle.full.specs.Full.{offsetTurn, renewedOf, foundOf, settledOf}
 use Rattle.state.specs.declared.Flow.{Flow}
 use Rattle.state.specs.declared.Meter.{Meter}
-use Rattle.meter.specs.Convert.{convertedOf, filledFlags, chargedOf}
 use Rattle.samples.specs.declared.Worn.{Worn}
 
 -- ---- steps 1 to 5

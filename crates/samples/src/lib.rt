@@ -63,7 +63,7 @@ fn count_over(f: Profile, p: Counting, g: Charge, c: u16, k: u16) -> u32
 {
     grown_over(
         g.count,
-        charge::blanked(f, p.nben, c),
+        conversion::blanked(f, p.nben, c),
         p.ab,
         adds_over(g.mark, k),
     )
@@ -116,7 +116,7 @@ fn charge_over(f: Profile, p: Counting, g: Charge, last: u16, c: u16, k: u16) ->
 {
     let count = count_over(f, p, g, c, k);
     let learnf = learnf_over(f, p, g, last, c, count);
-    let worn = worn_over(p.ac, g.age + charge::fall(g.count, count), g.aging, k);
+    let worn = worn_over(p.ac, g.age + conversion::fall(g.count, count), g.aging, k);
     Charge {
         count: count,
         age: worn.age,
@@ -189,8 +189,8 @@ fn flowed_over(mut m: Meter, p: Limits, full40: u16, c: u16, k: u16) -> Meter
     let average = average_over(flow.average, c, k);
     if 8 <= (flow.average.made % 8) as u32 + (k as u32) {
         let seven = seventh(flow.average, c);
-        if full::found(seven, flow.since, p, c) {
-            m.charge = full::filled(m.charge, m.shown.model.full, full40);
+        if conversion::found(seven, flow.since, p, c) {
+            m.charge = conversion::filled(m.charge, m.shown.model.full, full40);
             m.shown.flags.chgtf = true;
         }
         flow.since.any = false;
@@ -213,12 +213,12 @@ fn stretch(m: Meter, raw: u32, k: u16) -> Meter
     let c = numbers::choose16(
         m.flow.average.made == 1023,
         m.flow.trace.last,
-        charge::current(raw, p.cob),
+        conversion::current(raw, p.cob),
     );
     let cells = m.cells;
     let f = cells.profile;
     let charge = charge_over(f, p, m.charge, m.flow.trace.last, c, k);
-    flowed_over(meter::charged(m, charge), limits, full.full40, c, k)
+    flowed_over(conversion::charged(m, charge), limits, full.full40, c, k)
 }
 
 // How many of the conversions that are left a stretch takes: up to the end of the run of eight, where full may be found or a 1024th is made,
@@ -243,7 +243,7 @@ pub fn plain(mut m: Meter, raw: u32, n: u16) -> Meter
 {
     let mut i: u16 = 0;
     while i < n {
-        m = meter::convert(m, raw);
+        m = conversion::convert(m, raw);
         i += 1;
     }
     m
@@ -270,7 +270,7 @@ pub fn sample(mut m: Meter, raw: u32, tick: u16) -> Meter
     ensures { λ r. ⌜ r ≡ sampleOf m raw tick ⌝ }
     ensures kept { λ r. ⌜ MeterWF r ⌝ }
 {
-    let n = ticks::elapsed(m.flow.tick, tick);
+    let n = state::elapsed(m.flow.tick, tick);
     m = quick(m, raw, n);
     m.flow.tick.any = true;
     m.flow.tick.last = tick;

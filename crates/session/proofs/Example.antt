@@ -5,10 +5,10 @@ use Prim.Native.Nat.{ℕ}
 use Rattle.record.specs.Record.{kindOf, takenOf}
 use Rattle.runs.specs.Record.{wholeOf, recOf, sizeOf}
 use Rattle.runs.specs.Run.{outcomeOf}
-use Rattle.steps.specs.Step.{didOf}
+use Rattle.runs.specs.SessionRecord.{didOf}
 use Rattle.session_run.specs.SessionRun.{sessionOf}
 use Rattle.digits.specs.Digits.{hexOf, shownText, decimalText}
-use Rattle.line.specs.Line.{kindText, replyText, startText, endText}
+use Rattle.text.specs.Line.{kindText, replyText, startText, endText}
 use Rattle.text.specs.Text.{headerText, runText}
 use Rattle.session.specs.Session.{sessionText}
 

@@ -5,8 +5,8 @@ use mathlib.Core.List.{List}
 use Prim.Native.Nat.{ℕ, _<_}
 use borrow.Author.Tests.{lt-leb}
 use lib.ListN.{length}
-use Rattle.pack.specs.Image.{sizeFor}
-use Rattle.steps.specs.declared.Session.{Session}
+use Rattle.gauge.specs.Image.{sizeFor}
+use Rattle.runs.specs.declared.Session.{Session}
 use Rattle.session_run.specs.SessionRun.{TakenOut}
 
 module _ {σ : Session} {room after : List ℕ} {answer : ℕ} (t : TakenOut σ room answer after) where

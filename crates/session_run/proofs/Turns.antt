@@ -16,15 +16,15 @@ use Rattle.record.specs.Record.{masterOf}
 use Rattle.record.proofs.Fits.{Taking, timed-taking}
 use Rattle.runs.specs.Record.{Rec}
 use Rattle.runs.specs.Run.{silently, codeOf}
-use Rattle.steps.specs.declared.Session.{Session}
-use Rattle.steps.specs.declared.Asked.the-variants as asked
-use Rattle.steps.specs.declared.Record.{Record}
-use Rattle.steps.specs.Steps.{recordBy}
-use Rattle.steps.specs.Step.{SessionWF, loadedWith, lastTick, eventDid, ofSession, didOf}
-use Rattle.steps.proofs.Steps.{session-replying}
-use Rattle.steps.proofs.Fronts.{payloadOf, Ran, Front}
-use Rattle.steps.proofs.Turns as every
-use Rattle.steps.proofs.Turns.{master-part}
+use Rattle.runs.specs.declared.Session.{Session}
+use Rattle.runs.specs.declared.Asked.the-variants as asked
+use Rattle.runs.specs.declared.Record.{Record}
+use Rattle.runs.specs.AnyRecord.{recordBy}
+use Rattle.runs.specs.SessionRecord.{SessionWF, loadedWith, lastTick, eventDid, ofSession, didOf}
+use Rattle.runs.proofs.AnyRecord.{session-replying}
+use Rattle.runs.proofs.Fronts.{payloadOf, Ran, Front}
+use Rattle.runs.proofs.Turns as every
+use Rattle.runs.proofs.Turns.{master-part}
 
 pub did-same : (σ : Session) (room : ℕ) (r : Rec) → didOf σ room r ≡ recordBy ofSession σ room r
 unfolding didOf

@@ -5,8 +5,8 @@ use denote.Ref.{now}
 use Rattle.once.specs.Once.{Once}
 use Rattle.runs.specs.Run.{Result, outcomeOf}
 use Rattle.runs.proofs.Ends.{runs-same}
-use Rattle.steps.specs.declared.Session.{Session}
-use Rattle.steps.specs.Step.{didOf}
+use Rattle.runs.specs.declared.Session.{Session}
+use Rattle.runs.specs.SessionRecord.{didOf}
 use Rattle.session_run.specs.declared.Ran.{Ran}
 use Rattle.session_run.specs.SessionRun.{emptyOf, resultOf}
 use Rattle.session_run.proofs.empty

@@ -7,15 +7,15 @@ use lib.Dec.{leb}
 use lib.ListN.{length, replicate}
 use Rattle.numbers.specs.Choice.{pick}
 use Rattle.state.specs.declared.Profile.the-variants.{Ds2781}
-use Rattle.pack.specs.Image.{imageOf, sizeFor, roomAfter}
+use Rattle.gauge.specs.Image.{imageOf, sizeFor, roomAfter}
 use Rattle.record.specs.declared.Refusal.the-variants.{Order, Room}
 use Rattle.record.specs.Image.{imageSize}
 use Rattle.record.specs.Record.{refusalNumber}
 use Rattle.runs.specs.declared.Outcome.{Outcome}
 use Rattle.runs.specs.Record.{recsOf}
 use Rattle.runs.specs.Run.{Line, linesAfter, Result}
-use Rattle.steps.specs.declared.Session.{Session}
-use Rattle.steps.specs.Step.{didOf}
+use Rattle.runs.specs.declared.Session.{Session}
+use Rattle.runs.specs.SessionRecord.{didOf}
 use Rattle.session_run.specs.declared.Ran.{Ran}
 
 -- before the first record: no image was accepted, and the gauge is what all-zero cells power on to

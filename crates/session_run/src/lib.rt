@@ -4,16 +4,16 @@ use record::Event;
 use record::IMAGE_SIZE;
 use record::Refusal;
 use record::Taken;
+use runs::Asked;
 use runs::Outcome;
+use runs::Session;
 use state::Profile;
-use steps::Asked;
-use steps::Session;
 ghost use mathlib.Core.Path.{_≡_};
 ghost use Prim.Native.Nat.{_+_, _/_, _≤_};
 ghost use lib.ListN.{length};
 ghost use Rattle.runs.specs.Run.{Running, Runs};
-ghost use Rattle.pack.specs.Image.{sizeFor};
-ghost use Rattle.steps.specs.Step.{SessionWF, didOf};
+ghost use Rattle.gauge.specs.Image.{sizeFor};
+ghost use Rattle.runs.specs.SessionRecord.{SessionWF, didOf};
 ghost use Rattle.session_run.specs.SessionRun.{emptyOf, resultOf, idleOf, TakenOut};
 
 // What a session did: the state at its end, how many lines it has, and how many bytes of reply.
@@ -30,7 +30,7 @@ pub fn empty() -> Session
     ensures kept { λ r. ⌜ SessionWF r ⌝ }
 {
     let zeros = [0u8; IMAGE_SIZE];
-    let g = pack::image_in(Profile::Ds2781, &zeros);
+    let g = gauge::image_in(Profile::Ds2781, &zeros);
     Session {
         loaded: false,
         gauge: g,
@@ -51,7 +51,7 @@ fn run_all(s: &[u8], room: &mut [u8], answers: &mut [u64]) -> Ran
     let mut lines = 0;
     while runs::whole(&s[at..]) {
         let l = &s[at..];
-        let r = steps::front(l, loaded, gauge.meter.flow.tick, room.len() - used);
+        let r = runs::front(l, loaded, gauge.meter.flow.tick, room.len() - used);
         let end = r.used;
         let mut line = runs::code(r.kind, r.answer, 0);
         at = at + end;
@@ -62,7 +62,7 @@ fn run_all(s: &[u8], room: &mut [u8], answers: &mut [u64]) -> Ran
                 loaded = true;
                 match e {
                     Event::Image(f) => {
-                        gauge = pack::image_in(f, &l[4..end]);
+                        gauge = gauge::image_in(f, &l[4..end]);
                     }
                     Event::Change(c) => match c {
                         Change::Reading(volt, temp) => {
@@ -138,7 +138,7 @@ pub fn image_size(s: Session) -> usize
     let meter = gauge.meter;
     let cells = meter.cells;
     let f = cells.profile;
-    profile::size(f)
+    state::size(f)
 }
 
 // The image taken out of a session's state: its answer number, and the first bytes of the room.
@@ -147,7 +147,7 @@ pub fn take_out(s: Session, room: &mut [u8]) -> u8
 {
     if s.loaded {
         let g = s.gauge;
-        if pack::image_out(g, room) {
+        if gauge::image_out(g, room) {
             return 0;
         }
         return record::number(Taken::Refused(Refusal::Room));

@@ -1,2 +1,3 @@
-pub mod Laws
+pub mod ProfileLaws
 pub mod Unique
+pub mod Laws

@@ -1,11 +1,35 @@
 -- The contracts of this crate's public functions leave no choice.
 use mathlib.Core.Path.{refl, sym, _∙_}
 use Rattle.once.specs.Once.{Once}
+use Rattle.state.proofs.family
+use Rattle.state.proofs.size
+use Rattle.state.proofs.edge
+use Rattle.state.proofs.counts
 use Rattle.state.proofs.Meter.powered
 use Rattle.state.proofs.Meter.restarted
+use Rattle.state.proofs.elapsed
+use Rattle.state.proofs.timely
+
+pub family-once : Once family.ended family.Reads.Pre family.Reads.Learnt
+family-once κs a r r′ w w′ p h h′ = (h ∙ sym h′, refl)
+
+pub size-once : Once size.ended size.Reads.Pre size.Reads.Learnt
+size-once κs a r r′ w w′ p h h′ = (h .0 ∙ sym (h′ .0), refl)
+
+pub edge-once : Once edge.ended edge.Reads.Pre edge.Reads.Learnt
+edge-once κs a r r′ w w′ p h h′ = (h .0 ∙ sym (h′ .0), refl)
+
+pub counts-once : Once counts.ended counts.Reads.Pre counts.Reads.Learnt
+counts-once κs a r r′ w w′ p h h′ = (h ∙ sym h′, refl)
 
 pub powered-once : Once powered.ended powered.Reads.Pre powered.Reads.Learnt
 powered-once κs a r r′ w w′ p h h′ = (h .0 ∙ sym (h′ .0), refl)
 
 pub restarted-once : Once restarted.ended restarted.Reads.Pre restarted.Reads.Learnt
 restarted-once κs a r r′ w w′ p h h′ = (h .0 ∙ sym (h′ .0), refl)
+
+pub elapsed-once : Once elapsed.ended elapsed.Reads.Pre elapsed.Reads.Learnt
+elapsed-once κs a r r′ w w′ p h h′ = (h ∙ sym h′, refl)
+
+pub timely-once : Once timely.ended timely.Reads.Pre timely.Reads.Learnt
+timely-once κs a r r′ w w′ p h h′ = (h ∙ sym h′, refl)

@@ -1,37 +1,78 @@
--- What the gauge keeps below `Gauge`: what holds of it always, a part of it replaced, and what a power-on leaves.
-use Prim.Native.Nat.{ℕ, _-_, _*_, _^_, _≤_, _<_, _%_}
-use lib.ListN.{length}
-use mathlib.Core.Bool.{false, true}
+-- What the gauge remembers: what tells the profiles apart, ticks, what holds of the state always, and what a power-on leaves. The structs: src/lib.rt.
+use Prim.Native.Nat.{ℕ, _+_, _-_, _*_, _/_, _%_, _^_, _≤_, _<_}
+use mathlib.Core.Bool.{Bool, false, true}
 use mathlib.Core.Path.{_≡_}
-use Rattle.numbers.specs.Choice.{both}
+use lib.Dec.{leb}
+use lib.ListN.{length}
+use Rattle.numbers.specs.Choice.{pick, both}
 use Rattle.numbers.specs.Offset.{movedInto, zeroAt}
+use Rattle.state.specs.declared.Profile.{Profile}
+use Rattle.state.specs.declared.Profile.the-variants.{Ds2781, Ds2775}
 use Rattle.state.specs.declared.Average.{Average}
-use Rattle.state.specs.declared.Block.{Block}
 use Rattle.state.specs.declared.Cells.{Cells}
 use Rattle.state.specs.declared.Charge.{Charge}
 use Rattle.state.specs.declared.Cycles.{Cycles}
-use Rattle.state.specs.declared.Flags.{Flags}
 use Rattle.state.specs.declared.Flow.{Flow}
 use Rattle.state.specs.declared.Label.{Label}
-use Rattle.state.specs.declared.Locks.{Locks}
 use Rattle.state.specs.declared.Meter.{Meter}
 use Rattle.state.specs.declared.Saved.{Saved}
 use Rattle.state.specs.declared.Shown.{Shown}
-use Rattle.state.specs.declared.Since.{Since}
 use Rattle.state.specs.declared.Tick.{Tick}
 
+-- ---- the profile: the DS2781 of document 01 or the DS2775 of request [12]. All that tells the two apart, and nothing else does
+
+-- "its family code .. as in 000": the first byte of the net address
+abbrev pub familyOf : Profile → ℕ
+familyOf Ds2781 = 0x3d
+familyOf Ds2775 = 0x32
+
+-- how many bytes an image has: "one byte at the end of a 61-byte payload" is the saved cycle counter
+abbrev pub imageSizeOf : Profile → ℕ
+imageSizeOf Ds2781 = 60
+imageSizeOf Ds2775 = 61
+
+-- with NBEN, a c above minus this and below 0 counts as 0: "negative blanking takes in 25 µV itself, so -16 counts as 0"
+abbrev pub edgeOf : Profile → ℕ
+edgeOf Ds2781 = 16
+edgeOf Ds2775 = 17
+
+-- whether there is "a cycle counter": it counts, is read and written at 1Eh, and is saved
+abbrev pub countsCycles : Profile → Bool
+countsCycles Ds2781 = false
+countsCycles Ds2775 = true
+
+-- ---- the ticks of samples: a 16-bit counter of intervals of 3600/1024 s, which goes round
+
+-- none is remembered after a power-on
 abbrev pub noTick : Tick
 noTick = record { any = false; last = 0 }
 
--- at power-on "the counter takes" its saved cell, and the rest is zeroed
-abbrev pub poweredCycles : ℕ → Cycles
-poweredCycles saved = record { count = saved; rest = 0 }
+-- the one remembered after a sample
+abbrev pub tickOf : ℕ → Tick
+tickOf now = record { any = true; last = now }
+
+-- "The elapsed ticks are the difference taken round the 16-bit counter, from the last kind 6 since power-on; the first counts as one."
+abbrev pub elapsedOf : Tick → ℕ → ℕ
+elapsedOf t now = pick (t .any) ((now + 2 ^ 16 - t .last) % 2 ^ 16) 1
+
+-- 11 "when the difference is 0 or above 64"
+unfoldable pub timelyOf : Tick → ℕ → Bool
+timelyOf t now = both (leb 1 (elapsedOf t now)) (leb (elapsedOf t now) 64)
+
+-- ---- what holds of it always
 
 pub record LabelSized (l : Label) : Type 0 where
   pub shadow : length (l .shadow) ≡ 16
   pub eeprom : length (l .eeprom) ≡ 16
 
--- what holds of every charge
+-- ACR and its fraction, of the count ACR × 4,096 + fraction
+abbrev pub acrOf : ℕ → ℕ
+acrOf count = count / 4096
+
+abbrev pub fractionOf : ℕ → ℕ
+fractionOf count = count % 4096
+
+-- of every charge
 pub record ChargeWF (g : Charge) : Type 0 where
   pub count : g .count < 2 ^ 28
   pub age : g .age < 32 * 65535
@@ -42,55 +83,18 @@ pub record ChargeWF (g : Charge) : Type 0 where
 abbrev pub runOf : Average → ℕ
 runOf a = a .made % 8
 
--- what holds of every average
+-- of every average
 pub record AverageWF (a : Average) : Type 0 where
   pub made : a .made < 1024
   pub sum : a .sum ≤ 65535 * runOf a
 
--- what holds of every meter: a power-on establishes it and every event keeps it
+-- of every meter: a power-on establishes it and every event keeps it
 pub record MeterWF (m : Meter) : Type 0 where
   pub charge : ChargeWF (m .charge)
   pub average : AverageWF (m .flow .average)
   pub full : m .shown .model .full ≤ 16384
   pub volt : m .shown .reading .volt ≤ 1023
   pub temp : m .shown .reading .temp < 2 ^ 11
-
--- ---- a meter with one of its groups replaced
-
-abbrev pub withCells : Meter → Cells → Meter
-withCells m cells = record { cells = cells; charge = m .charge; cycles = m .cycles; flow = m .flow; shown = m .shown }
-
-abbrev pub withCharge : Meter → Charge → Meter
-withCharge m charge = record { cells = m .cells; charge = charge; cycles = m .cycles; flow = m .flow; shown = m .shown }
-
-abbrev pub withCycles : Meter → Cycles → Meter
-withCycles m cycles = record { cells = m .cells; charge = m .charge; cycles = cycles; flow = m .flow; shown = m .shown }
-
-abbrev pub withFlow : Meter → Flow → Meter
-withFlow m flow = record { cells = m .cells; charge = m .charge; cycles = m .cycles; flow = flow; shown = m .shown }
-
-abbrev pub withShown : Meter → Shown → Meter
-withShown m shown = record { cells = m .cells; charge = m .charge; cycles = m .cycles; flow = m .flow; shown = shown }
-
--- ---- a group with one of its parts replaced
-
-abbrev pub withBlock : Cells → Block → Cells
-withBlock c block = record { profile = c .profile; block = block; locks = c .locks; saved = c .saved }
-
-abbrev pub withLocks : Cells → Locks → Cells
-withLocks c locks = record { profile = c .profile; block = c .block; locks = locks; saved = c .saved }
-
-abbrev pub withSaved : Cells → Saved → Cells
-withSaved c saved = record { profile = c .profile; block = c .block; locks = c .locks; saved = saved }
-
-abbrev pub withSince : Flow → Since → Flow
-withSince f since = record { trace = f .trace; average = f .average; since = since; tick = f .tick }
-
-abbrev pub withTick : Flow → Tick → Flow
-withTick f tick = record { trace = f .trace; average = f .average; since = f .since; tick = tick }
-
-abbrev pub withFlags : Shown → Flags → Shown
-withFlags s flags = record { model = s .model; results = s .results; reading = s .reading; flags = flags }
 
 -- ---- power-on
 
@@ -109,6 +113,10 @@ asIn aging = movedInto 63 128 aging
 -- ACR and AS from the saved cells, AS moved into 63..128; no mark
 abbrev pub poweredCharge : Saved → Charge
 poweredCharge s = record { count = s .acr * 4096; age = 0; aging = asIn (s .aging); learnf = false; mark = false }
+
+-- "the counter takes" its saved cell, and the rest is zeroed
+abbrev pub poweredCycles : ℕ → Cycles
+poweredCycles saved = record { count = saved; rest = 0 }
 
 -- no previous conversion or average, conversions are counted and the run of eight starts anew, and no tick is remembered
 abbrev pub noFlow : Flow

@@ -1,10 +1,53 @@
-// What the gauge keeps: every struct below `Gauge`, and a power-on.
+// What the gauge remembers: every struct below `Gauge`, what tells the two profiles apart, the ticks of samples, and a power-on.
 ghost use mathlib.Core.Path.{_≡_};
-ghost use Rattle.state.specs.State.{MeterWF, poweredOf, restartedOf};
+ghost use Prim.Native.Nat.{_≤_};
+ghost use Rattle.state.specs.State.{familyOf, imageSizeOf, edgeOf, countsCycles, MeterWF, poweredOf, restartedOf, elapsedOf, timelyOf};
 
 pub enum Profile {
     Ds2781,
     Ds2775,
+}
+
+// The first byte of the net address.
+pub fn family(f: Profile) -> u8
+    ensures { λ r. ⌜ r ≡ familyOf f ⌝ }
+{
+    match f {
+        Profile::Ds2781 => 0x3d,
+        Profile::Ds2775 => 0x32,
+    }
+}
+
+// How many bytes an image has.
+pub fn size(f: Profile) -> usize
+    ensures { λ r. ⌜ r ≡ imageSizeOf f ⌝ }
+    ensures near { λ r. ⌜ (60 ≤ r) × (r ≤ 61) ⌝ }
+{
+    match f {
+        Profile::Ds2781 => 60,
+        Profile::Ds2775 => 61,
+    }
+}
+
+// How far below 0 blanking ends.
+pub fn edge(f: Profile) -> u16
+    ensures { λ r. ⌜ r ≡ edgeOf f ⌝ }
+    ensures small { λ r. ⌜ r ≤ 17 ⌝ }
+{
+    match f {
+        Profile::Ds2781 => 16,
+        Profile::Ds2775 => 17,
+    }
+}
+
+// Whether there is a cycle counter.
+pub fn counts(f: Profile) -> bool
+    ensures { λ r. ⌜ r ≡ countsCycles f ⌝ }
+{
+    match f {
+        Profile::Ds2781 => false,
+        Profile::Ds2775 => true,
+    }
 }
 
 // The tick that is remembered, and whether one is.
@@ -13,10 +56,23 @@ pub struct Tick {
     pub last: u16,
 }
 
-// The counter, and how far ACR fell since its last step.
-pub struct Cycles {
-    pub count: u8,
-    pub rest: u32,
+// How many intervals a sample with this tick covers.
+pub fn elapsed(tick: Tick, now: u16) -> u16
+    ensures { λ r. ⌜ r ≡ elapsedOf tick now ⌝ }
+{
+    if tick.any {
+        std::num::wrapping_sub_u16(now, tick.last)
+    } else {
+        1
+    }
+}
+
+// Whether these are 1 to 64, so that the sample is taken.
+pub fn timely(tick: Tick, now: u16) -> bool
+    ensures { λ r. ⌜ r ≡ timelyOf tick now ⌝ }
+{
+    let n = elapsed(tick, now);
+    numbers::and(1 <= n, n <= 64)
 }
 
 // What only fences change.
@@ -31,6 +87,33 @@ pub struct Label {
     pub eeprom: [u8; 16],
 }
 
+// Block 1.
+pub struct Block {
+    pub shadow: [u8; 32],
+    pub eeprom: [u8; 32],
+}
+
+// The saved cells: ACR, AS and the cycle counter.
+pub struct Saved {
+    pub acr: u16,
+    pub aging: u8,
+    pub cycles: u8,
+}
+
+// LOCK and BL1.
+pub struct Locks {
+    pub lock: bool,
+    pub bl1: bool,
+}
+
+// What writes, copy, recall, lock and the save change, and the profile, which nothing changes. (The order of fields, here and below: docs/SPEED.md.)
+pub struct Cells {
+    pub saved: Saved,
+    pub profile: Profile,
+    pub locks: Locks,
+    pub block: Block,
+}
+
 // ACR × 4,096 + fraction, AS, LEARNF, the mark after an ACR write and the age counter. (Side by side, count and age would be passed as one
 // number of eight bytes.)
 pub struct Charge {
@@ -39,6 +122,12 @@ pub struct Charge {
     pub learnf: bool,
     pub mark: bool,
     pub age: u32,
+}
+
+// The counter, and how far ACR fell since its last step.
+pub struct Cycles {
+    pub count: u8,
+    pub rest: u32,
 }
 
 // CURRENT and the c before it, and whether there is one, and two. (The order of fields: docs/SPEED.md.)
@@ -61,6 +150,14 @@ pub struct Average {
 pub struct Since {
     pub any: bool,
     pub lowest: u16,
+}
+
+// The flow of currents: the last two, how many and the run of eight, the readings since it began, and the tick of the last sample.
+pub struct Flow {
+    pub trace: Trace,
+    pub since: Since,
+    pub average: Average,
+    pub tick: Tick,
 }
 
 // FULL, AE and SE.
@@ -89,41 +186,6 @@ pub struct Flags {
     pub chgtf: bool,
     pub sef: bool,
     pub porf: bool,
-}
-
-// The saved cells: ACR, AS and the cycle counter.
-pub struct Saved {
-    pub acr: u16,
-    pub aging: u8,
-    pub cycles: u8,
-}
-
-// Block 1.
-pub struct Block {
-    pub shadow: [u8; 32],
-    pub eeprom: [u8; 32],
-}
-
-// LOCK and BL1.
-pub struct Locks {
-    pub lock: bool,
-    pub bl1: bool,
-}
-
-// What writes, copy, recall, lock and the save change, and the profile, which nothing changes. (The order of fields, here and below: docs/SPEED.md.)
-pub struct Cells {
-    pub saved: Saved,
-    pub profile: Profile,
-    pub locks: Locks,
-    pub block: Block,
-}
-
-// The flow of currents: the last two, how many and the run of eight, the readings since it began, and the tick of the last sample.
-pub struct Flow {
-    pub trace: Trace,
-    pub since: Since,
-    pub average: Average,
-    pub tick: Tick,
 }
 
 // What a reading shows, and the flags.

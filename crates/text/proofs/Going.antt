@@ -14,7 +14,7 @@ use Rattle.slices.specs.Slices.{part}
 use Rattle.slices.proofs.Laws.{part-length, part-rest}
 use Rattle.text.specs.Text.{codeKind, codeAnswer, codeReplied, codesText}
 use Rattle.digits.specs.Digits.{decimalText, Writing}
-use Rattle.line.specs.Line.{lineText, fieldsText, startText, endText}
+use Rattle.text.specs.Line.{lineText, fieldsText, startText, endText}
 use Rattle.digits.proofs.Laws.{kept, none, then, wider}
 
 -- i lines are written, with so much of the replies: whatever is written behind them as the rest makes the whole

@@ -1,6 +1,7 @@
+pub mod LineLaws
+pub mod Unique
 pub mod Laws
 pub mod Going
 pub mod Lines
 pub mod Printed
 pub mod Ended
-pub mod Unique

@@ -8,7 +8,7 @@ use lib.ListN.{length, take, drop}
 use Rattle.numbers.specs.Choice.{pick, both}
 use Rattle.slices.specs.Slices.{put}
 use Rattle.digits.specs.Digits.{decimalText}
-use Rattle.line.specs.Line.{space, newline, dash, lineText, endText}
+use Rattle.text.specs.Line.{space, newline, dash, lineText, endText}
 use Rattle.runs.specs.declared.Outcome.{Outcome}
 use Rattle.runs.specs.declared.Outcome.the-variants.{Done, Over, Short}
 use Rattle.runs.specs.Run.{Line, outcomeNumber, outcomeOf}

@@ -1,10 +1,72 @@
-// The text of a session, as bytes in a lent buffer: a header and a line for each record.
+// What is printed: the line of an answer, and the text of a run.
 use runs::Outcome;
 ghost use mathlib.Core.Path.{_≡_};
-ghost use Prim.Native.Nat.{_+_, _*_, _≤_};
+ghost use mathlib.Core.List.{[]};
+ghost use Prim.Native.Nat.{_+_, _*_, _≤_, _<_};
 ghost use lib.ListN.{length};
-ghost use Rattle.digits.specs.Digits.{Writing};
+ghost use Rattle.digits.specs.Digits.{lower, pairsOf, Writing};
+ghost use Rattle.text.specs.Line.{kindText, fieldsText, endText};
 ghost use Rattle.text.specs.Text.{codesText, headerText, overText, codedText, mostOf, fitsOf, Held, reportOf, Reporting};
+
+fn put_kind(table: &[u8; 512], kind: usize, answer: usize, out: &mut [u8], at: usize) -> usize
+    requires { ⌜ now table ≡ pairsOf lower ⌝ }
+    requires { ⌜ kind < 65536 ⌝ }
+    requires { ⌜ at + 4 ≤ length (now out) ⌝ }
+    ensures { λ r. ⌜ Writing 4 (kindText kind answer) (now (out .entry)) at r (now (out .exit)) ⌝ }
+{
+    if answer == 2 {
+        return digits::put_bytes(b"----", out, at);
+    }
+    let next = digits::put_entry(table, (kind / 256) as u8, out, at);
+    digits::put_entry(table, (kind % 256) as u8, out, next)
+}
+
+// What stands between the number and the reply. The table for the kind's digits is the caller's: it keeps it from line to line.
+pub fn put_fields(table: &[u8; 512], kind: usize, answer: usize, out: &mut [u8], at: usize) -> usize
+    requires { ⌜ now table ≡ pairsOf lower ⌝ }
+    requires { ⌜ kind < 65536 ⌝ }
+    requires { ⌜ answer < 256 ⌝ }
+    requires { ⌜ at + 12 ≤ length (now out) ⌝ }
+    ensures { λ r. ⌜ Writing 10 (fieldsText kind answer) (now (out .entry)) at r (now (out .exit)) ⌝ }
+{
+    let a = digits::put_byte(b' ', out, at);
+    let b = put_kind(table, kind, answer, out, a);
+    let c = digits::put_byte(b' ', out, b);
+    let d = digits::put_decimal(answer, out, c);
+    digits::put_byte(b' ', out, d)
+}
+
+// The same of a record that is done, and of a kind of one byte.
+pub fn put_done(table: &[u8; 512], kind: u8, out: &mut [u8], at: usize) -> usize
+    requires { ⌜ now table ≡ pairsOf lower ⌝ }
+    requires { ⌜ at + 8 ≤ length (now out) ⌝ }
+    ensures { λ r. ⌜ Writing 8 (fieldsText kind 0) (now (out .entry)) at r (now (out .exit)) ⌝ }
+{
+    let a = digits::put_bytes(b" 00", out, at);
+    let b = digits::put_entry(table, kind, out, a);
+    digits::put_bytes(b" 0 ", out, b)
+}
+
+// The end of a line without a reply.
+pub fn put_bare_end(out: &mut [u8], at: usize) -> usize
+    requires { ⌜ at + 2 ≤ length (now out) ⌝ }
+    ensures { λ r. ⌜ Writing 2 (endText []) (now (out .entry)) at r (now (out .exit)) ⌝ }
+{
+    digits::put_bytes(b"-\n", out, at)
+}
+
+// The reply and the end of the line.
+pub fn put_end(table: &[u8; 512], reply: &[u8], out: &mut [u8], at: usize) -> usize
+    requires { ⌜ now table ≡ pairsOf lower ⌝ }
+    requires { ⌜ at + (2 + 2 * length (now reply)) ≤ length (now out) ⌝ }
+    ensures { λ r. ⌜ Writing (2 + 2 * length (now (reply .entry))) (endText (now (reply .entry))) (now (out .entry)) at r (now (out .exit)) ⌝ }
+{
+    if reply.len() == 0 {
+        return put_bare_end(out, at);
+    }
+    let next = digits::put_hex(table, reply, out, at);
+    digits::put_byte(b'\n', out, next)
+}
 
 // A line's code has its kind, its answer and the length of its reply, which is the next part of the replies. Most codes are below 655360 = 10 * 65536,
 // and have an answer of one digit and no reply; and most of these below 256, which is the kind of a record that is done.
@@ -26,19 +88,19 @@ fn put_codes(codes: &[u64], replies: &[u8], out: &mut [u8], at: usize) -> usize
         four = digits::counted_up(i, four);
         if code < 655360 {
             if code < 256 {
-                let end = line::put_done(&table, code as u8, out, start);
-                next = line::put_bare_end(out, end);
+                let end = put_done(&table, code as u8, out, start);
+                next = put_bare_end(out, end);
             } else {
                 let kind = (code % 65536) as usize;
-                let end = line::put_fields(&table, kind, (code / 65536) as usize, out, start);
-                next = line::put_bare_end(out, end);
+                let end = put_fields(&table, kind, (code / 65536) as usize, out, start);
+                next = put_bare_end(out, end);
             }
         } else {
             let kind = (code % 65536) as usize;
             let rest = &replies[used..];
             let count = numbers::at_most(rest.len() as u64, code / 16777216) as usize;
-            let end = line::put_fields(&table, kind, (code / 65536 % 256) as usize, out, start);
-            next = line::put_end(&table, &rest[..count], out, end);
+            let end = put_fields(&table, kind, (code / 65536 % 256) as usize, out, start);
+            next = put_end(&table, &rest[..count], out, end);
             used += count;
         }
     }

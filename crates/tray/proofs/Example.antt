@@ -7,7 +7,7 @@ use Rattle.runs.specs.Run.{outcomeOf}
 use Rattle.tray_record.specs.Tray.{trayKindOf, trayDid}
 use Rattle.tray_run.specs.TrayRun.{trayLines}
 use Rattle.digits.specs.Digits.{hexOf, shownText, decimalText}
-use Rattle.line.specs.Line.{kindText, replyText, startText, endText}
+use Rattle.text.specs.Line.{kindText, replyText, startText, endText}
 use Rattle.text.specs.Text.{headerText, runText}
 use Rattle.tray.specs.Tray.{trayText}
 

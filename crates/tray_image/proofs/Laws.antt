@@ -12,8 +12,8 @@ use Rattle.slices.proofs.Laws.{put-front}
 use Rattle.streams.specs.declared.Said.{Said}
 use Rattle.streams.specs.declared.Stream.the-variants.{Output}
 use Rattle.streams.specs.Streams.{Speech, Saying, error, refusedText}
-use Rattle.pack.specs.Image.{bytesOf, sizeFor}
-use Rattle.pack.proofs.Image.{size-few}
+use Rattle.gauge.specs.Image.{bytesOf, sizeFor}
+use Rattle.gauge.proofs.Image.{size-few}
 use Rattle.runs.specs.declared.Outcome.{Outcome}
 use Rattle.runs.specs.declared.Outcome.the-variants.{Done, Over}
 use Rattle.runs.specs.Run.{outcomeNumber}

@@ -8,7 +8,7 @@ use Rattle.numbers.specs.Choice.{pick, both}
 use Rattle.streams.specs.Streams.{Speech, output, error, unreadText, refusedText}
 use Rattle.record.specs.declared.Refusal.the-variants.{Order}
 use Rattle.record.specs.Record.{refusalNumber}
-use Rattle.pack.specs.Image.{bytesOf}
+use Rattle.gauge.specs.Image.{bytesOf}
 use Rattle.runs.specs.declared.Outcome.{Outcome}
 use Rattle.runs.specs.declared.Outcome.the-variants.{Done, Over, Short}
 use Rattle.runs.specs.Record.{recsOf}

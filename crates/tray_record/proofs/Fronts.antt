@@ -14,8 +14,8 @@ use Rattle.numbers.proofs.Bounds.{picked}
 use Rattle.slices.specs.Slices.{part, pairAt}
 use Rattle.state.specs.declared.Tick.{Tick}
 use Rattle.state.specs.declared.Profile.{Profile}
-use Rattle.profile.specs.Profile.{imageSizeOf}
-use Rattle.profile.proofs.Laws.{sixty}
+use Rattle.state.specs.State.{imageSizeOf}
+use Rattle.state.proofs.ProfileLaws.{sixty}
 use Rattle.state.specs.declared.Meter.{Meter}
 use Rattle.record.specs.declared.Kind.{Kind}
 use Rattle.record.specs.declared.Kind.the-variants as kind
@@ -27,11 +27,11 @@ use Rattle.record.specs.Record.{sizedOf, takenBy, timedOf, fittedOf}
 use Rattle.record.proofs.Fits.{Stateless, transaction-timely, passes}
 use Rattle.runs.specs.Record.{wholeOf}
 use Rattle.runs.proofs.Records.{whole-end}
-use Rattle.steps.specs.Steps.{takenRead, frontBy}
-use Rattle.steps.proofs.Steps.{read-whole, read-cut}
+use Rattle.runs.specs.AnyRecord.{takenRead, frontBy}
+use Rattle.runs.proofs.AnyRecord.{read-whole, read-cut}
 use Rattle.tray_record.specs.declared.Tray.{Tray}
 use Rattle.tray_record.proofs.Laws.{within}
-use Rattle.steps.specs.declared.Record.{Record}
+use Rattle.runs.specs.declared.Record.{Record}
 use Rattle.tray_record.specs.Tray.{noGauge, packOf, searchOf, isFound, trayKindOf, aheadOf, slotIn, acceptedFor, trayAskedBy, trayAskedAt, againOf, slotTick, trayTold, namedSlot, imageAt, TrayWF}
 
 -- ---- what is asked looks at the address of an image of its size alone, and at the tick of a slot that has a pack

@@ -18,7 +18,7 @@ use Rattle.gauge.specs.Act.{actOf, replyOf}
 use Rattle.record.specs.declared.Event.{Event}
 use Rattle.record.specs.declared.Event.the-variants.{Image, Change, Transact}
 use Rattle.record.specs.Record.{masterOf, asksOf}
-use Rattle.steps.proofs.Steps.{Replying, reply-length}
+use Rattle.runs.proofs.AnyRecord.{Replying, reply-length}
 use Rattle.tray_record.specs.declared.Tray.{Tray}
 use Rattle.tray_record.specs.Wire.{andBytes}
 use Rattle.tray_record.specs.Tray.{packOf, storedOf, actedFirst, wiredFirst, Reach, one, every, trayReach, trayReply, trayEvent, ofTray, TrayWF}

@@ -15,7 +15,7 @@ use Rattle.record.specs.declared.Kind.the-variants as kind
 use Rattle.record.specs.declared.Event.the-variants.{Image, Change, Transact}
 use Rattle.record.specs.declared.Taken.{Taken}
 use Rattle.record.specs.declared.Taken.the-variants.{Run, Refused}
-use Rattle.profile.specs.Profile.{imageSizeOf}
+use Rattle.state.specs.State.{imageSizeOf}
 use Rattle.record.specs.Record.{judgedBy, takenBy, timedOf, Mastered}
 use Rattle.record.proofs.Fits.{Taking, timed-by, kindSort, Sorted, sorted-by, judged-alone}
 use Rattle.tray_record.specs.declared.Tray.{Tray}

@@ -19,7 +19,7 @@ use Rattle.gauge.specs.declared.Gauge.{Gauge}
 use Rattle.gauge.specs.Gauge.{GaugeWF}
 use Rattle.gauge.specs.Change.{changedOf}
 use Rattle.gauge.specs.Act.{actOf, replyOf}
-use Rattle.pack.specs.Image.{imageOf}
+use Rattle.gauge.specs.Image.{imageOf}
 use Rattle.record.specs.declared.Form.the-variants.{Short, Long}
 use Rattle.record.specs.declared.Kind.{Kind}
 use Rattle.record.specs.declared.Kind.the-variants as kind
@@ -32,7 +32,7 @@ use Rattle.record.specs.Image.{imageSize, imageAddress}
 use Rattle.record.specs.Record.{takenBy, timedOf, masterOf}
 use Rattle.runs.specs.Record.{Rec}
 use Rattle.runs.specs.Run.{Did, silently}
-use Rattle.steps.specs.Steps.{Steps, recordBy}
+use Rattle.runs.specs.AnyRecord.{Steps, recordBy}
 use Rattle.tray_record.specs.declared.Tray.{Tray}
 use Rattle.tray_record.specs.declared.Found.{Found}
 use Rattle.tray_record.specs.declared.Found.the-variants.{At, Nowhere}

@@ -7,12 +7,12 @@ use record::IMAGE_SIZE;
 use record::Kind;
 use record::Refusal;
 use record::Taken;
+use runs::Record;
 use state::Common;
 use state::Label;
 use state::Meter;
 use state::Profile;
 use state::Tick;
-use steps::Record;
 ghost use mathlib.Core.Path.{_≡_};
 ghost use mathlib.Core.List.{_++_};
 ghost use Prim.Native.Nat.{_≤_, _<_};
@@ -20,7 +20,7 @@ ghost use lib.ListN.{length, drop};
 ghost use Rattle.gauge.specs.Gauge.{GaugeWF};
 ghost use Rattle.gauge.specs.Act.{actOf, replyOf};
 ghost use Rattle.record.specs.Record.{fittedOf};
-ghost use Rattle.steps.specs.Steps.{frontBy};
+ghost use Rattle.runs.specs.AnyRecord.{frontBy};
 ghost use Rattle.tray_record.specs.Wire.{andBytes};
 ghost use Rattle.tray_record.specs.Tray.{emptyTray, TrayWF, searchOf, trayKindOf, aheadOf, acceptedFor, trayAskedAt, isFound, matchedOf, aimedBy, trayReach, packOf, actedAt, actedFirst, wiredFirst, trayActed, trayReply, namedSlot, imageAt};
 
@@ -45,7 +45,7 @@ pub fn empty() -> Tray
     ensures kept { λ r. ⌜ TrayWF r ⌝ }
 {
     let zeros = [0u8; IMAGE_SIZE];
-    let g = pack::image_in(Profile::Ds2781, &zeros);
+    let g = gauge::image_in(Profile::Ds2781, &zeros);
     let k = g.common;
     let l = g.label;
     let m = g.meter;
@@ -163,9 +163,9 @@ pub fn front(l: &[u8], count: u8, closed: bool, again: bool, last: Tick, room: u
         let kind = slices::pair(l, 2);
         let end = 4 + n;
         let t = asked(kind, count, closed, again, last, room, &l[4..end]);
-        return steps::read_off(kind, end, t);
+        return runs::read_off(kind, end, t);
     }
-    steps::refused(0, 2, l.len())
+    runs::refused(0, 2, l.len())
 }
 
 // ---- the search

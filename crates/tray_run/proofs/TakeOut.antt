@@ -9,11 +9,10 @@ use lib.Dec.{ltb, leb}
 use lib.ListN.{length, getD}
 use Rattle.numbers.specs.Choice.{pick}
 use Rattle.numbers.proofs.Bounds.{both-true}
-use Rattle.profile.specs.Profile.{imageSizeOf}
+use Rattle.state.specs.State.{imageSizeOf, poweredOf}
 use Rattle.state.specs.declared.Meter.{Meter}
-use Rattle.state.specs.State.{poweredOf}
 use Rattle.gauge.specs.declared.Gauge.{Gauge}
-use Rattle.pack.specs.Image.{imageOf, sizeFor, roomAfter, ImageOut}
+use Rattle.gauge.specs.Image.{imageOf, sizeFor, roomAfter, ImageOut}
 use Rattle.tray_record.specs.Tray.{noGauge, packOf}
 use Rattle.tray_record.specs.declared.Tray.{Tray}
 use Rattle.tray_run.specs.TrayRun.{slotHeld, SlotOut}

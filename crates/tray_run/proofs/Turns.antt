@@ -12,13 +12,13 @@ use Rattle.label.specs.Label.{labelPoweredOf}
 use Rattle.state.specs.declared.Meter.{Meter}
 use Rattle.state.specs.State.{MeterWF, restartedOf}
 use Rattle.gauge.specs.declared.Gauge.{Gauge}
-use Rattle.meter.specs.Convert.{convertOf}
-use Rattle.meter.specs.Read.{readOf}
+use Rattle.conversion.specs.Conversion.{convertOf}
+use Rattle.reading.specs.Reading.{readOf}
 use Rattle.samples.specs.Samples.{sampleOf}
 use Rattle.gauge.specs.Gauge.{GaugeWF, withMeter, conversionOf, samplingOf, readingOf, powerOnOf}
 use Rattle.gauge.specs.Change.{changedOf}
 use Rattle.state.specs.declared.Profile.{Profile}
-use Rattle.pack.specs.Image.{imageOf}
+use Rattle.gauge.specs.Image.{imageOf}
 use Rattle.record.specs.declared.Change.{Change as Changes}
 use Rattle.record.specs.declared.Change.the-variants.{Reading, Conversion, Sample, PowerOn}
 use Rattle.record.specs.declared.Event.{Event}
@@ -27,14 +27,14 @@ use Rattle.record.specs.declared.Taken.the-variants as taken
 use Rattle.record.specs.Record.{masterOf}
 use Rattle.runs.specs.Record.{Rec}
 use Rattle.runs.specs.Run.{silently, codeOf}
-use Rattle.steps.specs.declared.Asked.the-variants as asked
-use Rattle.steps.specs.declared.Record.{Record}
-use Rattle.steps.specs.Steps.{recordBy}
+use Rattle.runs.specs.declared.Asked.the-variants as asked
+use Rattle.runs.specs.declared.Record.{Record}
+use Rattle.runs.specs.AnyRecord.{recordBy}
 use Rattle.runs.proofs.Lines.{Fits}
-use Rattle.steps.proofs.Steps.{record-fits}
-use Rattle.steps.proofs.Fronts.{payloadOf, Ran, Front}
-use Rattle.steps.proofs.Turns as every
-use Rattle.steps.proofs.Turns.{master-part}
+use Rattle.runs.proofs.AnyRecord.{record-fits}
+use Rattle.runs.proofs.Fronts.{payloadOf, Ran, Front}
+use Rattle.runs.proofs.Turns as every
+use Rattle.runs.proofs.Turns.{master-part}
 use Rattle.tray_record.specs.declared.Tray.{Tray}
 use Rattle.tray_record.specs.Tray.{noGauge, packOf, storedOf, closedOf, packJoined, slotIn, againOf, namedSlot, trayReach, trayActed, trayReply, ofTray, trayDid, TrayWF}
 use Rattle.tray_record.proofs.Laws.{within, set-each}

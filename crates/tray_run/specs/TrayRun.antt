@@ -6,7 +6,7 @@ use Prim.Native.Nat.{ℕ}
 use lib.Dec.{ltb, leb}
 use lib.ListN.{length}
 use Rattle.numbers.specs.Choice.{pick, both}
-use Rattle.pack.specs.Image.{sizeFor, roomAfter}
+use Rattle.gauge.specs.Image.{sizeFor, roomAfter}
 use Rattle.record.specs.declared.Refusal.the-variants.{Order, Room}
 use Rattle.record.specs.Record.{refusalNumber}
 use Rattle.runs.specs.declared.Outcome.{Outcome}

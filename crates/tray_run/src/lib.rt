@@ -4,20 +4,20 @@ use record::Change;
 use record::Event;
 use record::Refusal;
 use record::Taken;
+use runs::Asked;
 use runs::Outcome;
 use state::Common;
 use state::Label;
 use state::Meter;
 use state::Profile;
 use state::Tick;
-use steps::Asked;
 use tray_record::Tray;
 ghost use mathlib.Core.Path.{_≡_};
 ghost use Prim.Native.Nat.{_+_, _/_, _≤_, _<_};
 ghost use lib.ListN.{length};
 ghost use Rattle.runs.specs.Run.{Running, Runs};
-ghost use Rattle.profile.specs.Profile.{imageSizeOf};
-ghost use Rattle.pack.specs.Image.{imageOf, sizeFor};
+ghost use Rattle.state.specs.State.{imageSizeOf};
+ghost use Rattle.gauge.specs.Image.{imageOf, sizeFor};
 ghost use Rattle.tray_record.specs.Tray.{TrayWF, emptyTray, packOf, packJoined, trayDid};
 ghost use Rattle.tray_run.specs.TrayRun.{trayResultOf, trayIdleOf, SlotOut};
 
@@ -37,7 +37,7 @@ fn pack_joined(before: Tray, f: Profile, image: &[u8]) -> Tray
 {
     let mut tray = before;
     let n = slices::wide(tray.count);
-    let g = pack::image_in(f, image);
+    let g = gauge::image_in(f, image);
     let common = g.common;
     let label = g.label;
     let meter = g.meter;
@@ -86,12 +86,12 @@ fn run_all(s: &[u8], room: &mut [u8], answers: &mut [u64]) -> Ran
                     match c {
                         Change::Reading(volt, temp) => {
                             let m = tray.meters[slot];
-                            let next = meter::read(m, volt, temp);
+                            let next = reading::read(m, volt, temp);
                             tray.meters[slot] = next;
                         }
                         Change::Conversion(raw) => {
                             let m = tray.meters[slot];
-                            let next = meter::convert(m, raw);
+                            let next = conversion::convert(m, raw);
                             tray.meters[slot] = next;
                         }
                         Change::Sample(raw, tick) => {
@@ -170,7 +170,7 @@ pub fn take_out(tray: Tray, slot: u8, room: &mut [u8]) -> u8
             label: label,
             meter: meter,
         };
-        if pack::image_out(g, room) {
+        if gauge::image_out(g, room) {
             return 0;
         }
         return record::number(Taken::Refused(Refusal::Room));
@@ -191,7 +191,7 @@ pub fn image_size(tray: Tray, slot: u8) -> usize
         let meter = meters[i];
         let cells = meter.cells;
         let f = cells.profile;
-        return profile::size(f);
+        return state::size(f);
     }
     60
 }

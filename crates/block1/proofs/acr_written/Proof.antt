@@ -1,9 +1,9 @@
 use mathlib.Core.Path.{_≡_, sym, _∙_}
 use mathlib.Core.Bool.{false}
-use Rattle.charge.specs.Charge.{setOf, markedOf}
+use Rattle.conversion.specs.Conversion.{setOf, markedOf}
 use Rattle.block1.specs.Block1.{acrWrittenOf}
 use Rattle.numbers.proofs.Bounds.{both-true}
-use Rattle.charge.proofs.Laws.{set-wf, marked-wf}
+use Rattle.conversion.proofs.ChargeLaws.{set-wf, marked-wf}
 use borrow.Author.Needs.{needs}
 use Rattle.block1.proofs.acr_written.Statement.{statement}
 use Rattle.block1.proofs.acr_written.Tie as tie

@@ -3,7 +3,7 @@ use mathlib.Core.List.{List}
 use Prim.Native.Nat.{ℕ}
 use denote.Ref.{now}
 use Rattle.state.specs.declared.Meter.{Meter}
-use Rattle.state.specs.State.{withFlags}
+use Rattle.conversion.specs.Conversion.{withFlags}
 use Rattle.block1.specs.Block1.{cyclesWrittenOf, cellsWrittenOf, flagsWrittenOf, meterWrittenOf}
 use Rattle.block1.proofs.Kept.{written-above}
 use borrow.Author.Needs.{needs}

@@ -4,7 +4,7 @@ use Prim.Native.Nat.{ℕ}
 use lib.ListN.{replicate, length-replicate}
 use denote.Ref.{now}
 use Rattle.runs.specs.declared.Outcome.the-variants.{Over, Short}
-use Rattle.steps.specs.Step.{didOf}
+use Rattle.runs.specs.SessionRecord.{didOf}
 use Rattle.session_run.specs.SessionRun.{emptyOf, resultOf}
 use Rattle.text.proofs.Ended.{Ended, ended}
 use Rattle.image.proofs.Laws.{done, idle}

@@ -1,6 +1,6 @@
 use native.Mathlib.Omega.{arith}
 use Rattle.reading.specs.Reading.{ratedOf}
-use Rattle.charge.proofs.Laws.{aged-full-high}
+use Rattle.conversion.proofs.ChargeLaws.{aged-full-high}
 use borrow.Author.Needs.{needs}
 use Rattle.reading.proofs.rated.Statement.{statement}
 use Rattle.reading.proofs.rated.Tie as tie

@@ -1,7 +1,7 @@
 use mathlib.Core.Path.{_≡_, sym, ap, _∙_}
 use denote.Ref.{now}
 use Rattle.slices.specs.Slices.{pairAt}
-use Rattle.ticks.specs.Ticks.{timelyOf}
+use Rattle.state.specs.State.{timelyOf}
 use borrow.Author.Tests.{eq-eqb, ne-eqb}
 use borrow.Author.Needs.{needs}
 use Rattle.record.proofs.sample_taken.Statement.{statement}

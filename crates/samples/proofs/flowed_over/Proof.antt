@@ -2,7 +2,7 @@ use mathlib.Core.Path.{sym, _∙_}
 use mathlib.Core.Logic.{⊎-elim}
 use borrow.Author.Tests.{le-leb, lt-leb}
 use Rattle.numbers.proofs.Bounds.{also}
-use Rattle.full.specs.Full.{renewedOf, settledOf}
+use Rattle.conversion.specs.Conversion.{renewedOf, settledOf}
 use Rattle.state.specs.State.{MeterWF}
 use Rattle.samples.specs.Stretch.{flowOver, flowedOver}
 use Rattle.samples.proofs.Laws.{flowed-over-wf}

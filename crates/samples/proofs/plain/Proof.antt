@@ -3,7 +3,7 @@ use Prim.Native.Nat.{_-_, _≤_}
 use native.Mathlib.Omega.{arith}
 use Rattle.state.specs.declared.Meter.{Meter}
 use Rattle.state.specs.State.{MeterWF}
-use Rattle.meter.specs.Convert.{convertOf}
+use Rattle.conversion.specs.Conversion.{convertOf}
 use Rattle.samples.specs.Samples.{sampledOf}
 use Rattle.samples.proofs.Laws.{sampled-more}
 use borrow.Author.Needs.{needs}

@@ -6,8 +6,8 @@ use lib.ListN.{length, take, replicate, length-replicate}
 use lib.Seq.{length-take-le}
 use denote.Ref.{now}
 use Rattle.runs.specs.Run.{outcomeOf}
-use Rattle.steps.specs.Step.{didOf}
-use Rattle.steps.proofs.Steps.{did-fits}
+use Rattle.runs.specs.SessionRecord.{didOf}
+use Rattle.runs.proofs.AnyRecord.{did-fits}
 use Rattle.session_run.specs.SessionRun.{emptyOf, resultOf, sessionOf}
 use Rattle.text.specs.Text.{textOf, runText, mostOf, reportOf}
 use Rattle.text.proofs.Printed.{counts-within, session-text}

@@ -9,11 +9,11 @@ use Rattle.slices.specs.Slices.{part}
 use Rattle.slices.proofs.Laws.{part-rest}
 use Rattle.record.specs.declared.Event.the-variants.{Change}
 use Rattle.runs.proofs.Going.{going-start, going-end, going-slot, going-more}
-use Rattle.steps.specs.declared.Asked.the-variants.{Run}
-use Rattle.steps.specs.Step.{SessionWF, ofSession, didOf}
-use Rattle.steps.proofs.Steps.{did-fits, session-replying}
-use Rattle.steps.proofs.Fronts.{Front, front, ran}
-use Rattle.steps.proofs.Turns.{master-starts, room-left, front-fits, front-within, whole-more, ended-cut, First, Later}
+use Rattle.runs.specs.declared.Asked.the-variants.{Run}
+use Rattle.runs.specs.SessionRecord.{SessionWF, ofSession, didOf}
+use Rattle.runs.proofs.AnyRecord.{did-fits, session-replying}
+use Rattle.runs.proofs.Fronts.{Front, front, ran}
+use Rattle.runs.proofs.Turns.{master-starts, room-left, front-fits, front-within, whole-more, ended-cut, First, Later}
 use Rattle.session_run.specs.SessionRun.{emptyOf}
 use Rattle.session_run.proofs.Turns.{did-same, Turn, Stands, ran-taking, turn-idle, turn-silent, turn-reply}
 use borrow.Author.Needs.{needs}

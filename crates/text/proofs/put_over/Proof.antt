@@ -1,6 +1,6 @@
 -- `text::put_over` meets its contract.
 use Rattle.digits.specs.Digits.{shownText, decimalText}
-use Rattle.line.specs.Line.{replyText, endText}
+use Rattle.text.specs.Line.{replyText, endText}
 use Rattle.text.specs.Text.{overText}
 use borrow.Author.Needs.{needs}
 use Rattle.text.proofs.put_over.Statement.{statement}

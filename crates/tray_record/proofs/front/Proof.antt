@@ -1,7 +1,7 @@
 use mathlib.Core.Path.{sym, _∙_}
 use native.Mathlib.Omega.{arith}
 use denote.Ref.{now}
-use Rattle.steps.proofs.Steps.{read-whole, read-cut}
+use Rattle.runs.proofs.AnyRecord.{read-whole, read-cut}
 use Rattle.runs.proofs.Records.{whole-head, whole-end}
 use borrow.Author.Needs.{needs}
 use Rattle.tray_record.proofs.front.Statement.{statement}

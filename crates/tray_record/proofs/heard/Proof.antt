@@ -4,7 +4,7 @@ use lib.ListN.{take, length-take}
 use lib.Seq.{length-take-le, take-at}
 use denote.Ref.{now}
 use Rattle.gauge.specs.Act.{replyOf}
-use Rattle.steps.proofs.Steps.{reply-length}
+use Rattle.runs.proofs.AnyRecord.{reply-length}
 use Rattle.tray_record.specs.Wire.{andBytes}
 use borrow.Author.Needs.{needs}
 use Rattle.tray_record.proofs.heard.Statement.{statement}

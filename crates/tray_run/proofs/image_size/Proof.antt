@@ -1,9 +1,9 @@
 use mathlib.Core.Path.{ap, sym, _∙_}
 use Prim.Native.Nat.{ℕ}
 use native.Mathlib.Omega.{arith}
-use Rattle.profile.specs.Profile.{imageSizeOf}
+use Rattle.state.specs.State.{imageSizeOf}
 use Rattle.state.specs.declared.Meter.{Meter}
-use Rattle.pack.specs.Image.{sizeFor}
+use Rattle.gauge.specs.Image.{sizeFor}
 use Rattle.tray_record.specs.Tray.{noGauge, packOf}
 use Rattle.tray_record.proofs.Laws.{within}
 use Rattle.tray_run.proofs.TakeOut.{beyond}

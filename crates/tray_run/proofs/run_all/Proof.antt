@@ -10,9 +10,9 @@ use Rattle.slices.specs.Slices.{part}
 use Rattle.slices.proofs.Laws.{part-rest}
 use Rattle.record.specs.declared.Event.the-variants.{Change}
 use Rattle.runs.proofs.Going.{going-start, going-end, going-slot, going-more}
-use Rattle.steps.specs.declared.Asked.the-variants.{Run}
-use Rattle.steps.proofs.Fronts.{Front, front, ran}
-use Rattle.steps.proofs.Turns.{master-starts, room-left, front-fits, front-within, whole-more, ended-cut, First, Later}
+use Rattle.runs.specs.declared.Asked.the-variants.{Run}
+use Rattle.runs.proofs.Fronts.{Front, front, ran}
+use Rattle.runs.proofs.Turns.{master-starts, room-left, front-fits, front-within, whole-more, ended-cut, First, Later}
 use Rattle.tray_record.specs.Tray.{noGauge, emptyTray, ofTray, trayDid, TrayWF}
 use Rattle.tray_record.proofs.Laws.{pack-wf}
 use Rattle.tray_record.proofs.Hearing.{tray-replying}

@@ -1,6 +1,6 @@
 use mathlib.Core.Path.{_≡_, refl, _∙_}
 use Prim.Native.Nat.{ℕ}
-use Rattle.meter.specs.Convert.{convertOf}
+use Rattle.conversion.specs.Conversion.{convertOf}
 use Rattle.gauge.specs.declared.Gauge.{Gauge}
 use Rattle.gauge.specs.Gauge.{withMeter, conversionOf}
 use borrow.Author.Needs.{needs}

@@ -1,0 +1,9 @@
+pub mod ChargeLaws
+pub mod Unique
+pub mod CycleLaws
+pub mod FullLaws
+pub mod Laws
+pub mod Meaning
+pub mod OffsetConversion
+pub mod CycleCounter
+pub mod Corrections

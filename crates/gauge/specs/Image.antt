@@ -1,0 +1,66 @@
+-- The pack image in and out; `events` says where its parts stand.
+use mathlib.Core.Path.{_≡_}
+use mathlib.Core.Bool.{Bool, true, false}
+use mathlib.Core.List.{List, [], _∷_, _++_}
+use Prim.Native.Nat.{ℕ, _+_, _/_, _%_}
+use lib.Dec.{leb}
+use lib.ListN.{length, drop}
+use Rattle.numbers.specs.Choice.{pick}
+use Rattle.state.specs.declared.Profile.{Profile}
+use Rattle.state.specs.State.{imageSizeOf, countsCycles, poweredOf}
+use Rattle.record.specs.Image.{imageAddress, imageLabel, imageBlock, imageAcr, imageAging, imageCycles, imageBl0, imageBl1}
+use Rattle.state.specs.declared.Saved.{Saved}
+use Rattle.registers.specs.Registers.{flagOf}
+use Rattle.gauge.specs.declared.Gauge.{Gauge}
+
+-- ---- in
+
+-- accepting an image is a power-on, and the image "picks the profile for that pack"
+unfoldable pub imageOf : Profile → List ℕ → Gauge
+imageOf f p = record {
+  common = record { address = imageAddress p; bl0 = imageBl0 p };
+  label = record { shadow = imageLabel p; eeprom = imageLabel p };
+  meter = poweredOf (record {
+    profile = f;
+    block = record { shadow = imageBlock p; eeprom = imageBlock p };
+    locks = record { lock = false; bl1 = imageBl1 p };
+    saved = record { acr = imageAcr p; aging = imageAging p; cycles = imageCycles f p };
+  });
+}
+
+-- ---- out
+
+abbrev pub lockByte : Bool → Bool → ℕ
+lockByte bl1 bl0 = flagOf bl1 2 + flagOf bl0 1
+
+-- saved ACR, saved AS and the lock byte
+abbrev pub cellsOf : Saved → ℕ → List ℕ
+cellsOf saved lock = (saved .acr % 256) ∷ (saved .acr / 256) ∷ saved .aging ∷ lock ∷ []
+
+abbrev pub tailOf : Gauge → List ℕ
+tailOf g = cellsOf (g .meter .cells .saved) (lockByte (g .meter .cells .locks .bl1) (g .common .bl0))
+
+-- "The counter is an EEPROM-saved cell, one byte at the end": none where the profile has no counter
+abbrev pub cycleCell : Profile → ℕ → List ℕ
+cycleCell f count = pick (countsCycles f) (count ∷ []) []
+
+-- what stands after the blocks
+abbrev pub endOf : Gauge → List ℕ
+endOf g = tailOf g ++ cycleCell (g .meter .cells .profile) (g .meter .cells .saved .cycles)
+
+-- address, both EEPROM blocks, saved cells, lock byte; and the saved cycle counter
+unfoldable pub bytesOf : Gauge → List ℕ
+bytesOf g = g .common .address ++ (g .label .eeprom ++ (g .meter .cells .block .eeprom ++ endOf g))
+
+-- how many they are
+abbrev pub sizeFor : Gauge → ℕ
+sizeFor g = imageSizeOf (g .meter .cells .profile)
+
+-- the first bytes of the lent room, as many as an image has, the rest untouched; nothing is written in a room under 60 bytes, or under 61
+abbrev pub roomAfter : Bool → Gauge → List ℕ → List ℕ
+roomAfter true g room = bytesOf g ++ drop (sizeFor g) room
+roomAfter false g room = room
+
+pub record ImageOut (g : Gauge) (room : List ℕ) (done : Bool) (after : List ℕ) : Type 0 where
+  pub fits : done ≡ leb (sizeFor g) (length room)
+  pub written : after ≡ roomAfter (leb (sizeFor g) (length room)) g room

@@ -1,0 +1,76 @@
+-- `transfer::count` meets its contract. The invariant: so many so far, and those among the lines from here on, are all.
+use mathlib.Core.Path.{_≡_, ap}
+use Prim.Native.Nat.{ℕ, _+_, _-_, _≤_}
+use native.Mathlib.Nat.{zero-add}
+use native.Mathlib.Omega.{arith}
+use lib.Dec.{eqb}
+use lib.ListN.{length, drop, drop-of-length-le}
+use denote.Ref.{now}
+use Rattle.numbers.specs.Choice.{pick}
+use Rattle.hex.specs.Import.{linesOf, countOf}
+use Rattle.hex.proofs.Lines.{count-more}
+use borrow.Author.Needs.{needs}
+use Rattle.hex.proofs.count.Statement.{statement}
+use Rattle.hex.proofs.count.Tie as tie
+
+abbrev Inv-loop : tie.InvT-loop
+Inv-loop text address n₀ at₀ n at = (at ≤ length text) × (n ≤ at) × (n + countOf address (linesOf (drop at text)) ≡ countOf address (linesOf text))
+
+abbrev μ-loop : tie.MeasureT-loop
+μ-loop text address n₀ at₀ n at = length text - at
+
+loop-holds : tie.Need-loop-holds Inv-loop μ-loop
+loop-holds c = (omega arith, omega arith, zero-add _)
+
+line-end-requires : tie.Need-line-end-requires Inv-loop μ-loop
+line-end-requires c κs = search needs
+
+sub-address : tie.Need-sub-address-in Inv-loop μ-loop
+sub-address c = omega (arith, c .line-end .ensures .onward, c .line-end .ensures .within)
+
+part-address-start : tie.Need-part-address-in-start Inv-loop μ-loop
+part-address-start c = omega (arith, c .line-end .ensures .onward, c .line-end .ensures .within)
+
+part-address-end : tie.Need-part-address-in-end Inv-loop μ-loop
+part-address-end c = omega (arith, c .line-end .ensures .onward, c .line-end .ensures .within)
+
+address-requires : tie.Need-address-in-requires Inv-loop μ-loop
+address-requires c κs = search needs
+
+one-requires : tie.Need-one-requires Inv-loop μ-loop
+one-requires c κs = search needs
+
+add-n : tie.Need-add-n Inv-loop μ-loop
+add-n c = omega (arith, c .before .before .before .line-end .ensures .onward, c .before .before .before .line-end .ensures .within, c .one .ensures .1, c .before .before .before .before .before .loop .inv .1)
+
+loop-less : tie.Need-loop-less Inv-loop μ-loop
+loop-less c = omega (arith, c .before .before .before .line-end .ensures .onward, c .before .before .before .line-end .ensures .within)
+
+loop-again : tie.Need-loop-again Inv-loop μ-loop
+loop-again c =
+    let here = ap {B = ℕ} (λ (x : ℕ). pick (eqb x (c .before .before .before .before .before .before .before .args .address)) 1 0) (c .before .address-in .ensures) in (
+      c .before .before .before .line-end .ensures .within,
+      omega (arith, c .before .before .before .line-end .ensures .onward, c .one .ensures .1, c .before .before .before .before .before .loop .inv .1),
+      omega (arith, c .one .ensures .0, here, count-more (c .before .before .before .line-end .ensures) (c .before .before .before .before .before .before .before .args .address), c .before .before .before .before .before .loop .inv .2),
+    )
+
+returns : tie.Need-returns Inv-loop μ-loop
+returns c = omega (arith, rw (drop-of-length-le (now (c .before .before .before .args .text)) (c .loop-test .left)) at (c .before .loop .inv .2))
+
+pub count-spec : {M : Type 1} → statement M
+count-spec =
+    tie.close
+    (tie.spec
+    Inv-loop
+    μ-loop
+    loop-holds
+    line-end-requires
+    sub-address
+    part-address-start
+    part-address-end
+    address-requires
+    one-requires
+    add-n
+    loop-less
+    loop-again
+    returns)

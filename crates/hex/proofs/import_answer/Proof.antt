@@ -1,0 +1,48 @@
+-- `transfer::import_answer` meets its contract.
+use mathlib.Core.Path.{refl, sym, _∙_}
+use borrow.Author.Tests.{lt-ltb, le-ltb}
+use Rattle.hex.specs.Import.{importAnswer}
+use borrow.Author.Needs.{needs}
+use Rattle.hex.proofs.import_answer.Statement.{statement}
+use Rattle.hex.proofs.import_answer.Tie as tie
+
+lines-answer-requires : tie.Need-lines-answer-requires
+lines-answer-requires c κs = search needs
+
+enum-told : tie.Need-enum-told
+enum-told c = search needs
+
+whole-requires : tie.Need-whole-requires
+whole-requires c κs = search needs
+
+returns : tie.Need-returns
+unfolding importAnswer
+returns c = rw (sym (c .before .before .before .before .before .lines-answer .ensures) ∙ c .before .before .before .enum-told .given .1, sym (c .before .before .whole .ensures) ∙ c .before .if1 .taken, lt-ltb _ _ (c .if2 .taken)) refl
+
+returns-2 : tie.Need-returns-2
+unfolding importAnswer
+returns-2 c = rw (sym (c .before .before .before .before .before .lines-answer .ensures) ∙ c .before .before .before .enum-told .given .1, sym (c .before .before .whole .ensures) ∙ c .before .if1 .taken, le-ltb _ _ (c .if2 .left)) refl
+
+enum-known-lines : tie.Need-enum-known-lines
+enum-known-lines c = search needs
+
+returns-3 : tie.Need-returns-3
+unfolding importAnswer
+returns-3 c = rw (sym (c .before .before .before .before .lines-answer .ensures) ∙ c .before .before .enum-told .given .1, sym (c .before .whole .ensures) ∙ c .if1 .left) refl
+
+returns-4 : tie.Need-returns-4
+unfolding importAnswer
+returns-4 c = rw (sym (c .before .before .before .lines-answer .ensures) ∙ c .before .lines .given .1) refl
+
+pub import-answer-spec : {M : Type 1} → statement M
+import-answer-spec =
+    tie.close
+    (tie.spec
+    lines-answer-requires
+    enum-told
+    whole-requires
+    returns
+    returns-2
+    enum-known-lines
+    returns-3
+    returns-4)

@@ -1,0 +1,88 @@
+-- `transfer::label` meets its contract.
+use mathlib.Core.Path.{_≡_, refl, sym, _∙_}
+use mathlib.Core.Bool.{true}
+use mathlib.Core.List.{List}
+use Prim.Native.Nat.{ℕ}
+use native.Mathlib.Omega.{arith}
+use borrow.Author.Tests.{eq-eqb, ne-eqb}
+use denote.Ref.{now}
+use Rattle.record.specs.Image.{imageLabel, imageBl0}
+use Rattle.hex.specs.Export.{bothAccepted, labelOf}
+use Rattle.hex.proofs.Texts.{pack-sized, factory-sized}
+use borrow.Author.Needs.{needs}
+use Rattle.hex.proofs.label.Statement.{statement}
+use Rattle.hex.proofs.label.Tie as tie
+
+both-accepted-requires : tie.Need-both-accepted-requires
+both-accepted-requires c κs = search needs
+
+shared-slice-read-if2 : tie.Need-shared-slice-read-if2
+shared-slice-read-if2 c = omega (arith, pack-sized (now (c .before .before .before .before .before .args .pack)) (now (c .before .before .before .before .before .args .factory)) (sym (c .before .before .both-accepted .ensures) ∙ c .before .if1 .taken))
+
+sub-result : tie.Need-sub-result
+sub-result c = search needs
+
+part-result-start : tie.Need-part-result-start
+part-result-start c = search needs
+
+part-result-end : tie.Need-part-result-end
+part-result-end c = omega (arith, pack-sized (now (c .before .before .before .before .before .before .args .pack)) (now (c .before .before .before .before .before .before .args .factory)) (sym (c .before .before .before .both-accepted .ensures) ∙ c .before .before .if1 .taken))
+
+-- the label is the pack's where block 0 is locked there
+own : (pack factory : List ℕ) → bothAccepted pack factory ≡ true → imageBl0 pack ≡ true → labelOf pack factory ≡ imageLabel pack
+unfolding labelOf
+own pack factory accepted lock = rw (accepted, lock) refl
+
+-- so it is in the first arm
+locked : (c : tie.Then2) → imageBl0 (now (c .before .before .before .before .before .before .args .pack)) ≡ true
+locked c = eq-eqb _ _ (c .if2 .taken)
+
+returns : tie.Need-returns
+returns c =
+    let a = c .before .before .before .before .before .before .before .args in
+    sym (own (now (a .pack)) (now (a .factory)) (sym (c .before .before .before .before .both-accepted .ensures) ∙ c .before .before .before .if1 .taken) (locked (c .before)))
+
+sub-result-2 : tie.Need-sub-result-2
+sub-result-2 c = search needs
+
+part-result-start-2 : tie.Need-part-result-start-2
+part-result-start-2 c = search needs
+
+part-result-end-2 : tie.Need-part-result-end-2
+part-result-end-2 c = omega (arith, factory-sized (now (c .before .before .before .before .before .before .args .pack)) (now (c .before .before .before .before .before .before .args .factory)) (sym (c .before .before .before .both-accepted .ensures) ∙ c .before .before .if1 .taken))
+
+returns-2 : tie.Need-returns-2
+unfolding labelOf
+returns-2 c = rw (sym (c .before .before .before .before .both-accepted .ensures) ∙ c .before .before .before .if1 .taken, ne-eqb _ _ (c .before .if2 .left)) refl
+
+sub-result-3 : tie.Need-sub-result-3
+sub-result-3 c = search needs
+
+part-result-start-3 : tie.Need-part-result-start-3
+part-result-start-3 c = search needs
+
+part-result-end-3 : tie.Need-part-result-end-3
+part-result-end-3 c = search needs
+
+returns-3 : tie.Need-returns-3
+unfolding labelOf
+returns-3 c = rw (sym (c .before .before .both-accepted .ensures) ∙ c .before .if1 .left) refl
+
+pub label-spec : {M : Type 1} → statement M
+label-spec =
+    tie.close
+    (tie.spec
+    both-accepted-requires
+    shared-slice-read-if2
+    sub-result
+    part-result-start
+    part-result-end
+    returns
+    sub-result-2
+    part-result-start-2
+    part-result-end-2
+    returns-2
+    sub-result-3
+    part-result-start-3
+    part-result-end-3
+    returns-3)

@@ -1,0 +1,78 @@
+-- `ihex::put_data` meets its contract. The invariant: what is still to be put, over what stands there now, is the whole.
+use mathlib.Core.Path.{_≡_, refl, sym, ap, _∙_}
+use Prim.Native.Nat.{ℕ, _+_, _-_, _≤_}
+use native.Mathlib.Nat.{add-zero}
+use native.Mathlib.Omega.{arith}
+use lib.ListN.{length, drop, set, length-set, drop-of-length-le}
+use denote.Ref.{now}
+use Rattle.slices.specs.Slices.{put}
+use Rattle.slices.proofs.Laws.{put-more}
+use Rattle.hex.specs.Line.{dataIn}
+use Rattle.hex.proofs.Laws.{data-length, data-at}
+use borrow.Author.Needs.{needs}
+use Rattle.hex.proofs.put_data.Statement.{statement}
+use Rattle.hex.proofs.put_data.Tie as tie
+
+abbrev Inv-loop : tie.InvT-loop
+Inv-loop l out₀ at i₀ out i = (i ≤ 16) × (length out ≡ length out₀) × (put out (at + i) (drop i (dataIn l)) ≡ put out₀ at (dataIn l))
+
+abbrev μ-loop : tie.MeasureT-loop
+μ-loop l out₀ at i₀ out i = 16 - i
+
+loop-holds : tie.Need-loop-holds Inv-loop μ-loop
+loop-holds c = (omega arith, refl, rw add-zero refl)
+
+add-byte-in : tie.Need-add-byte-in Inv-loop μ-loop
+add-byte-in c = search needs
+
+byte-in-requires : tie.Need-byte-in-requires Inv-loop μ-loop
+byte-in-requires c κs = search needs
+
+add-out : tie.Need-add-out Inv-loop μ-loop
+add-out c = search needs
+
+slice-write-out : tie.Need-slice-write-out Inv-loop μ-loop
+slice-write-out c = search needs
+
+add-i : tie.Need-add-i Inv-loop μ-loop
+add-i c = search needs
+
+loop-less : tie.Need-loop-less Inv-loop μ-loop
+loop-less c = search needs
+
+loop-again : tie.Need-loop-again Inv-loop μ-loop
+loop-again c =
+    let l = now (c .before .before .before .before .before .args .l) in
+    let i = c .before .before .loop .i in
+    let at = c .before .before .before .before .before .args .at in
+    let byte = c .byte-in .ensures ∙ data-at l i (c .before .loop-test .taken) in (
+      omega (arith, c .before .loop-test .taken),
+      length-set (c .before .before .loop .out) (at + i) (c .byte-in .result) ∙ c .before .before .loop .inv .1,
+      ap (λ (b : ℕ). put (set (c .before .before .loop .out) (at + i) b) (at + (i + 1)) (drop (i + 1) (dataIn l))) byte
+          ∙ sym (put-more (c .before .before .loop .out) (dataIn l) at i (omega (arith, c .before .loop-test .taken, data-length l (c .before .before .before .before .before .pre .0)))) ∙ c .before .before .loop .inv .2,
+    )
+
+same-length : tie.Need-same-length Inv-loop μ-loop
+same-length c = c .before .loop .inv .1
+
+returns : tie.Need-returns Inv-loop μ-loop
+returns c =
+    let none = drop-of-length-le (dataIn (now (c .before .before .before .before .args .l))) {i = c .before .loop .i} (omega (arith, data-length (now (c .before .before .before .before .args .l)) (c .before .before .before .before .pre .0), c .loop-test .left)) in
+    rw none at (c .before .loop .inv .2)
+
+pub put-data-spec : {M : Type 1} → statement M
+put-data-spec =
+    tie.close
+    (tie.spec
+    Inv-loop
+    μ-loop
+    loop-holds
+    add-byte-in
+    byte-in-requires
+    add-out
+    slice-write-out
+    add-i
+    loop-less
+    loop-again
+    same-length
+    returns)

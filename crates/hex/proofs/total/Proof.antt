@@ -1,0 +1,52 @@
+-- `ihex::total` meets its contract. The invariant: the sum so far, with the bytes that are left, is the sum of all.
+use mathlib.Core.Path.{_≡_}
+use Prim.Native.Nat.{_+_, _-_, _%_, _≤_, _<_}
+use native.Mathlib.Omega.{arith}
+use lib.ListN.{length, drop, drop-of-length-le}
+use denote.Ref.{now}
+use Rattle.hex.specs.Line.{sumOf}
+use Rattle.hex.proofs.Laws.{sum-more}
+use borrow.Author.Needs.{needs}
+use Rattle.hex.proofs.total.Statement.{statement}
+use Rattle.hex.proofs.total.Tie as tie
+
+abbrev Inv-loop : tie.InvT-loop
+Inv-loop bytes sum₀ i₀ sum i = (i ≤ length bytes) × (sum < 256) × ((sum + sumOf (drop i bytes)) % 256 ≡ sumOf bytes % 256)
+
+abbrev μ-loop : tie.MeasureT-loop
+μ-loop bytes sum₀ i₀ sum i = length bytes - i
+
+loop-holds : tie.Need-loop-holds Inv-loop μ-loop
+loop-holds c = (omega arith, omega arith, omega arith)
+
+shared-slice-read-wrapping-add-u8 : tie.Need-shared-slice-read-wrapping-add-u8 Inv-loop μ-loop
+shared-slice-read-wrapping-add-u8 c = search needs
+
+wrapping-add-u8-requires : tie.Need-wrapping-add-u8-requires Inv-loop μ-loop
+wrapping-add-u8-requires c κs = search needs
+
+add-i : tie.Need-add-i Inv-loop μ-loop
+add-i c = search needs
+
+loop-less : tie.Need-loop-less Inv-loop μ-loop
+loop-less c = search needs
+
+loop-again : tie.Need-loop-again Inv-loop μ-loop
+loop-again c = (omega arith, omega (arith, c .wrapping-add-u8 .ensures), omega (arith, sum-more (now (c .before .before .before .before .before .args .bytes)) (c .before .before .before .loop .i) (c .before .before .loop-test .taken), c .wrapping-add-u8 .ensures, c .before .before .before .loop .inv .2))
+
+returns : tie.Need-returns Inv-loop μ-loop
+returns c = omega (arith, c .before .loop .inv .1, rw (drop-of-length-le (now (c .before .before .before .args .bytes)) (c .loop-test .left)) at (c .before .loop .inv .2))
+
+pub total-spec : {M : Type 1} → statement M
+total-spec =
+    tie.close
+    (tie.spec
+    Inv-loop
+    μ-loop
+    loop-holds
+    shared-slice-read-wrapping-add-u8
+    wrapping-add-u8-requires
+    add-i
+    loop-less
+    loop-again
+    returns)

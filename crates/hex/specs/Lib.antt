@@ -1,0 +1,4 @@
+pub mod Line
+pub mod Export
+pub mod Import
+pub mod Theorems

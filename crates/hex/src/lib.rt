@@ -1,0 +1,430 @@
+// Intel HEX: a line of it, and the text of a label and block 1, written and read.
+use record::Taken;
+ghost use mathlib.Core.Path.{_≡_};
+ghost use Prim.Native.Nat.{_+_, _*_, _%_, _≤_, _<_};
+ghost use lib.ListN.{length, getD, drop};
+ghost use Rattle.slices.specs.Slices.{put};
+ghost use Rattle.digits.specs.Digits.{upper, hexBytes, Writing};
+ghost use Rattle.hex.specs.Line.{lineText, sumOf, checksumOf, dataRecord, bytesIn, addressIn, dataIn, formedOf, summedOf, placedOf, headedOf, expectedOf, lineOf, faultNumber};
+ghost use mathlib.Core.List.{_++_};
+ghost use Rattle.numbers.specs.Choice.{pick};
+ghost use Rattle.hex.specs.Export.{answerNumber, acceptedOf, bothAccepted, labelOf, exportText, exportSize, exportAnswer, Exporting};
+ghost use Rattle.hex.specs.Import.{linesOf, Cut, linesAnswer, countOf, lastOf, wholeOf, dataAt, importedOf, importSize, importAnswer, Importing};
+
+// What is wrong with a line: its form, its checksum, or which record it is.
+pub enum Fault {
+    Form,
+    Checksum,
+    Record,
+}
+
+pub enum Line {
+    Good,
+    Bad(Fault),
+}
+
+pub fn fault_number(fault: Fault) -> u8
+    ensures { λ r. ⌜ r ≡ faultNumber fault ⌝ }
+{
+    match fault {
+        Fault::Form => 40,
+        Fault::Checksum => 41,
+        Fault::Record => 42,
+    }
+}
+
+// ---- written
+
+// The sum of bytes, modulo 256.
+fn total(bytes: &[u8]) -> u8
+    ensures { λ r. ⌜ r ≡ sumOf (now (bytes .entry)) % 256 ⌝ }
+{
+    let mut sum: u8 = 0;
+    let mut i = 0;
+    while i < bytes.len() {
+        sum = std::num::wrapping_add_u8(sum, bytes[i]);
+        i += 1;
+    }
+    sum
+}
+
+fn checksum(bytes: &[u8]) -> u8
+    ensures { λ r. ⌜ r ≡ checksumOf (now (bytes .entry)) ⌝ }
+{
+    std::num::wrapping_sub_u8(0, total(bytes))
+}
+
+// The bytes of a record of data: count, address, type, data and checksum.
+pub fn data_record(address: u8, carried: &[u8]) -> [u8; 21]
+    requires { ⌜ length (now carried) ≡ 16 ⌝ }
+    ensures { λ r. ⌜ r ≡ dataRecord address (now (carried .entry)) ⌝ }
+{
+    let mut bytes = [0u8; 21];
+    slices::store4([16, 0, address, 0], &mut bytes, 0);
+    slices::store(carried, &mut bytes, 4);
+    let sum = checksum(&bytes[..20]);
+    bytes[20] = sum;
+    bytes
+}
+
+// The line of some bytes.
+pub fn put_line(bytes: &[u8], out: &mut [u8], at: usize) -> usize
+    requires { ⌜ at + (2 * length (now bytes) + 2) ≤ length (now out) ⌝ }
+    ensures { λ r. ⌜ Writing (1 + (2 * length (now (bytes .entry)) + 1)) (lineText (now (bytes .entry))) (now (out .entry)) at r (now (out .exit)) ⌝ }
+{
+    let a = digits::put_byte(b':', out, at);
+    let b = digits::put_upper(bytes, out, a);
+    digits::put_byte(b'\n', out, b)
+}
+
+// ---- read
+
+// A byte of a line, by its place; 0 behind the last.
+pub fn byte_in(l: &[u8], k: usize) -> u8
+    requires { ⌜ k < 32 ⌝ }
+    ensures { λ r. ⌜ r ≡ getD (bytesIn (now (l .entry))) k 0 ⌝ }
+{
+    let at = 2 * k + 1;
+    if l.len() < at + 3 {
+        return 0;
+    }
+    digits::upper_byte(l[at], l[at + 1])
+}
+
+pub fn address_in(l: &[u8]) -> u16
+    ensures { λ r. ⌜ r ≡ addressIn (now (l .entry)) ⌝ }
+{
+    numbers::joined(byte_in(l, 1), byte_in(l, 2))
+}
+
+fn formed(l: &[u8]) -> bool
+    ensures { λ r. ⌜ r ≡ formedOf (now (l .entry)) ⌝ }
+{
+    let n = l.len();
+    if n < 12 {
+        return false;
+    }
+    let count = slices::wide(byte_in(l, 0));
+    let ends = numbers::and(l[0] == b':', l[n - 1] == b'\n');
+    let digits = digits::upper_digits(&l[1..n - 1]);
+    numbers::and(ends, numbers::and(digits, n - 2 == 2 * (count + 5)))
+}
+
+// The sum of the bytes that digits stand for, modulo 256.
+fn total_read(text: &[u8]) -> u8
+    ensures { λ r. ⌜ r ≡ sumOf (hexBytes upper (now (text .entry))) % 256 ⌝ }
+{
+    let mut sum: u8 = 0;
+    let mut i = 0;
+    while 2 <= text.len() - i {
+        sum = std::num::wrapping_add_u8(sum, digits::upper_byte(text[i], text[i + 1]));
+        i += 2;
+    }
+    sum
+}
+
+fn summed(l: &[u8]) -> bool
+    requires { ⌜ 2 ≤ length (now l) ⌝ }
+    ensures { λ r. ⌜ r ≡ summedOf (now (l .entry)) ⌝ }
+{
+    let end = l.len() - 1;
+    total_read(&l[1..end]) == 0
+}
+
+fn placed(address: u16) -> bool
+    ensures { λ r. ⌜ r ≡ placedOf address ⌝ }
+{
+    numbers::or(
+        address == 0x20,
+        numbers::or(address == 0x60, address == 0x70),
+    )
+}
+
+fn headed(count: u8, kind: u8, l: &[u8]) -> bool
+    ensures { λ r. ⌜ r ≡ headedOf count kind (now (l .entry)) ⌝ }
+{
+    numbers::and(byte_in(l, 0) == count, byte_in(l, 3) == kind)
+}
+
+// Whether it is the end record, or 16 bytes at one of the three addresses.
+fn known(l: &[u8]) -> bool
+    ensures { λ r. ⌜ r ≡ expectedOf (now (l .entry)) ⌝ }
+{
+    let at = address_in(l);
+    let end = numbers::and(headed(0, 1, l), at == 0);
+    numbers::or(end, numbers::and(headed(16, 0, l), placed(at)))
+}
+
+// A line, judged by itself.
+pub fn judged(l: &[u8]) -> Line
+    ensures { λ r. ⌜ r ≡ lineOf (now (l .entry)) ⌝ }
+{
+    if formed(l) {
+        if summed(l) {
+            if known(l) {
+                return Line::Good;
+            }
+            return Line::Bad(Fault::Record);
+        }
+        return Line::Bad(Fault::Checksum);
+    }
+    Line::Bad(Fault::Form)
+}
+
+// The data of a record of 16 bytes, at a place of a lent buffer.
+pub fn put_data(l: &[u8], out: &mut [u8], at: usize)
+    requires { ⌜ 20 ≤ length (bytesIn (now l)) ⌝ }
+    requires { ⌜ at + 16 ≤ length (now out) ⌝ }
+    ensures { λ _. ⌜ now (out .exit) ≡ put (now (out .entry)) at (dataIn (now (l .entry))) ⌝ }
+{
+    let mut i = 0;
+    while i < 16 {
+        out[at + i] = byte_in(l, 4 + i);
+        i += 1;
+    }
+}
+
+// What keeps a text from being written or read: a line; lines that are not the whole; an image; or the room.
+pub enum Why {
+    Line(Fault),
+    Whole,
+    Image,
+    Room,
+}
+
+pub enum Answer {
+    Done,
+    Refused(Why),
+}
+
+// The answer's number.
+pub fn number(answer: Answer) -> u8
+    ensures { λ r. ⌜ r ≡ answerNumber answer ⌝ }
+{
+    match answer {
+        Answer::Done => 0,
+        Answer::Refused(why) => match why {
+            Why::Line(fault) => fault_number(fault),
+            Why::Whole => 43,
+            Why::Image => 44,
+            Why::Room => 45,
+        },
+    }
+}
+
+// ---- export
+
+fn accepted(image: &[u8]) -> bool
+    ensures { λ r. ⌜ r ≡ acceptedOf (now (image .entry)) ⌝ }
+{
+    let judged = record::judged(image);
+    match judged {
+        Taken::Run(_) => true,
+        Taken::Refused(_) => false,
+    }
+}
+
+fn both_accepted(pack: &[u8], factory: &[u8]) -> bool
+    ensures { λ r. ⌜ r ≡ bothAccepted (now (pack .entry)) (now (factory .entry)) ⌝ }
+{
+    numbers::and(accepted(pack), accepted(factory))
+}
+
+// The label for export, a part of one of the two images.
+pub fn label<'a>(pack: &'a [u8], factory: &'a [u8]) -> &'a [u8]
+    ensures { λ r. ⌜ now r ≡ labelOf (now (pack .entry)) (now (factory .entry)) ⌝ }
+{
+    if both_accepted(pack, factory) {
+        if pack[record::LOCKS_AT] % 2 == 1 {
+            return &pack[record::LABEL_AT..record::BLOCK_AT];
+        }
+        return &factory[record::LABEL_AT..record::BLOCK_AT];
+    }
+    &pack[0..0]
+}
+
+fn export_answer(pack: &[u8], factory: &[u8], room: usize) -> Answer
+    ensures { λ r. ⌜ r ≡ exportAnswer (now (pack .entry)) (now (factory .entry)) room ⌝ }
+{
+    if both_accepted(pack, factory) {
+        if room < 144 {
+            return Answer::Refused(Why::Room);
+        }
+        return Answer::Done;
+    }
+    Answer::Refused(Why::Image)
+}
+
+// Three records of data and the end record, a line each.
+fn put_text(label: &[u8], block: &[u8], room: &mut [u8])
+    requires { ⌜ length (now label) ≡ 16 ⌝ }
+    requires { ⌜ length (now block) ≡ 32 ⌝ }
+    requires { ⌜ exportSize ≤ length (now room) ⌝ }
+    ensures { λ _. ⌜ now (room .exit) ≡ exportText (now (label .entry)) (now (block .entry)) ++ drop exportSize (now (room .entry)) ⌝ }
+{
+    let first = data_record(0x20, label);
+    let second = data_record(0x60, &block[0..16]);
+    let third = data_record(0x70, &block[16..32]);
+    let end = [0u8, 0, 0, 1, 0xff];
+    let a = put_line(&first, room, 0);
+    let b = put_line(&second, room, a);
+    let c = put_line(&third, room, b);
+    put_line(&end, room, c);
+}
+
+// Writes the text at the front of the room, or nothing.
+pub fn write<'a>(pack: &'a [u8], factory: &'a [u8], room: &mut [u8]) -> Answer
+    ensures { λ r. ⌜ Exporting (now (pack .entry)) (now (factory .entry)) (now (room .entry)) r (now (room .exit)) ⌝ }
+{
+    let found = export_answer(pack, factory, room.len());
+    match found {
+        Answer::Done => {
+            let chosen = label(pack, factory);
+            put_text(chosen, &pack[record::BLOCK_AT..record::ACR_AT], room);
+            Answer::Done
+        }
+        Answer::Refused(why) => Answer::Refused(why),
+    }
+}
+
+// ---- import
+
+// Where the line ends that starts at an index: behind its line feed, or at the end of the text.
+fn line_end(text: &[u8], at: usize) -> usize
+    requires { ⌜ at < length (now text) ⌝ }
+    ensures { λ r. ⌜ Cut (now (text .entry)) at r ⌝ }
+{
+    let mut end = at;
+    while end < text.len() {
+        if text[end] == b'\n' {
+            return end + 1;
+        }
+        end += 1;
+    }
+    end
+}
+
+// The first bad line decides.
+fn lines_answer(text: &[u8]) -> Answer
+    ensures { λ r. ⌜ r ≡ linesAnswer (linesOf (now (text .entry))) ⌝ }
+{
+    let mut at = 0;
+    while at < text.len() {
+        let end = line_end(text, at);
+        let line = judged(&text[at..end]);
+        match line {
+            Line::Good => {
+                at = end;
+            }
+            Line::Bad(fault) => {
+                return Answer::Refused(Why::Line(fault));
+            }
+        }
+    }
+    Answer::Done
+}
+
+fn one(t: bool) -> usize
+    ensures { λ r. ⌜ (r ≡ pick t 1 0) × (r ≤ 1) ⌝ }
+{
+    if t { 1 } else { 0 }
+}
+
+// How many lines have an address.
+fn count(text: &[u8], address: u16) -> usize
+    ensures { λ r. ⌜ r ≡ countOf address (linesOf (now (text .entry))) ⌝ }
+{
+    let mut n = 0;
+    let mut at = 0;
+    while at < text.len() {
+        let end = line_end(text, at);
+        n += one(address_in(&text[at..end]) == address);
+        at = end;
+    }
+    n
+}
+
+// The address of the last line, or 1.
+fn last(text: &[u8]) -> u16
+    ensures { λ r. ⌜ r ≡ lastOf 1 (linesOf (now (text .entry))) ⌝ }
+{
+    let mut address = 1;
+    let mut at = 0;
+    while at < text.len() {
+        let end = line_end(text, at);
+        address = address_in(&text[at..end]);
+        at = end;
+    }
+    address
+}
+
+// Whether each of the four records is there once, the end record last.
+fn whole(text: &[u8]) -> bool
+    ensures { λ r. ⌜ r ≡ wholeOf (linesOf (now (text .entry))) ⌝ }
+{
+    let block = numbers::and(count(text, 0x60) == 1, count(text, 0x70) == 1);
+    let ended = numbers::and(count(text, 0) == 1, last(text) == 0);
+    numbers::and(numbers::and(count(text, 0x20) == 1, block), ended)
+}
+
+fn import_answer(text: &[u8], room: usize) -> Answer
+    ensures { λ r. ⌜ r ≡ importAnswer (linesOf (now (text .entry))) room ⌝ }
+{
+    let lines = lines_answer(text);
+    match lines {
+        Answer::Done => {
+            if whole(text) {
+                if room < 48 {
+                    return Answer::Refused(Why::Room);
+                }
+                return Answer::Done;
+            }
+            Answer::Refused(Why::Whole)
+        }
+        Answer::Refused(why) => Answer::Refused(why),
+    }
+}
+
+// Puts the data of the line at an address into the room.
+fn put_found(text: &[u8], address: u16, room: &mut [u8], to: usize)
+    requires { ⌜ length (dataAt address (linesOf (now text))) ≡ 16 ⌝ }
+    requires { ⌜ to + 16 ≤ length (now room) ⌝ }
+    ensures { λ _. ⌜ now (room .exit) ≡ put (now (room .entry)) to (dataAt address (linesOf (now (text .entry)))) ⌝ }
+{
+    let mut at = 0;
+    while at < text.len() {
+        let end = line_end(text, at);
+        if address_in(&text[at..end]) == address {
+            put_data(&text[at..end], room, to);
+            return;
+        }
+        at = end;
+    }
+}
+
+// The label, and the two halves of block 1.
+fn put_imported(text: &[u8], room: &mut [u8])
+    requires { ⌜ length (dataAt 0x20 (linesOf (now text))) ≡ 16 ⌝ }
+    requires { ⌜ length (dataAt 0x60 (linesOf (now text))) ≡ 16 ⌝ }
+    requires { ⌜ length (dataAt 0x70 (linesOf (now text))) ≡ 16 ⌝ }
+    requires { ⌜ importSize ≤ length (now room) ⌝ }
+    ensures { λ _. ⌜ now (room .exit) ≡ importedOf (linesOf (now (text .entry))) ++ drop importSize (now (room .entry)) ⌝ }
+{
+    put_found(text, 0x20, room, 0);
+    put_found(text, 0x60, room, 16);
+    put_found(text, 0x70, room, 32);
+}
+
+// Reads the 48 bytes to the front of the room, or nothing.
+pub fn read(text: &[u8], room: &mut [u8]) -> Answer
+    ensures { λ r. ⌜ Importing (now (text .entry)) (now (room .entry)) r (now (room .exit)) ⌝ }
+{
+    let found = import_answer(text, room.len());
+    match found {
+        Answer::Done => {
+            put_imported(text, room);
+            Answer::Done
+        }
+        Answer::Refused(why) => Answer::Refused(why),
+    }
+}

@@ -1,4 +1,0 @@
-pub mod Convert
-pub mod Read
-pub mod Signed
-pub mod Corrections

@@ -1,4 +1,0 @@
-pub mod Ends
-pub mod Laws
-pub mod Product
-pub mod Unique

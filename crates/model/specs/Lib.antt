@@ -1,2 +1,0 @@
-pub mod Model
-pub mod Product

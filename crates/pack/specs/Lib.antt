@@ -1,4 +1,0 @@
-pub mod Image
-pub mod Reach
-pub mod Profiles
-pub mod Aging

@@ -1,0 +1,220 @@
+-- The cases of "Figures to hold" that document 01 marks with *, in its order, F12 and F13 as request [1] has them: one table, one statement, closed by computation. A row is a
+-- sentence: what the definitions give and, after `is`, what the paper says.
+use mathlib.Core.Path.{_≡_, refl}
+use mathlib.Core.Bool.{Bool, true, false}
+use mathlib.Core.List.{List, [], _∷_, map}
+use Prim.Native.Nat.{ℕ, _+_, _-_, _*_}
+use lib.ListN.{set}
+use Rattle.numbers.specs.Offset.{zeroAt}
+use Rattle.state.specs.declared.Profile.{Profile}
+use Rattle.state.specs.declared.Profile.the-variants.{Ds2781, Ds2775}
+use Rattle.state.specs.declared.Cycles.{Cycles}
+use Rattle.conversion.specs.Conversion.{cycledOf, countedOf, agedFullOf, shareOf, shareUpOf, averagedOf, renewedOf, foundOf, learntOf, filledOf, settledOf, withCharge, withCycles, flowedOf, convertOf}
+use Rattle.state.specs.declared.Charge.{Charge}
+use Rattle.state.specs.State.{acrOf, fractionOf, poweredOf}
+use Rattle.reading.specs.Reading.{loweredOf, slopesOver, linesOf, degreesOf, drainingOf, pointOf, emptiedOf, leftOf, usableOf, percentOf, amountOf, resultsOf, ratedOf, flaggedOf, keptOf, seenOf, drainedOf, shownOf, readOf}
+use Rattle.state.specs.declared.Meter.{Meter}
+use Rattle.conversion.proofs.OffsetConversion.{converted}
+
+-- ---- model M
+
+-- The bytes of block 1 by their address. What M leaves open is 0, but for VCHG and IMIN, which are 1 so that full can be found.
+abbrev pub M : List ℕ
+M =
+    -- 60h: CONTROL, AB, AC high and low, VCHG, IMIN, VAE, IAE
+    0 ∷ 0 ∷ 0 ∷ 0 ∷ 1 ∷ 1 ∷ 0 ∷ 0 ∷
+    -- 68h: byte 68h, RSNSP, Full40 high and low (10,000 is 2710h), the Full slopes 4 to 1
+    4 ∷ 50 ∷ 0x27 ∷ 0x10 ∷ 10 ∷ 20 ∷ 30 ∷ 40 ∷
+    -- 70h: the AE slopes 4 to 1, the SE slopes 4 to 1
+    5 ∷ 10 ∷ 20 ∷ 30 ∷ 1 ∷ 2 ∷ 3 ∷ 4 ∷
+    -- 78h: three bytes of no effect, COB, TBP34, TBP23, TBP12, a byte of no effect
+    0 ∷ 0 ∷ 0 ∷ 0 ∷ 18 ∷ 0 ∷ (256 - 12) ∷ 0 ∷ []
+
+-- the same block, but for the byte at an address
+abbrev pub withByte : List ℕ → ℕ → ℕ → List ℕ
+withByte block address byte = set block (address - 0x60) byte
+
+-- M with NBEN, and with AC 1
+abbrev noiseless : List ℕ
+noiseless = withByte M 0x60 0x80
+
+abbrev aging : List ℕ
+aging = withByte M 0x63 1
+
+-- a model whose every step takes segment 4: at 0 °C FULL has fallen to 8,192, and AE is 16 × 250 + 40 × 25
+abbrev steep : List ℕ
+steep = withByte (withByte (withByte (withByte M 0x7c 0x80) 0x6c 255) 0x68 250) 0x70 25
+
+-- ---- the meters and the events
+
+-- a signed count, as an event takes it
+abbrev pub plus : ℕ → ℕ
+plus n = zeroAt 31 + n
+
+abbrev pub minus : ℕ → ℕ
+minus n = zeroAt 31 - n
+
+-- after a power-on of a profile with this block, ACR and AS
+abbrev pub poweredBy : Profile → List ℕ → ℕ → ℕ → Meter
+poweredBy f block acr aging =
+    poweredOf (record {
+      profile = f;
+      block = record { shadow = block; eeprom = block };
+      locks = record { lock = false; bl1 = false };
+      saved = record { acr = acr; aging = aging; cycles = 0 };
+    })
+
+abbrev pub powered : List ℕ → ℕ → ℕ → Meter
+powered = poweredBy Ds2781
+
+-- a reading at a temperature, with a voltage of 4 × VCHG + 1
+abbrev pub readAt : ℕ → Meter → Meter
+readAt t m = readOf m (plus 5) t
+
+abbrev seven : ℕ → List ℕ
+seven raw = raw ∷ raw ∷ raw ∷ raw ∷ raw ∷ raw ∷ raw ∷ []
+
+-- full is found: an average of 1 and one of 32 × IMIN - 1, with a reading between them. The count rests, since such c are blanked
+abbrev filled : ℕ → Meter → Meter
+filled t m = converted (plus 31 ∷ seven (plus 31)) (readAt t (converted (plus 1 ∷ seven (plus 1)) m))
+
+-- what a meter has
+abbrev acr : Meter → ℕ
+acr m = acrOf (m .charge .count)
+
+abbrev fraction : Meter → ℕ
+fraction m = fractionOf (m .charge .count)
+
+abbrev agedFull : Meter → ℕ
+agedFull m = agedFullOf (m .shown .model .full) (m .charge .aging)
+
+abbrev degrees : Meter → ℕ
+degrees m = degreesOf (m .shown .reading .temp)
+
+-- ---- the table
+
+pub record Figure : Type 0 where
+  pub given : List ℕ
+  pub said : List ℕ
+
+infix 60 _is_
+abbrev pub _is_ : List ℕ → List ℕ → Figure
+a is b = record { given = a; said = b }
+
+-- in every row, what is given is what is said
+abbrev pub Hold : List Figure → Type 0
+Hold [] = Unit {0}
+Hold (f ∷ more) = (f .given ≡ f .said) × Hold more
+
+abbrev temperatures : List ℕ
+temperatures = plus (8 * 40) ∷ plus (8 * 18) ∷ plus (8 * 0) ∷ minus (8 * 12) ∷ minus (8 * 20) ∷ []
+
+-- M, ACR 5,000, read at a temperature
+abbrev readM : ℕ → Meter
+readM t = readAt t (powered M 5000 128)
+
+abbrev fullAt : ℕ → ℕ
+fullAt t = readM t .shown .model .full
+
+abbrev degreesAt : ℕ → ℕ
+degreesAt t = degrees (readM t)
+
+abbrev warm : Meter
+warm = readM (plus (8 * 40))
+
+-- M, 0 °C, AS 122, LEARNF 0, full found
+abbrev cold : Meter
+cold = filled (plus (8 * 0)) (powered M 5000 122)
+
+-- FULL 16384, Full40 10,000, ACR 9,000 and LEARNF, full found
+abbrev taught : Meter
+taught = filled (plus (8 * 40)) (withCharge (powered M 9000 128) (record { count = 9000 * 4096; age = 0; aging = 128; learnf = true; mark = false }))
+
+-- ACR 100, fraction 0: the count after a conversion
+abbrev countedBy : Profile → List ℕ → ℕ → ℕ
+countedBy f block raw = convertOf (poweredBy f block 100 128) raw .charge .count
+
+abbrev counted : List ℕ → ℕ → ℕ
+counted = countedBy Ds2781
+
+abbrev fallen : Meter
+fallen = convertOf (powered M 100 128) (minus 1)
+
+-- with AC 1 and counter 31
+abbrev aged : Meter
+aged = convertOf (withCharge (powered aging 100 128) (record { count = 100 * 4096; age = 31; aging = 128; learnf = false; mark = false })) (minus 1)
+
+-- ACR 100, with a mark or without
+abbrev hundred : Bool → Charge
+hundred mark = record { count = 100 * 4096; age = 0; aging = 128; learnf = false; mark = mark }
+
+-- a profile with this Full40 and cycle counter: the counter and its rest after a conversion in which ACR falls by 8, or not at all where it
+-- is the first after an ACR write
+abbrev cycledBy : Bool → Profile → ℕ → Cycles → List ℕ
+cycledBy mark f full40 y =
+    let m = convertOf (withCharge (withCycles (poweredBy f (withByte (withByte M 0x6a 0) 0x6b full40) 100 128) y) (hundred mark)) (minus (8 * 4096)) in
+    m .cycles .count ∷ m .cycles .rest ∷ []
+
+abbrev cycled : Profile → ℕ → Cycles → List ℕ
+cycled = cycledBy false
+
+abbrev marked : Profile → ℕ → Cycles → List ℕ
+marked = cycledBy true
+
+abbrev at : ℕ → ℕ → Cycles
+at count rest = record { count = count; rest = rest }
+
+-- AS 63, N > 0
+abbrev worn : Meter
+worn = readAt (plus (8 * 0)) (powered steep 9000 63)
+
+abbrev pub figures : List Figure
+figures =
+    -- F3 to F7. M at 40, 18, 0, -12, -20 °C: FULL, AE, SE
+    (map fullAt temperatures is 16384 ∷ 16164 ∷ 15804 ∷ 15444 ∷ 15124 ∷ []) ∷
+    (map (λ t. readM t .shown .model .ae) temperatures is 64 ∷ 174 ∷ 354 ∷ 594 ∷ 834 ∷ []) ∷
+    (map (λ t. readM t .shown .model .se) temperatures is 0 ∷ 22 ∷ 58 ∷ 94 ∷ 126 ∷ []) ∷
+    -- F8 to F10. Temperature count -1 is 0 °C: FULL 15804. Counts 319 and 320 are 40 °C: FULL 16384
+    (map degreesAt (minus 1 ∷ plus 319 ∷ plus 320 ∷ []) is zeroAt 7 ∷ (zeroAt 7 + 40) ∷ (zeroAt 7 + 40) ∷ []) ∷
+    (map fullAt (minus 1 ∷ plus 319 ∷ plus 320 ∷ []) is 15804 ∷ 16384 ∷ 16384 ∷ []) ∷
+    -- W6.2. Count 4 is 1 °C, 3 and -4 are 0, -5 is -1, 31 is 4; the ends are -128 and 128
+    (map degreesAt (plus 4 ∷ plus 3 ∷ minus 4 ∷ minus 5 ∷ plus 31 ∷ []) is (zeroAt 7 + 1) ∷ zeroAt 7 ∷ zeroAt 7 ∷ (zeroAt 7 - 1) ∷ (zeroAt 7 + 4) ∷ []) ∷
+    (map degreesAt (minus 1024 ∷ plus 1023 ∷ []) is (zeroAt 7 - 128) ∷ (zeroAt 7 + 128) ∷ []) ∷
+    -- F11. M, 40 °C, ACR 5,000: RARC 49, RSRC 50, RAAC 968, RSAC 976
+    (warm .shown .results .rarc ∷ warm .shown .results .rsrc ∷ warm .shown .results .raac ∷ warm .shown .results .rsac ∷ [] is 49 ∷ 50 ∷ 968 ∷ 976 ∷ []) ∷
+    -- F12. M, 0 °C, AS 122, LEARNF 0, full found: AF 15063, ACR 9194, then RARC 100
+    (agedFull cold ∷ acr cold ∷ readAt (plus (8 * 0)) cold .shown .results .rarc ∷ [] is 15063 ∷ 9194 ∷ 100 ∷ []) ∷
+    -- F13. Learn: FULL 16384, Full40 10,000, ACR 9,000 gives AS 115, ACR 8985
+    (taught .charge .aging ∷ acr taught ∷ [] is 115 ∷ 8985 ∷ []) ∷
+    -- F14 to F17. Blanking: 63 to 0, 64 to 64; with NBEN -15 to 0, -16 to -16
+    (counted M (plus 63) ∷ counted M (plus 64) ∷ [] is (100 * 4096 + 0) ∷ (100 * 4096 + 64) ∷ []) ∷
+    (counted noiseless (minus 15) ∷ counted noiseless (minus 16) ∷ [] is (100 * 4096 - 0) ∷ (100 * 4096 - 16) ∷ []) ∷
+    -- W12.5. In the DS2775 profile with NBEN -16 to 0, -17 to -17; without NBEN -16 stays
+    (countedBy Ds2775 noiseless (minus 16) ∷ countedBy Ds2775 noiseless (minus 17) ∷ countedBy Ds2775 M (minus 16) ∷ [] is (100 * 4096 - 0) ∷ (100 * 4096 - 17) ∷ (100 * 4096 - 16) ∷ []) ∷
+    -- F18. ACR 100, fraction 0, c -1, AB 0, NBEN 0: ACR 99, fraction 4095
+    (acr fallen ∷ fraction fallen ∷ [] is 99 ∷ 4095 ∷ []) ∷
+    -- F19. With AC 1 and counter 31, AS 128 becomes 127
+    (aged .charge .aging ∷ [] is 127 ∷ []) ∷
+    -- F20. One c of -1 and seven of 0: IAVG -1
+    (converted (minus 1 ∷ seven (plus 0)) (powered M 100 128) .flow .average .iavg ∷ [] is (zeroAt 15 - 1) ∷ []) ∷
+    -- F21. AF 4032, AE 5000: RARC 0
+    (agedFull worn ∷ worn .shown .model .ae ∷ worn .shown .results .rarc ∷ [] is 4032 ∷ 5000 ∷ 0 ∷ []) ∷
+    -- W12.8, W12.9. As many steps of twice Full40 as fit, the rest carried
+    (cycled Ds2775 3 (at 0 0) is 1 ∷ 2 ∷ []) ∷
+    (cycled Ds2775 3 (at 1 5) is 3 ∷ 1 ∷ []) ∷
+    (cycled Ds2775 10 (at 7 11) is 7 ∷ 19 ∷ []) ∷
+    -- W12.10. The counter stops at 255, and the steps are taken off
+    (cycled Ds2775 3 (at 254 4) is 255 ∷ 0 ∷ []) ∷
+    -- W12.11. With Full40 = 0 the rest is zeroed
+    (cycled Ds2775 0 (at 7 11) is 7 ∷ 0 ∷ []) ∷
+    -- and at the first conversion after an ACR write, which adds no fall to it: zeroed with Full40 = 0, stepped or kept all the same above
+    (marked Ds2775 0 (at 7 11) is 7 ∷ 0 ∷ []) ∷
+    (marked Ds2775 3 (at 7 11) is 8 ∷ 5 ∷ []) ∷
+    (marked Ds2775 10 (at 7 11) is 7 ∷ 11 ∷ []) ∷
+    -- W12.6. There is none in the DS2781
+    (cycled Ds2781 3 (at 0 0) is 0 ∷ 0 ∷ []) ∷
+    []
+
+pub figures-hold : Hold figures
+unfolding poweredOf countedOf cycledOf averagedOf renewedOf foundOf learntOf agedFullOf shareOf shareUpOf filledOf settledOf flowedOf convertOf slopesOver linesOf drainingOf pointOf emptiedOf leftOf usableOf percentOf amountOf resultsOf ratedOf flaggedOf keptOf loweredOf seenOf drainedOf shownOf readOf
+figures-hold = (refl, (refl, (refl, (refl, (refl, (refl, (refl, (refl, (refl, (refl, (refl, (refl, (refl, (refl, (refl, (refl, (refl, (refl, (refl, (refl, (refl, (refl, (refl, (refl, (refl, (refl, tt))))))))))))))))))))))))))

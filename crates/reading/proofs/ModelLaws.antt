@@ -1,0 +1,13 @@
+-- Bounds of the lines.
+use Prim.Native.Nat.{ℕ, _≤_}
+use native.Mathlib.Omega.{arith}
+use Rattle.params.specs.declared.Curves.{Curves}
+use Rattle.reading.specs.Reading.{linesOf}
+
+pub lines-full : (p : Curves) (t : ℕ) → linesOf p t .full ≤ 16384
+unfolding linesOf
+lines-full p t = omega arith
+
+pub lines-ae : (p : Curves) (t : ℕ) → linesOf p t .ae ≤ 8191
+unfolding linesOf
+lines-ae p t = omega arith

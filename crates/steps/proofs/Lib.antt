@@ -1,4 +1,0 @@
-pub mod Steps
-pub mod Fronts
-pub mod Turns
-pub mod Unique

@@ -1,3 +1,0 @@
-pub mod Export
-pub mod Import
-pub mod Theorems
