@@ -3,7 +3,7 @@
  *
  * It reads a session from standard input and prints the same lines. One pass over the session, nothing of it copied; the lines are put by hand
  * into one buffer, and written at once. The gauge keeps its memory as the bus reads it, so that a read turns bytes into digits and no more.
- * tests/second/second.c has the same rules written for clarity, with the ids of docs/MAP.md. `>>` of a negative number rounds down, as gcc
+ * tests/second_program/second.c has the same rules written for clarity, with the ids of docs/MAP.md. `>>` of a negative number rounds down, as gcc
  * defines it. */
 
 #include <stdbool.h>

@@ -7,7 +7,7 @@ import sys
 
 TOP = os.path.dirname(os.path.dirname(os.path.dirname(os.path.abspath(__file__))))
 COMMAND = os.path.join(TOP, "trovimbe")
-SECOND = os.path.join(TOP, "tests", "second", "second.c")
+SECOND = os.path.join(TOP, "tests", "second_program", "second.c")
 LONG = "--long" in sys.argv[1:]
 
 

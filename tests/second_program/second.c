@@ -14,7 +14,7 @@
  *                   do the same with a session of a tray
  *   second figures  holds the rules against the paper's "Figures to hold"
  *
- * Built with -DREACHED it also tells on standard error how often it came to what generated sessions aim at (reached.h).
+ * Built with -DAIMS it also tells on standard error how often it came to what generated sessions aim at (aims.h).
  * All arithmetic is on signed 32 and 64-bit integers. Ids such as C4 are the rows of docs/MAP.md, rules of the paper. */
 
 #include <stdbool.h>
@@ -69,8 +69,8 @@ typedef struct {
     bool closed;        /* an event that is no image was accepted (W8.3) */
 } Tray;
 
-#ifdef REACHED
-#include "reached.h"
+#ifdef AIMS
+#include "aims.h"
 #define WATCH(what) what
 #else
 #define WATCH(what) ((void)0)

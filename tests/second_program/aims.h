@@ -1,7 +1,7 @@
-/* What generated sessions are to reach, counted as the second program runs them: part of second.c where REACHED is defined.
+/* What generated sessions are to reach, counted as the second program runs them: part of second.c where AIMS is defined.
  *
  * SAW(condition, "thing") counts a thing each time its line is run and the condition holds. At the end each thing that was
- * reached is told on standard error, its count first. tests/cases/reached adds up many sessions and takes the list of all
+ * reached is told on standard error, its count first. tests/cases/generator_aims adds up many sessions and takes the list of all
  * things from the texts here and in second.c, so a new one is a line. Ids such as C4 are the rows of docs/MAP.md. */
 
 typedef struct Thing {
