@@ -7,20 +7,20 @@ use lib.Dec.{ltb, leb}
 use lib.ListN.{length, getD, take, drop}
 use Rattle.numbers.specs.Choice.{pick, both}
 use Rattle.crc.specs.Crc.{crcOf}
+use Rattle.digits.specs.Ascii.{ascii}
 use Rattle.digits.specs.Digits.{lower, pairText}
 use Rattle.streams.specs.Streams.{Speech, output, error, unreadText}
 
--- checksum
 abbrev pub checksumName : List ℕ
-checksumName = 99 ∷ 104 ∷ 101 ∷ 99 ∷ 107 ∷ 115 ∷ 117 ∷ 109 ∷ []
+checksumName = ascii "checksum"
 
 -- the line of a CRC: two hex digits and a line feed
 abbrev pub sumOf : ℕ → List ℕ
-sumOf c = pairText lower c ++ (10 ∷ [])
+sumOf c = pairText lower c ++ ascii "\n"
 
--- the line of a message that is not there whole, after which nothing is read, and of a longer input: `--`
+-- the line of a message that is not there whole, after which nothing is read, and of a longer input
 abbrev pub cutText : List ℕ
-cutText = 45 ∷ 45 ∷ 10 ∷ []
+cutText = ascii "--\n"
 
 -- a message of n bytes is there: n is at most 64, and as many bytes are left
 abbrev pub thereOf : ℕ → ℕ → Bool

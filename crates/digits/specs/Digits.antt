@@ -3,6 +3,7 @@ use mathlib.Core.Path.{_≡_}
 use mathlib.Core.Bool.{Bool, true}
 use mathlib.Core.List.{List, [], _∷_, _++_}
 use Prim.Native.Nat.{ℕ, zero, suc, _+_, _-_, _*_, _/_, _%_, _≤_}
+use Prim.Native.Char.{code}
 use lib.Dec.{ltb, leb}
 use lib.ListN.{length, getD}
 use Rattle.numbers.specs.Choice.{pick, both, either}
@@ -15,13 +16,11 @@ use Rattle.digits.specs.declared.Twos.{Twos}
 unfoldable pub hexOf : ℕ → ℕ → ℕ
 hexOf letter d = pick (ltb d 10) (48 + d) (letter - 10 + d)
 
--- the letter `a`
 abbrev pub lower : ℕ
-lower = 97
+lower = code "a"
 
--- the letter `A`
 abbrev pub upper : ℕ
-upper = 65
+upper = code "A"
 
 -- a byte as two digits
 abbrev pub pairText : ℕ → ℕ → List ℕ

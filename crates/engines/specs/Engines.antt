@@ -1,12 +1,13 @@
 -- What the program says: what both sampling engines make of the state at the end of a session.
 use mathlib.Core.Bool.{Bool}
-use mathlib.Core.List.{List, [], _∷_, _++_}
+use mathlib.Core.List.{List, [], _++_}
 use Prim.Native.Nat.{ℕ, _*_, _^_}
 use lib.Dec.{leb, ltb}
 use lib.ListN.{length, drop}
 use Rattle.numbers.specs.Choice.{pick, both}
 use Rattle.numbers.specs.Offset.{zeroAt, offset32Of}
 use Rattle.slices.specs.Slices.{pairAt, quadAt}
+use Rattle.digits.specs.Ascii.{ascii}
 use Rattle.digits.specs.Digits.{lower, hexText}
 use Rattle.streams.specs.Streams.{Speech, output, error, unreadText, refusedText}
 use Rattle.state.specs.declared.Charge.{Charge}
@@ -22,21 +23,11 @@ use Rattle.runs.specs.Run.{endAfter}
 use Rattle.runs.specs.SessionRecord.{didOf}
 use Rattle.session_run.specs.SessionRun.{emptyOf}
 
--- engines
 abbrev pub enginesName : List ℕ
-enginesName = 101 ∷ 110 ∷ 103 ∷ 105 ∷ 110 ∷ 101 ∷ 115 ∷ []
+enginesName = ascii "engines"
 
--- the input is not 6 to 32,774 bytes
 abbrev pub sizeWords : List ℕ
-sizeWords =
-    116 ∷ 104 ∷ 101 ∷ 32
-    ∷ 105 ∷ 110 ∷ 112 ∷ 117 ∷ 116 ∷ 32
-    ∷ 105 ∷ 115 ∷ 32
-    ∷ 110 ∷ 111 ∷ 116 ∷ 32
-    ∷ 54 ∷ 32
-    ∷ 116 ∷ 111 ∷ 32
-    ∷ 51 ∷ 50 ∷ 44 ∷ 55 ∷ 55 ∷ 52 ∷ 32
-    ∷ 98 ∷ 121 ∷ 116 ∷ 101 ∷ 115 ∷ []
+sizeWords = ascii "the input is not 6 to 32,774 bytes"
 
 -- ---- what an engine asks of a meter, as a test
 
@@ -59,7 +50,7 @@ registersText k m = hexText lower (registersOf k m)
 -- the registers of a meter, and those after 64 more conversions of no current: the run of eight and the age counter, which no register shows,
 -- come to light there
 abbrev pub lineText : Common → Meter → List ℕ
-lineText k m = registersText k m ++ (registersText k (sampledOf m (zeroAt 31) 64) ++ (10 ∷ []))
+lineText k m = registersText k m ++ (registersText k (sampledOf m (zeroAt 31) 64) ++ ascii "\n")
 
 -- each engine takes n conversions of a raw current, and has a line; where none may be asked, there is no line
 unfoldable pub linesText : Gauge → ℕ → ℕ → List ℕ

@@ -3,6 +3,7 @@
 use mathlib.Core.Bool.{Bool}
 use mathlib.Core.List.{List, [], _∷_, _++_}
 use Prim.Native.Nat.{ℕ, _+_, _-_, _*_, _/_, _%_}
+use Prim.Native.Char.{code}
 use lib.Dec.{eqb}
 use lib.ListN.{length, getD}
 use Rattle.numbers.specs.Choice.{pick, both, either}
@@ -15,10 +16,10 @@ use Rattle.hex.specs.declared.Line.{Line}
 use Rattle.hex.specs.declared.Line.the-variants.{Good, Bad}
 
 abbrev pub colon : ℕ
-colon = 58
+colon = code ":"
 
 abbrev pub lineFeed : ℕ
-lineFeed = 10
+lineFeed = code "\n"
 
 -- ---- written
 

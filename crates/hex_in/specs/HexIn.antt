@@ -1,10 +1,11 @@
 -- What the program says of a text on standard input: the 48 bytes that it has, or why it is not taken.
 use mathlib.Core.Bool.{Bool}
-use mathlib.Core.List.{List, [], _∷_}
+use mathlib.Core.List.{List}
 use Prim.Native.Nat.{ℕ}
 use lib.Dec.{ltb}
 use lib.ListN.{length}
 use Rattle.numbers.specs.Choice.{pick}
+use Rattle.digits.specs.Ascii.{ascii}
 use Rattle.streams.specs.Streams.{Speech, output, error, unreadText, refusedText}
 use Rattle.hex.specs.declared.Fault.{Fault}
 use Rattle.hex.specs.declared.Fault.the-variants.{Form, Checksum, Record}
@@ -15,99 +16,28 @@ use Rattle.hex.specs.declared.Answer.the-variants.{Done, Refused}
 use Rattle.hex.specs.Export.{whyNumber}
 use Rattle.hex.specs.Import.{linesOf, importedOf, importAnswer}
 
--- hex_in
 abbrev pub hexInName : List ℕ
-hexInName =
-    104 ∷ 101 ∷ 120 ∷ 95 ∷ 105 ∷ 110 ∷ []
+hexInName = ascii "hex_in"
 
 -- ---- what the refusals mean
 
--- a line is not a colon, the upper-case pairs its count asks and a line feed
 abbrev pub formWords : List ℕ
-formWords =
-    97 ∷ 32
-    ∷ 108 ∷ 105 ∷ 110 ∷ 101 ∷ 32
-    ∷ 105 ∷ 115 ∷ 32
-    ∷ 110 ∷ 111 ∷ 116 ∷ 32
-    ∷ 97 ∷ 32
-    ∷ 99 ∷ 111 ∷ 108 ∷ 111 ∷ 110 ∷ 44 ∷ 32
-    ∷ 116 ∷ 104 ∷ 101 ∷ 32
-    ∷ 117 ∷ 112 ∷ 112 ∷ 101 ∷ 114 ∷ 45 ∷ 99 ∷ 97 ∷ 115 ∷ 101 ∷ 32
-    ∷ 112 ∷ 97 ∷ 105 ∷ 114 ∷ 115 ∷ 32
-    ∷ 105 ∷ 116 ∷ 115 ∷ 32
-    ∷ 99 ∷ 111 ∷ 117 ∷ 110 ∷ 116 ∷ 32
-    ∷ 97 ∷ 115 ∷ 107 ∷ 115 ∷ 32
-    ∷ 97 ∷ 110 ∷ 100 ∷ 32
-    ∷ 97 ∷ 32
-    ∷ 108 ∷ 105 ∷ 110 ∷ 101 ∷ 32
-    ∷ 102 ∷ 101 ∷ 101 ∷ 100 ∷ []
+formWords = ascii "a line is not a colon, the upper-case pairs its count asks and a line feed"
 
--- the checksum of a line is wrong
 abbrev pub checksumWords : List ℕ
-checksumWords =
-    116 ∷ 104 ∷ 101 ∷ 32
-    ∷ 99 ∷ 104 ∷ 101 ∷ 99 ∷ 107 ∷ 115 ∷ 117 ∷ 109 ∷ 32
-    ∷ 111 ∷ 102 ∷ 32
-    ∷ 97 ∷ 32
-    ∷ 108 ∷ 105 ∷ 110 ∷ 101 ∷ 32
-    ∷ 105 ∷ 115 ∷ 32
-    ∷ 119 ∷ 114 ∷ 111 ∷ 110 ∷ 103 ∷ []
+checksumWords = ascii "the checksum of a line is wrong"
 
--- a line is neither the end record nor 16 bytes at 0020h, 0060h or 0070h
 abbrev pub recordWords : List ℕ
-recordWords =
-    97 ∷ 32
-    ∷ 108 ∷ 105 ∷ 110 ∷ 101 ∷ 32
-    ∷ 105 ∷ 115 ∷ 32
-    ∷ 110 ∷ 101 ∷ 105 ∷ 116 ∷ 104 ∷ 101 ∷ 114 ∷ 32
-    ∷ 116 ∷ 104 ∷ 101 ∷ 32
-    ∷ 101 ∷ 110 ∷ 100 ∷ 32
-    ∷ 114 ∷ 101 ∷ 99 ∷ 111 ∷ 114 ∷ 100 ∷ 32
-    ∷ 110 ∷ 111 ∷ 114 ∷ 32
-    ∷ 49 ∷ 54 ∷ 32
-    ∷ 98 ∷ 121 ∷ 116 ∷ 101 ∷ 115 ∷ 32
-    ∷ 97 ∷ 116 ∷ 32
-    ∷ 48 ∷ 48 ∷ 50 ∷ 48 ∷ 104 ∷ 44 ∷ 32
-    ∷ 48 ∷ 48 ∷ 54 ∷ 48 ∷ 104 ∷ 32
-    ∷ 111 ∷ 114 ∷ 32
-    ∷ 48 ∷ 48 ∷ 55 ∷ 48 ∷ 104 ∷ []
+recordWords = ascii "a line is neither the end record nor 16 bytes at 0020h, 0060h or 0070h"
 
--- a record is missing or repeated, or the end record is not last
 abbrev pub wholeWords : List ℕ
-wholeWords =
-    97 ∷ 32
-    ∷ 114 ∷ 101 ∷ 99 ∷ 111 ∷ 114 ∷ 100 ∷ 32
-    ∷ 105 ∷ 115 ∷ 32
-    ∷ 109 ∷ 105 ∷ 115 ∷ 115 ∷ 105 ∷ 110 ∷ 103 ∷ 32
-    ∷ 111 ∷ 114 ∷ 32
-    ∷ 114 ∷ 101 ∷ 112 ∷ 101 ∷ 97 ∷ 116 ∷ 101 ∷ 100 ∷ 44 ∷ 32
-    ∷ 111 ∷ 114 ∷ 32
-    ∷ 116 ∷ 104 ∷ 101 ∷ 32
-    ∷ 101 ∷ 110 ∷ 100 ∷ 32
-    ∷ 114 ∷ 101 ∷ 99 ∷ 111 ∷ 114 ∷ 100 ∷ 32
-    ∷ 105 ∷ 115 ∷ 32
-    ∷ 110 ∷ 111 ∷ 116 ∷ 32
-    ∷ 108 ∷ 97 ∷ 115 ∷ 116 ∷ []
+wholeWords = ascii "a record is missing or repeated, or the end record is not last"
 
--- the room for the bytes is too small
 abbrev pub roomWords : List ℕ
-roomWords =
-    116 ∷ 104 ∷ 101 ∷ 32
-    ∷ 114 ∷ 111 ∷ 111 ∷ 109 ∷ 32
-    ∷ 102 ∷ 111 ∷ 114 ∷ 32
-    ∷ 116 ∷ 104 ∷ 101 ∷ 32
-    ∷ 98 ∷ 121 ∷ 116 ∷ 101 ∷ 115 ∷ 32
-    ∷ 105 ∷ 115 ∷ 32
-    ∷ 116 ∷ 111 ∷ 111 ∷ 32
-    ∷ 115 ∷ 109 ∷ 97 ∷ 108 ∷ 108 ∷ []
+roomWords = ascii "the room for the bytes is too small"
 
--- the text is refused
 abbrev pub otherWords : List ℕ
-otherWords =
-    116 ∷ 104 ∷ 101 ∷ 32
-    ∷ 116 ∷ 101 ∷ 120 ∷ 116 ∷ 32
-    ∷ 105 ∷ 115 ∷ 32
-    ∷ 114 ∷ 101 ∷ 102 ∷ 117 ∷ 115 ∷ 101 ∷ 100 ∷ []
+otherWords = ascii "the text is refused"
 
 abbrev pub faultWords : Fault → List ℕ
 faultWords Form = formWords
@@ -123,16 +53,8 @@ whyWords Room = roomWords
 
 -- ---- what is said
 
--- hex_in: the text is over 65536 bytes
 abbrev pub overText : List ℕ
-overText =
-    104 ∷ 101 ∷ 120 ∷ 95 ∷ 105 ∷ 110 ∷ 58 ∷ 32
-    ∷ 116 ∷ 104 ∷ 101 ∷ 32
-    ∷ 116 ∷ 101 ∷ 120 ∷ 116 ∷ 32
-    ∷ 105 ∷ 115 ∷ 32
-    ∷ 111 ∷ 118 ∷ 101 ∷ 114 ∷ 32
-    ∷ 54 ∷ 53 ∷ 53 ∷ 51 ∷ 54 ∷ 32
-    ∷ 98 ∷ 121 ∷ 116 ∷ 101 ∷ 115 ∷ 10 ∷ []
+overText = ascii "hex_in: the text is over 65536 bytes\n"
 
 -- how many bytes of text are taken
 abbrev pub mostText : ℕ

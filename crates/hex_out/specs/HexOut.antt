@@ -1,8 +1,9 @@
 -- What the program says of a pack's image and the factory's: the text for the programmer, or why there is none.
 use mathlib.Core.Bool.{Bool}
-use mathlib.Core.List.{List, [], _∷_}
+use mathlib.Core.List.{List, []}
 use Prim.Native.Nat.{ℕ}
 use Rattle.numbers.specs.Choice.{pick}
+use Rattle.digits.specs.Ascii.{ascii}
 use Rattle.streams.specs.Streams.{Speech, output, error, refusedText}
 use Rattle.record.specs.Image.{imageBlock}
 use Rattle.hex.specs.declared.Why.{Why}
@@ -13,40 +14,14 @@ use Rattle.hex.specs.Export.{whyNumber, labelOf, exportText, exportSize, export
 
 -- ---- what the refusals mean
 
--- the image of the pack or of the factory is refused
 abbrev pub imageWords : List ℕ
-imageWords =
-    116 ∷ 104 ∷ 101 ∷ 32
-    ∷ 105 ∷ 109 ∷ 97 ∷ 103 ∷ 101 ∷ 32
-    ∷ 111 ∷ 102 ∷ 32
-    ∷ 116 ∷ 104 ∷ 101 ∷ 32
-    ∷ 112 ∷ 97 ∷ 99 ∷ 107 ∷ 32
-    ∷ 111 ∷ 114 ∷ 32
-    ∷ 111 ∷ 102 ∷ 32
-    ∷ 116 ∷ 104 ∷ 101 ∷ 32
-    ∷ 102 ∷ 97 ∷ 99 ∷ 116 ∷ 111 ∷ 114 ∷ 121 ∷ 32
-    ∷ 105 ∷ 115 ∷ 32
-    ∷ 114 ∷ 101 ∷ 102 ∷ 117 ∷ 115 ∷ 101 ∷ 100 ∷ []
+imageWords = ascii "the image of the pack or of the factory is refused"
 
--- the room for the text is too small
 abbrev pub roomWords : List ℕ
-roomWords =
-    116 ∷ 104 ∷ 101 ∷ 32
-    ∷ 114 ∷ 111 ∷ 111 ∷ 109 ∷ 32
-    ∷ 102 ∷ 111 ∷ 114 ∷ 32
-    ∷ 116 ∷ 104 ∷ 101 ∷ 32
-    ∷ 116 ∷ 101 ∷ 120 ∷ 116 ∷ 32
-    ∷ 105 ∷ 115 ∷ 32
-    ∷ 116 ∷ 111 ∷ 111 ∷ 32
-    ∷ 115 ∷ 109 ∷ 97 ∷ 108 ∷ 108 ∷ []
+roomWords = ascii "the room for the text is too small"
 
--- the text is refused
 abbrev pub otherWords : List ℕ
-otherWords =
-    116 ∷ 104 ∷ 101 ∷ 32
-    ∷ 116 ∷ 101 ∷ 120 ∷ 116 ∷ 32
-    ∷ 105 ∷ 115 ∷ 32
-    ∷ 114 ∷ 101 ∷ 102 ∷ 117 ∷ 115 ∷ 101 ∷ 100 ∷ []
+otherWords = ascii "the text is refused"
 
 -- an export is refused for an image or the room alone
 abbrev pub whyWords : Why → List ℕ

@@ -1,9 +1,10 @@
 -- What the program says of a session: the pack image taken out at its end, or why there is none.
 use mathlib.Core.Bool.{Bool}
-use mathlib.Core.List.{List, [], _∷_}
+use mathlib.Core.List.{List}
 use Prim.Native.Nat.{ℕ}
 use lib.ListN.{length}
 use Rattle.numbers.specs.Choice.{pick}
+use Rattle.digits.specs.Ascii.{ascii}
 use Rattle.streams.specs.Streams.{Speech, output, error, unreadText, refusedText}
 use Rattle.record.specs.declared.Refusal.the-variants.{Order}
 use Rattle.record.specs.Record.{refusalNumber}
@@ -17,19 +18,13 @@ use Rattle.runs.specs.SessionRecord.{didOf}
 use Rattle.session_run.specs.SessionRun.{emptyOf}
 use Rattle.text.specs.Text.{overWords, shortWords}
 
--- image
 abbrev pub imageName : List ℕ
-imageName = 105 ∷ 109 ∷ 97 ∷ 103 ∷ 101 ∷ []
+imageName = ascii "image"
 
 -- ---- what the refusals mean
 
--- no image was accepted
 abbrev pub orderWords : List ℕ
-orderWords =
-    110 ∷ 111 ∷ 32
-    ∷ 105 ∷ 109 ∷ 97 ∷ 103 ∷ 101 ∷ 32
-    ∷ 119 ∷ 97 ∷ 115 ∷ 32
-    ∷ 97 ∷ 99 ∷ 99 ∷ 101 ∷ 112 ∷ 116 ∷ 101 ∷ 100 ∷ []
+orderWords = ascii "no image was accepted"
 
 -- ---- what is said
 

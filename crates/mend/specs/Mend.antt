@@ -1,9 +1,10 @@
 -- What the program says of a damaged image, and what it writes to the file: the lines of what was changed and the mended image, or a refusal.
 use mathlib.Core.Path.{_≡_}
 use mathlib.Core.Bool.{Bool}
-use mathlib.Core.List.{List, [], _∷_}
+use mathlib.Core.List.{List}
 use Prim.Native.Nat.{ℕ}
 use Rattle.numbers.specs.Choice.{pick}
+use Rattle.digits.specs.Ascii.{ascii}
 use Rattle.streams.specs.declared.Said.{Said}
 use Rattle.streams.specs.Streams.{Speech, output, error, unreadText, refusedText, Saying}
 use Rattle.record.specs.Image.{imageSize}
@@ -13,31 +14,16 @@ use Rattle.mending.specs.declared.Mended.{Mended}
 use Rattle.mending.specs.declared.Mended.the-variants.{Done, Refused}
 use Rattle.mending.specs.Mending.{mendedOf, changesOf, unmendedNumber, mendingAnswer}
 
--- mend
 abbrev pub mendName : List ℕ
-mendName = 109 ∷ 101 ∷ 110 ∷ 100 ∷ []
+mendName = ascii "mend"
 
 -- ---- what the refusals mean
 
--- the image is not 60 bytes
 abbrev pub sizeWords : List ℕ
-sizeWords =
-    116 ∷ 104 ∷ 101 ∷ 32
-    ∷ 105 ∷ 109 ∷ 97 ∷ 103 ∷ 101 ∷ 32
-    ∷ 105 ∷ 115 ∷ 32
-    ∷ 110 ∷ 111 ∷ 116 ∷ 32
-    ∷ 54 ∷ 48 ∷ 32
-    ∷ 98 ∷ 121 ∷ 116 ∷ 101 ∷ 115 ∷ []
+sizeWords = ascii "the image is not 60 bytes"
 
--- the image has another family code
 abbrev pub familyWords : List ℕ
-familyWords =
-    116 ∷ 104 ∷ 101 ∷ 32
-    ∷ 105 ∷ 109 ∷ 97 ∷ 103 ∷ 101 ∷ 32
-    ∷ 104 ∷ 97 ∷ 115 ∷ 32
-    ∷ 97 ∷ 110 ∷ 111 ∷ 116 ∷ 104 ∷ 101 ∷ 114 ∷ 32
-    ∷ 102 ∷ 97 ∷ 109 ∷ 105 ∷ 108 ∷ 121 ∷ 32
-    ∷ 99 ∷ 111 ∷ 100 ∷ 101 ∷ []
+familyWords = ascii "the image has another family code"
 
 abbrev pub whyWords : Why → List ℕ
 whyWords Size = sizeWords

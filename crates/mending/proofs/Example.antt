@@ -9,6 +9,7 @@ use lib.Dec.{ltb, ltb→lt}
 use lib.ListN.{getD, replicate, List·getD-eq-default}
 use Rattle.crc.specs.Crc as crc
 use Rattle.crc.proofs.Table.{at}
+use Rattle.digits.specs.Ascii.{ascii}
 use Rattle.digits.specs.Digits.{hexOf}
 use Rattle.record.specs.declared.Refusal.the-variants.{Address}
 use Rattle.record.specs.declared.Taken.the-variants.{Refused}
@@ -39,14 +40,8 @@ pub damaged-mended : mendedOf damaged ≡ whole
 unfolding mendedOf arrangedOf crc.bitOf crc.eightOf crc.nextOf
 damaged-mended = refl
 
--- 07 00 ac, 34 f4 28, 36 55 f4, 3a c8 80, 3b fe 02: 35h is as it was
-pub damaged-lines : changesOf damaged
-    ≡ 48 ∷ 55 ∷ 32 ∷ 48 ∷ 48 ∷ 32 ∷ 97 ∷ 99 ∷ 10
-    ∷ 51 ∷ 52 ∷ 32 ∷ 102 ∷ 52 ∷ 32 ∷ 50 ∷ 56 ∷ 10
-    ∷ 51 ∷ 54 ∷ 32 ∷ 53 ∷ 53 ∷ 32 ∷ 102 ∷ 52 ∷ 10
-    ∷ 51 ∷ 97 ∷ 32 ∷ 99 ∷ 56 ∷ 32 ∷ 56 ∷ 48 ∷ 10
-    ∷ 51 ∷ 98 ∷ 32 ∷ 102 ∷ 101 ∷ 32 ∷ 48 ∷ 50 ∷ 10
-    ∷ []
+-- 35h is as it was
+pub damaged-lines : changesOf damaged ≡ ascii "07 00 ac\n34 f4 28\n36 55 f4\n3a c8 80\n3b fe 02\n"
 unfolding changesOf changeText mendedOf arrangedOf hexOf crc.bitOf crc.eightOf crc.nextOf
 damaged-lines = refl
 

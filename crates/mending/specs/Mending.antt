@@ -9,6 +9,7 @@ use Rattle.numbers.specs.Choice.{pick}
 use Rattle.numbers.specs.Offset.{zeroAt, offset8Of, movedInto}
 use Rattle.slices.specs.Slices.{part, put}
 use Rattle.crc.specs.Crc.{crcOf}
+use Rattle.digits.specs.Ascii.{ascii}
 use Rattle.digits.specs.Digits.{lower, pairText}
 use Rattle.params.specs.declared.Breaks.{Breaks}
 use Rattle.record.specs.Image.{imageSize, addressAt, agingAt, imageBreaks, imageAging, imageLocks}
@@ -78,7 +79,7 @@ mendedOf image =
 -- ---- "one line per changed byte by rising offset: offset, old, new, each two lower-case hex digits, one space between"
 
 abbrev pub lineText : ℕ → ℕ → ℕ → List ℕ
-lineText offset old new = pairText lower offset ++ (32 ∷ (pairText lower old ++ (32 ∷ (pairText lower new ++ (10 ∷ [])))))
+lineText offset old new = pairText lower offset ++ (ascii " " ++ (pairText lower old ++ (ascii " " ++ (pairText lower new ++ ascii "\n"))))
 
 -- nothing of a byte that is as it was
 unfoldable pub changeText : ℕ → ℕ → ℕ → List ℕ

@@ -1,15 +1,15 @@
 -- What the program says: the text of the session on standard input.
 use mathlib.Core.Bool.{Bool}
-use mathlib.Core.List.{List, [], _∷_}
+use mathlib.Core.List.{List}
 use Prim.Native.Nat.{ℕ}
 use Rattle.numbers.specs.Choice.{pick}
+use Rattle.digits.specs.Ascii.{ascii}
 use Rattle.session_run.specs.SessionRun.{sessionOf}
 use Rattle.text.specs.Text.{runText}
 use Rattle.streams.specs.Streams.{Speech, output, error, unreadText}
 
--- session
 abbrev pub sessionName : List ℕ
-sessionName = 115 ∷ 101 ∷ 115 ∷ 115 ∷ 105 ∷ 111 ∷ 110 ∷ []
+sessionName = ascii "session"
 
 abbrev pub sessionText : List ℕ → List ℕ
 sessionText s = runText sessionOf s

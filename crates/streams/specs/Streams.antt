@@ -1,11 +1,12 @@
 -- What a program reads, and what it says: one text, on standard output or on standard error.
 use mathlib.Core.Path.{_≡_}
-use mathlib.Core.List.{List, [], _∷_, _++_}
+use mathlib.Core.List.{List, [], _++_}
 use Prim.Native.Nat.{ℕ, _≤_, min}
 use lib.Dec.{ltb}
 use lib.ListN.{length, take}
 use Rattle.numbers.specs.Choice.{pick}
 use Rattle.slices.specs.Slices.{put}
+use Rattle.digits.specs.Ascii.{ascii}
 use Rattle.digits.specs.Digits.{decimalText}
 use Rattle.streams.specs.declared.Stream.{Stream}
 use Rattle.streams.specs.declared.Stream.the-variants.{Output, Error}
@@ -32,22 +33,16 @@ output text = record { stream = Output; text = text }
 abbrev pub error : List ℕ → Speech
 error text = record { stream = Error; text = text }
 
--- NAME: cannot read standard input
 unfoldable pub unreadText : List ℕ → List ℕ
-unreadText name =
-    name ++
-    (58 ∷ 32 ∷ 99 ∷ 97 ∷ 110 ∷ 110 ∷ 111 ∷ 116 ∷ 32
-    ∷ 114 ∷ 101 ∷ 97 ∷ 100 ∷ 32
-    ∷ 115 ∷ 116 ∷ 97 ∷ 110 ∷ 100 ∷ 97 ∷ 114 ∷ 100 ∷ 32
-    ∷ 105 ∷ 110 ∷ 112 ∷ 117 ∷ 116 ∷ 10 ∷ [])
+unreadText name = name ++ ascii ": cannot read standard input\n"
 
 -- a refusal: a number, and what it means
 abbrev pub refusedText : ℕ → List ℕ → List ℕ
-refusedText number words = decimalText number ++ (58 ∷ 32 ∷ (words ++ (10 ∷ [])))
+refusedText number words = decimalText number ++ (ascii ": " ++ (words ++ ascii "\n"))
 
 -- the name under which a file is made before it takes its own: that one, and `.new`; none where it would be too long
 unfoldable pub besideText : List ℕ → List ℕ
-besideText name = pick (ltb 4000 (length name)) [] (name ++ (46 ∷ 110 ∷ 101 ∷ 119 ∷ []))
+besideText name = pick (ltb 4000 (length name)) [] (name ++ ascii ".new")
 
 -- the text stands at the front of the room, and the code says how many bytes it is, and where it goes
 pub record Saying (what : Speech) (before : List ℕ) (said : Said) (after : List ℕ) : Type 0 where

@@ -7,8 +7,9 @@ use lib.Dec.{leb}
 use lib.ListN.{length, take, drop}
 use Rattle.numbers.specs.Choice.{pick, both}
 use Rattle.slices.specs.Slices.{put}
+use Rattle.digits.specs.Ascii.{ascii}
 use Rattle.digits.specs.Digits.{decimalText}
-use Rattle.text.specs.Line.{space, newline, dash, lineText, endText}
+use Rattle.text.specs.Line.{lineText, endText}
 use Rattle.runs.specs.declared.Outcome.{Outcome}
 use Rattle.runs.specs.declared.Outcome.the-variants.{Done, Over, Short}
 use Rattle.runs.specs.Run.{Line, outcomeNumber, outcomeOf}
@@ -20,17 +21,12 @@ abbrev pub linesText : ℕ → List Line → List ℕ
 linesText number [] = []
 linesText number (l ∷ ls) = lineText number (l .kind) (l .answer) (l .reply) ++ linesText (number + 1) ls
 
--- record kind answer reply
 unfoldable pub headerText : List ℕ
-headerText =
-    114 ∷ 101 ∷ 99 ∷ 111 ∷ 114 ∷ 100 ∷ space
-    ∷ 107 ∷ 105 ∷ 110 ∷ 100 ∷ space
-    ∷ 97 ∷ 110 ∷ 115 ∷ 119 ∷ 101 ∷ 114 ∷ space
-    ∷ 114 ∷ 101 ∷ 112 ∷ 108 ∷ 121 ∷ newline ∷ []
+headerText = ascii "record kind answer reply\n"
 
 -- 0 ---- 1 -
 unfoldable pub overText : List ℕ
-overText = decimalText 0 ++ (space ∷ dash ∷ dash ∷ dash ∷ dash ∷ space ∷ (decimalText (outcomeNumber Over) ++ (space ∷ endText [])))
+overText = decimalText 0 ++ (ascii " ---- " ++ (decimalText (outcomeNumber Over) ++ (ascii " " ++ endText [])))
 
 -- the text of a session: records are numbered from 1; answer 1 is one line numbered 0
 abbrev pub textOf : Outcome → List Line → List ℕ
@@ -95,24 +91,8 @@ pub record Reporting (text before : List ℕ) (count : ℕ) (after : List ℕ) :
 
 -- ---- why a session is not run, in words
 
--- the session is over 32,768 bytes
 abbrev pub overWords : List ℕ
-overWords =
-    116 ∷ 104 ∷ 101 ∷ 32
-    ∷ 115 ∷ 101 ∷ 115 ∷ 115 ∷ 105 ∷ 111 ∷ 110 ∷ 32
-    ∷ 105 ∷ 115 ∷ 32
-    ∷ 111 ∷ 118 ∷ 101 ∷ 114 ∷ 32
-    ∷ 51 ∷ 50 ∷ 44 ∷ 55 ∷ 54 ∷ 56 ∷ 32
-    ∷ 98 ∷ 121 ∷ 116 ∷ 101 ∷ 115 ∷ []
+overWords = ascii "the session is over 32,768 bytes"
 
--- the room for the answers is too small
 abbrev pub shortWords : List ℕ
-shortWords =
-    116 ∷ 104 ∷ 101 ∷ 32
-    ∷ 114 ∷ 111 ∷ 111 ∷ 109 ∷ 32
-    ∷ 102 ∷ 111 ∷ 114 ∷ 32
-    ∷ 116 ∷ 104 ∷ 101 ∷ 32
-    ∷ 97 ∷ 110 ∷ 115 ∷ 119 ∷ 101 ∷ 114 ∷ 115 ∷ 32
-    ∷ 105 ∷ 115 ∷ 32
-    ∷ 116 ∷ 111 ∷ 111 ∷ 32
-    ∷ 115 ∷ 109 ∷ 97 ∷ 108 ∷ 108 ∷ []
+shortWords = ascii "the room for the answers is too small"

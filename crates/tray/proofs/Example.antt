@@ -6,6 +6,7 @@ use Rattle.runs.specs.Record.{wholeOf, recOf, sizeOf}
 use Rattle.runs.specs.Run.{outcomeOf}
 use Rattle.tray_record.specs.Tray.{trayKindOf, trayDid}
 use Rattle.tray_run.specs.TrayRun.{trayLines}
+use Rattle.digits.specs.Ascii.{ascii}
 use Rattle.digits.specs.Digits.{hexOf, shownText, decimalText}
 use Rattle.text.specs.Line.{kindText, replyText, startText, endText}
 use Rattle.text.specs.Text.{headerText, runText}
@@ -14,17 +15,14 @@ use Rattle.tray.specs.Tray.{trayText}
 abbrev pub input : List ℕ
 input = 1 ∷ 0 ∷ 21 ∷ 0 ∷ 0 ∷ 0 ∷ 0 ∷ 5 ∷ 0 ∷ 1 ∷ []
 
--- 1 0015 5 -
 abbrev pub first : List ℕ
-first = 49 ∷ 32 ∷ 48 ∷ 48 ∷ 49 ∷ 53 ∷ 32 ∷ 53 ∷ 32 ∷ 45 ∷ 10 ∷ []
+first = ascii "1 0015 5 -\n"
 
--- 2 0005 3 -
 abbrev pub second : List ℕ
-second = 50 ∷ 32 ∷ 48 ∷ 48 ∷ 48 ∷ 53 ∷ 32 ∷ 51 ∷ 32 ∷ 45 ∷ 10 ∷ []
+second = ascii "2 0005 3 -\n"
 
--- 3 ---- 2 -
 abbrev pub third : List ℕ
-third = 51 ∷ 32 ∷ 45 ∷ 45 ∷ 45 ∷ 45 ∷ 32 ∷ 50 ∷ 32 ∷ 45 ∷ 10 ∷ []
+third = ascii "3 ---- 2 -\n"
 
 pub example : trayText input ≡ headerText ++ (first ++ (second ++ third))
 unfolding runText outcomeOf trayLines trayDid trayKindOf recOf sizeOf wholeOf hexOf shownText decimalText kindText replyText startText endText

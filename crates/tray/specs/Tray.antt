@@ -1,15 +1,15 @@
 -- What the program says: the text of the tray session on standard input.
 use mathlib.Core.Bool.{Bool}
-use mathlib.Core.List.{List, [], _∷_}
+use mathlib.Core.List.{List}
 use Prim.Native.Nat.{ℕ}
 use Rattle.numbers.specs.Choice.{pick}
+use Rattle.digits.specs.Ascii.{ascii}
 use Rattle.tray_run.specs.TrayRun.{trayLines}
 use Rattle.text.specs.Text.{runText}
 use Rattle.streams.specs.Streams.{Speech, output, error, unreadText}
 
--- tray
 abbrev pub trayName : List ℕ
-trayName = 116 ∷ 114 ∷ 97 ∷ 121 ∷ []
+trayName = ascii "tray"
 
 abbrev pub trayText : List ℕ → List ℕ
 trayText s = runText trayLines s

@@ -5,6 +5,7 @@ use Prim.Native.Nat.{ℕ, _+_, _-_, _*_, min}
 use lib.Dec.{ltb, leb}
 use lib.ListN.{length}
 use Rattle.numbers.specs.Choice.{pick, both}
+use Rattle.digits.specs.Ascii.{ascii}
 use Rattle.streams.specs.Streams.{Speech, output, error, unreadText, refusedText}
 use Rattle.record.specs.declared.Refusal.the-variants.{Order}
 use Rattle.record.specs.Record.{refusalNumber}
@@ -42,29 +43,14 @@ slotOf word = min (valueFrom 0 word) 8
 
 -- ---- words
 
--- tray_image
 abbrev pub trayImageName : List ℕ
-trayImageName = 116 ∷ 114 ∷ 97 ∷ 121 ∷ 95 ∷ 105 ∷ 109 ∷ 97 ∷ 103 ∷ 101 ∷ []
+trayImageName = ascii "tray_image"
 
--- tray_image: SLOT is no number
 abbrev pub noNumberText : List ℕ
-noNumberText =
-    116 ∷ 114 ∷ 97 ∷ 121 ∷ 95 ∷ 105 ∷ 109 ∷ 97 ∷ 103 ∷ 101 ∷ 58 ∷ 32
-    ∷ 83 ∷ 76 ∷ 79 ∷ 84 ∷ 32
-    ∷ 105 ∷ 115 ∷ 32
-    ∷ 110 ∷ 111 ∷ 32
-    ∷ 110 ∷ 117 ∷ 109 ∷ 98 ∷ 101 ∷ 114 ∷ 10 ∷ []
+noNumberText = ascii "tray_image: SLOT is no number\n"
 
--- no image was accepted for this slot
 abbrev pub slotWords : List ℕ
-slotWords =
-    110 ∷ 111 ∷ 32
-    ∷ 105 ∷ 109 ∷ 97 ∷ 103 ∷ 101 ∷ 32
-    ∷ 119 ∷ 97 ∷ 115 ∷ 32
-    ∷ 97 ∷ 99 ∷ 99 ∷ 101 ∷ 112 ∷ 116 ∷ 101 ∷ 100 ∷ 32
-    ∷ 102 ∷ 111 ∷ 114 ∷ 32
-    ∷ 116 ∷ 104 ∷ 105 ∷ 115 ∷ 32
-    ∷ 115 ∷ 108 ∷ 111 ∷ 116 ∷ []
+slotWords = ascii "no image was accepted for this slot"
 
 -- ---- what is said
 
