@@ -1,4 +1,4 @@
--- The demands speak of the functions themselves: what a caller learns from the contracts of `records::run` and `records::take_out`, as the
+-- The demands speak of the functions themselves: what a caller learns from the contracts of `session_run::run` and `session_run::take_out`, as the
 -- check reads them of the code, is what the demands are stated of.
 use Prim.Native.Nat.{ℕ}
 use contract.Lifetimes.{Lfts}

@@ -1,5 +1,5 @@
--- The theorems on trays speak of the functions themselves: what a caller learns from the contracts of `trays::run` and `trays::take_out`, as the
--- check reads them of the code, is what the theorems are stated of.
+-- The theorems on trays speak of the functions themselves: what a caller learns from the contracts of `tray_run::run` and `tray_run::take_out`, as
+-- the check reads them of the code, is what the theorems are stated of.
 use contract.Lifetimes.{Lfts}
 use denote.Ref.{now}
 use denote.Triple.Entry.{Args, Res}

@@ -1,6 +1,6 @@
 -- A call of a run, of any state and any `did`, which says what one record does: what the demands are stated of. For sessions S is `Session`,
--- did `didOf` and start `emptyOf`, and the call is one of `records::run`; for trays they are `Tray`, `trayDid` and `emptyTray`, and the call is one of
--- `trays::run`.
+-- did `didOf` and start `emptyOf`, and the call is one of `session_run::run`; for trays they are `Tray`, `trayDid` and `emptyTray`, and the call is
+-- one of `tray_run::run`.
 use mathlib.Core.Path.{_≡_}
 use mathlib.Core.List.{List, [], _∷_, _++_, map, zip}
 use Prim.Native.Nat.{ℕ, zero, suc, _+_, _/_, _≤_}

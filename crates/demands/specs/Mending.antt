@@ -2,7 +2,7 @@
 --
 -- "a tool which writes a 60-byte image that is accepted"
 --
--- Stated of any two calls that their contracts allow: one of `mending::mend`, which is done, and one of `records::run`, whose session begins with a
+-- Stated of any two calls that their contracts allow: one of `mending::mend`, which is done, and one of `session_run::run`, whose session begins with a
 -- record of what was written. What mending is worth besides is said of the judge alone, in mending/specs/Worth.antt.
 use mathlib.Core.Path.{_≡_}
 use mathlib.Core.List.{List, [], _∷_, _++_}

@@ -2,7 +2,7 @@
 --
 -- "Run through the gauge it ends with exactly those EEPROM bytes in block 1, and block 0, saved cells and locks unchanged."
 --
--- Stated of any two calls that their contracts allow: one of `programming::write`, which writes a session, and one of `records::run`, which runs
+-- Stated of any two calls that their contracts allow: one of `preset_session::write`, which writes a session, and one of `session_run::run`, which runs
 -- what was written, with any reply room.
 use mathlib.Core.Path.{_≡_}
 use mathlib.Core.Bool.{false}

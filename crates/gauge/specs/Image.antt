@@ -1,4 +1,4 @@
--- The pack image in and out; `events` says where its parts stand.
+-- The pack image in and out; `record` says where its parts stand.
 use mathlib.Core.Path.{_≡_}
 use mathlib.Core.Bool.{Bool, true, false}
 use mathlib.Core.List.{List, [], _∷_, _++_}

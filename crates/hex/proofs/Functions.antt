@@ -1,4 +1,4 @@
--- The theorems speak of the functions themselves: what a caller learns from the contracts of `transfer::write` and `transfer::read`, as the check reads
+-- The theorems speak of the functions themselves: what a caller learns from the contracts of `hex::write` and `hex::read`, as the check reads
 -- them of the code, is what they are stated of.
 use contract.Lifetimes.{Lfts}
 use denote.Ref.{now}

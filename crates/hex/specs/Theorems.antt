@@ -2,7 +2,7 @@
 --
 -- "Import reads just this layout, record order free, and gives back the 48 bytes of every export."
 --
--- Stated of any two calls that their contracts allow: one of `transfer::write`, which is given two images of bytes, and one of `transfer::read`, which
+-- Stated of any two calls that their contracts allow: one of `hex::write`, which is given two images of bytes, and one of `hex::read`, which
 -- is given the lines that were written, those of the data in any order.
 use mathlib.Core.Path.{_≡_}
 use mathlib.Core.Bool.{true}

@@ -1,4 +1,4 @@
--- `transfer::accepted` meets its contract.
+-- `hex::accepted` meets its contract.
 use mathlib.Core.Path.{refl, sym, _∙_}
 use borrow.Author.Needs.{needs}
 use Rattle.hex.proofs.accepted.Statement.{statement}

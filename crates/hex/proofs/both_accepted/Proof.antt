@@ -1,4 +1,4 @@
--- `transfer::both_accepted` meets its contract.
+-- `hex::both_accepted` meets its contract.
 use Rattle.hex.specs.Export.{bothAccepted}
 use borrow.Author.Needs.{needs}
 use Rattle.hex.proofs.both_accepted.Statement.{statement}

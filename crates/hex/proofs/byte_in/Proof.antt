@@ -1,4 +1,4 @@
--- `ihex::byte_in` meets its contract.
+-- `hex::byte_in` meets its contract.
 use mathlib.Core.Path.{_∙_}
 use denote.Ref.{now}
 use Rattle.hex.proofs.Laws.{byte-read, byte-past}

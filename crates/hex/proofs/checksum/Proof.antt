@@ -1,4 +1,4 @@
--- `ihex::checksum` meets its contract.
+-- `hex::checksum` meets its contract.
 use native.Mathlib.Omega.{arith}
 use borrow.Author.Needs.{needs}
 use Rattle.hex.proofs.checksum.Statement.{statement}

@@ -1,4 +1,4 @@
--- `transfer::count` meets its contract. The invariant: so many so far, and those among the lines from here on, are all.
+-- `hex::count` meets its contract. The invariant: so many so far, and those among the lines from here on, are all.
 use mathlib.Core.Path.{_≡_, ap}
 use Prim.Native.Nat.{ℕ, _+_, _-_, _≤_}
 use native.Mathlib.Nat.{zero-add}

@@ -1,4 +1,4 @@
--- `ihex::data_record` meets its contract.
+-- `hex::data_record` meets its contract.
 use mathlib.Core.Path.{sym, ap, _∙_}
 use mathlib.Core.List.{List}
 use Prim.Native.Nat.{ℕ}

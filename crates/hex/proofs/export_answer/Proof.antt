@@ -1,4 +1,4 @@
--- `transfer::export_answer` meets its contract.
+-- `hex::export_answer` meets its contract.
 use mathlib.Core.Path.{refl, sym, _∙_}
 use borrow.Author.Tests.{lt-ltb, le-ltb}
 use Rattle.hex.specs.Export.{exportAnswer}

@@ -1,4 +1,4 @@
--- `ihex::formed` meets its contract.
+-- `hex::formed` meets its contract.
 use native.Mathlib.Omega.{arith}
 use denote.Ref.{now}
 use Rattle.hex.proofs.Laws.{formed-short, formed-asked}

@@ -1,4 +1,4 @@
--- `ihex::headed` meets its contract.
+-- `hex::headed` meets its contract.
 use borrow.Author.Needs.{needs}
 use Rattle.hex.proofs.headed.Statement.{statement}
 use Rattle.hex.proofs.headed.Tie as tie

@@ -1,4 +1,4 @@
--- `ihex::judged` meets its contract.
+-- `hex::judged` meets its contract.
 use mathlib.Core.Path.{refl, sym, _∙_}
 use native.Mathlib.Omega.{arith}
 use denote.Ref.{now}

@@ -1,4 +1,4 @@
--- `ihex::known` meets its contract.
+-- `hex::known` meets its contract.
 use Rattle.hex.specs.Line.{expectedOf}
 use borrow.Author.Needs.{needs}
 use Rattle.hex.proofs.known.Statement.{statement}

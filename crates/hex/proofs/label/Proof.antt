@@ -1,4 +1,4 @@
--- `transfer::label` meets its contract.
+-- `hex::label` meets its contract.
 use mathlib.Core.Path.{_≡_, refl, sym, _∙_}
 use mathlib.Core.Bool.{true}
 use mathlib.Core.List.{List}

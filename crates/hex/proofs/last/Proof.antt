@@ -1,4 +1,4 @@
--- `transfer::last` meets its contract. The invariant: the last of the lines from here on is the last of all.
+-- `hex::last` meets its contract. The invariant: the last of the lines from here on is the last of all.
 use mathlib.Core.Path.{_≡_, refl, sym, ap, _∙_}
 use Prim.Native.Nat.{ℕ, _-_, _≤_}
 use native.Mathlib.Omega.{arith}

@@ -1,4 +1,4 @@
--- `transfer::line_end` meets its contract. The invariant: no line feed so far.
+-- `hex::line_end` meets its contract. The invariant: no line feed so far.
 use Prim.Native.Nat.{_-_, _≤_}
 use native.Mathlib.Omega.{arith}
 use borrow.Author.Tests.{eq-eqb, ne-eqb}

@@ -1,4 +1,4 @@
--- `transfer::lines_answer` meets its contract. The invariant: the lines from here on answer as all do.
+-- `hex::lines_answer` meets its contract. The invariant: the lines from here on answer as all do.
 use mathlib.Core.Path.{_≡_, refl, sym, _∙_}
 use Prim.Native.Nat.{_-_, _≤_}
 use native.Mathlib.Omega.{arith}

@@ -1,4 +1,4 @@
--- `ihex::placed` meets its contract.
+-- `hex::placed` meets its contract.
 use borrow.Author.Needs.{needs}
 use Rattle.hex.proofs.placed.Statement.{statement}
 use Rattle.hex.proofs.placed.Tie as tie

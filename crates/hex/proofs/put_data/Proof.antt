@@ -1,4 +1,4 @@
--- `ihex::put_data` meets its contract. The invariant: what is still to be put, over what stands there now, is the whole.
+-- `hex::put_data` meets its contract. The invariant: what is still to be put, over what stands there now, is the whole.
 use mathlib.Core.Path.{_≡_, refl, sym, ap, _∙_}
 use Prim.Native.Nat.{ℕ, _+_, _-_, _≤_}
 use native.Mathlib.Nat.{add-zero}

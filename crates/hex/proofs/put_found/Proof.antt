@@ -1,4 +1,4 @@
--- `transfer::put_found` meets its contract. The invariant: the data are among the lines from here on, and nothing was written.
+-- `hex::put_found` meets its contract. The invariant: the data are among the lines from here on, and nothing was written.
 use mathlib.Core.Path.{_≡_, refl, sym, ap, _∙_}
 use mathlib.Core.List.{List, []}
 use Prim.Native.Nat.{ℕ, _-_, _≤_}

@@ -1,4 +1,4 @@
--- `transfer::put_imported` meets its contract: three parts, one behind the other.
+-- `hex::put_imported` meets its contract: three parts, one behind the other.
 use mathlib.Core.Path.{ap, _∙_}
 use mathlib.Core.List.{List}
 use Prim.Native.Nat.{ℕ}

@@ -1,4 +1,4 @@
--- `ihex::put_line` meets its contract, by joining its pieces.
+-- `hex::put_line` meets its contract, by joining its pieces.
 use Rattle.digits.proofs.Laws.{then}
 use borrow.Author.Needs.{needs}
 use Rattle.hex.proofs.put_line.Statement.{statement}

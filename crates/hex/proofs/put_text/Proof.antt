@@ -1,4 +1,4 @@
--- `transfer::put_text` meets its contract: four lines, one behind the other.
+-- `hex::put_text` meets its contract: four lines, one behind the other.
 use denote.Ref.{now}
 use Rattle.digits.proofs.Laws.{then}
 use Rattle.hex.proofs.Texts.{text-written}

@@ -1,4 +1,4 @@
--- `transfer::read` meets its contract.
+-- `hex::read` meets its contract.
 use mathlib.Core.Path.{sym, ap, _∙_}
 use lib.ListN.{length}
 use denote.Ref.{now}

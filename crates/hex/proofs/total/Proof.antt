@@ -1,4 +1,4 @@
--- `ihex::total` meets its contract. The invariant: the sum so far, with the bytes that are left, is the sum of all.
+-- `hex::total` meets its contract. The invariant: the sum so far, with the bytes that are left, is the sum of all.
 use mathlib.Core.Path.{_≡_}
 use Prim.Native.Nat.{_+_, _-_, _%_, _≤_, _<_}
 use native.Mathlib.Omega.{arith}

@@ -1,4 +1,4 @@
--- `ihex::total_read` meets its contract. The invariant is that of `total`, of the bytes that the digits stand for.
+-- `hex::total_read` meets its contract. The invariant is that of `total`, of the bytes that the digits stand for.
 use mathlib.Core.Path.{_≡_}
 use Prim.Native.Nat.{_+_, _-_, _%_, _≤_, _<_}
 use native.Mathlib.Omega.{arith}

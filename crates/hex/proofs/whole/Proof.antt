@@ -1,4 +1,4 @@
--- `transfer::whole` meets its contract.
+-- `hex::whole` meets its contract.
 use Rattle.hex.specs.Import.{wholeOf}
 use borrow.Author.Needs.{needs}
 use Rattle.hex.proofs.whole.Statement.{statement}

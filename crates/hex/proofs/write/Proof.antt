@@ -1,4 +1,4 @@
--- `transfer::write` meets its contract.
+-- `hex::write` meets its contract.
 use mathlib.Core.Path.{_≡_, sym, ap, _∙_}
 use mathlib.Core.List.{List, _++_}
 use Prim.Native.Nat.{ℕ}

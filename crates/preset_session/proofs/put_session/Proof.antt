@@ -1,4 +1,4 @@
--- `programming::put_session` meets its contract: four records, one behind the other.
+-- `preset_session::put_session` meets its contract: four records, one behind the other.
 use denote.Ref.{now}
 use Rattle.runs.specs.Record.{Recorded}
 use Rattle.preset_session.specs.PresetSession.{copyPayload, readPayload}

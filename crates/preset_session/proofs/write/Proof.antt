@@ -1,4 +1,4 @@
--- `programming::write` meets its contract.
+-- `preset_session::write` meets its contract.
 use mathlib.Core.Path.{_≡_, refl, sym, ap, _∙_}
 use mathlib.Core.List.{List}
 use Prim.Native.Nat.{ℕ}

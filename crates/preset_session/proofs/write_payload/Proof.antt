@@ -1,4 +1,4 @@
--- `programming::write_payload` meets its contract.
+-- `preset_session::write_payload` meets its contract.
 use mathlib.Core.Path.{refl, ap, _∙_}
 use mathlib.Core.List.{List}
 use Prim.Native.Nat.{ℕ}

@@ -1,4 +1,4 @@
--- `parts::fill` meets its contract, by the law of a part that is put over a whole list.
+-- `slices::fill` meets its contract, by the law of a part that is put over a whole list.
 use mathlib.Core.Path.{refl, _∙_}
 use lib.ListN.{length}
 use denote.Ref.{now}

@@ -1,4 +1,4 @@
--- `parts::laid` meets its contract: it stores the bytes that fall into the array, if there are any.
+-- `slices::laid` meets its contract: it stores the bytes that fall into the array, if there are any.
 use mathlib.Core.Path.{sym, _∙_}
 use Prim.Native.Nat.{_+_, _-_}
 use native.Mathlib.Omega.{arith}

@@ -1,4 +1,4 @@
--- `parts::store` meets its contract. The invariant: what is still to be put, over what stands there now, is the whole.
+-- `slices::store` meets its contract. The invariant: what is still to be put, over what stands there now, is the whole.
 use mathlib.Core.Path.{_≡_, refl, sym, _∙_}
 use Prim.Native.Nat.{_+_, _-_, _≤_}
 use native.Mathlib.Nat.{add-zero}

@@ -1,4 +1,4 @@
--- `line::put_bare_end` meets its contract.
+-- `text::put_bare_end` meets its contract.
 use Rattle.text.specs.Line.{replyText, endText}
 use borrow.Author.Needs.{needs}
 use Rattle.text.proofs.put_bare_end.Statement.{statement}

@@ -1,4 +1,4 @@
--- `line::put_done` meets its contract.
+-- `text::put_done` meets its contract.
 use Rattle.digits.proofs.Pairs.{paired}
 use Rattle.text.proofs.LineLaws.{done}
 use borrow.Author.Needs.{needs}

@@ -1,4 +1,4 @@
--- `line::put_end` meets its contract.
+-- `text::put_end` meets its contract.
 use native.Mathlib.Omega.{arith}
 use borrow.Author.Tests.{eq-eqb, ne-eqb}
 use Rattle.digits.proofs.Laws.{then, wider}

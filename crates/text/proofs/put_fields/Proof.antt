@@ -1,4 +1,4 @@
--- `line::put_fields` meets its contract, by joining its pieces.
+-- `text::put_fields` meets its contract, by joining its pieces.
 use native.Mathlib.Omega.{arith}
 use Rattle.digits.proofs.Laws.{then, narrow, three}
 use borrow.Author.Needs.{needs}

@@ -1,4 +1,4 @@
--- `line::put_kind` meets its contract: the table has the two digits of each byte.
+-- `text::put_kind` meets its contract: the table has the two digits of each byte.
 use Prim.Native.Nat.{_/_, _%_}
 use native.Mathlib.Omega.{arith}
 use borrow.Author.Tests.{eq-eqb, ne-eqb}
