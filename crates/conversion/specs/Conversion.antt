@@ -24,6 +24,7 @@ use Rattle.state.specs.declared.Shown.{Shown}
 use Rattle.state.specs.declared.Meter.{Meter}
 use Rattle.state.specs.State.{acrOf, runOf, edgeOf, countsCycles}
 use Rattle.conversion.specs.declared.Age.{Age}
+use Rattle.conversion.specs.declared.Stepped.{Stepped}
 
 -- ---- a meter with one of its parts replaced
 
@@ -149,6 +150,10 @@ countedOf f p g last c = record {
   learnf = learningOf (g .learnf) last c (newCount f p g c);
   mark = false;
 }
+
+-- a charge that follows another, and how far ACR fell between them, as the code hands them on
+abbrev pub steppedOf : Charge → Charge → Stepped
+steppedOf g next = record { charge = next; fall = fallOf (g .count) (next .count) }
 
 -- ---- the cycle counter of the DS2775: it "advances by one for each twice Full40 that ACR has fallen, counted as ageing counts it"
 

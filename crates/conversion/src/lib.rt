@@ -13,7 +13,7 @@ use state::Trace;
 ghost use mathlib.Core.Path.{_≡_};
 ghost use Prim.Native.Nat.{_*_, _≤_, _+_};
 ghost use Rattle.state.specs.State.{ChargeWF, AverageWF, MeterWF};
-ghost use Rattle.conversion.specs.Conversion.{currentOf, tracedOf, blankedOf, grownOf, addedOf, fallOf, agedOf, learningOf, countedOf, setOf, agedFullOf, shareOf, shareUpOf, restOf, advancedOf, averagedOf, tapersOf, foundOf, learntOf, filledOf, convertedOf, flowedOf, chargedOf, convertOf};
+ghost use Rattle.conversion.specs.Conversion.{currentOf, tracedOf, blankedOf, grownOf, addedOf, fallOf, agedOf, learningOf, countedOf, steppedOf, setOf, agedFullOf, shareOf, shareUpOf, restOf, advancedOf, averagedOf, tapersOf, foundOf, learntOf, filledOf, convertedOf, flowedOf, chargedOf, convertOf};
 ghost use Rattle.params.specs.Params.{limitsOf, capacityOf};
 
 // The age counter and AS.
@@ -124,19 +124,29 @@ fn learning(mut learnf: bool, last: u16, c: u16, count: u32) -> bool
     learnf
 }
 
+// What steps 1 to 5 leave: the charge, and how far ACR fell, which ageing and the cycle counter count.
+pub struct Stepped {
+    pub charge: Charge,
+    pub fall: u32,
+}
+
 // Steps 1 to 5: last is the c before and c this one.
-pub fn counted(charge: Charge, f: Profile, p: Counting, last: u16, c: u16) -> Charge
+pub fn counted(charge: Charge, f: Profile, p: Counting, last: u16, c: u16) -> Stepped
     requires { ⌜ ChargeWF charge ⌝ }
-    ensures { λ r. ⌜ r ≡ countedOf f p charge last c ⌝ }
+    ensures { λ r. ⌜ r ≡ steppedOf charge (countedOf f p charge last c) ⌝ }
 {
     let count = added(charge.mark, charge.count, blanked(f, p.nben, c), p.ab);
-    let a = aged(p.ac, charge.age + fall(charge.count, count), charge.aging);
-    Charge {
-        count: count,
-        age: a.age,
-        aging: a.aging,
-        learnf: learning(charge.learnf, last, c, count),
-        mark: false,
+    let fall = fall(charge.count, count);
+    let a = aged(p.ac, charge.age + fall, charge.aging);
+    Stepped {
+        charge: Charge {
+            count: count,
+            age: a.age,
+            aging: a.aging,
+            learnf: learning(charge.learnf, last, c, count),
+            mark: false,
+        },
+        fall: fall,
     }
 }
 
@@ -163,19 +173,20 @@ pub fn advanced(cycles: Cycles, full40: u16, fall: u32) -> Cycles
 }
 
 // The charge that steps 1 to 5 leave, and the cycle counter, which counts the same fall of ACR as ageing.
-pub fn charged(mut meter: Meter, g: Charge) -> Meter
+pub fn charged(mut meter: Meter, stepped: Stepped) -> Meter
     requires { ⌜ MeterWF meter ⌝ }
-    requires { ⌜ ChargeWF g ⌝ }
-    ensures { λ r. ⌜ r ≡ chargedOf meter (capacityOf (meter .cells .block .shadow) .full40) g ⌝ }
+    requires { ⌜ ChargeWF (stepped .charge) ⌝ }
+    requires { ⌜ stepped .fall ≡ fallOf (meter .charge .count) (stepped .charge .count) ⌝ }
+    ensures { λ r. ⌜ r ≡ chargedOf meter (capacityOf (meter .cells .block .shadow) .full40) (stepped .charge) ⌝ }
     ensures kept { λ r. ⌜ MeterWF r ⌝ }
 {
     let cells = meter.cells;
     let f = cells.profile;
-    let fall = fall(meter.charge.count, g.count);
-    meter.charge = g;
+    let charge = stepped.charge;
+    meter.charge = charge;
     if state::counts(f) {
         let full = Capacity::of(&meter.cells.block.shadow);
-        let cycles = advanced(meter.cycles, full.full40, fall);
+        let cycles = advanced(meter.cycles, full.full40, stepped.fall);
         meter.cycles.count = cycles.count;
         meter.cycles.rest = cycles.rest;
     }
@@ -314,6 +325,6 @@ pub fn convert(meter: Meter, raw: u32) -> Meter
     let c = converted(meter.flow, raw, p.cob);
     let cells = meter.cells;
     let f = cells.profile;
-    let charge = counted(meter.charge, f, p, meter.flow.trace.last, c);
-    flowed(charged(meter, charge), c)
+    let stepped = counted(meter.charge, f, p, meter.flow.trace.last, c);
+    flowed(charged(meter, stepped), c)
 }

@@ -1,4 +1,5 @@
 // Slow sampling: n conversions of one raw current, one by one or in stretches.
+use conversion::Stepped;
 use params::Capacity;
 use params::Counting;
 use params::Limits;
@@ -218,7 +219,11 @@ fn stretch(m: Meter, raw: u32, k: u16) -> Meter
     let cells = m.cells;
     let f = cells.profile;
     let charge = charge_over(f, p, m.charge, m.flow.trace.last, c, k);
-    flowed_over(conversion::charged(m, charge), limits, full.full40, c, k)
+    let stepped = Stepped {
+        charge: charge,
+        fall: conversion::fall(m.charge.count, charge.count),
+    };
+    flowed_over(conversion::charged(m, stepped), limits, full.full40, c, k)
 }
 
 // How many of the conversions that are left a stretch takes: up to the end of the run of eight, where full may be found or a 1024th is made,

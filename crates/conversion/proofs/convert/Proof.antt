@@ -1,3 +1,4 @@
+use mathlib.Core.Path.{refl}
 use native.Mathlib.Omega.{arith}
 use Rattle.conversion.proofs.ChargeLaws.{counted-wf}
 use Rattle.conversion.specs.Conversion.{convertOf}
@@ -9,7 +10,7 @@ charged-requires : tie.Need-charged-requires
 charged-requires c κs =
     let c5 = c .before .before .before .before .before in
     let c8 = c5 .before .before .before in
-    (c8 .pre, rw (c .counted .ensures) (counted-wf _ _ _ _ _ (omega (arith, c5 .of .ok)) (c8 .pre .charge)))
+    (c8 .pre, (rw (c .counted .ensures) (counted-wf _ _ _ _ _ (omega (arith, c5 .of .ok)) (c8 .pre .charge)), rw (c .counted .ensures) refl))
 
 returns : tie.Need-returns
 unfolding convertOf
