@@ -8,14 +8,13 @@ ghost use mathlib.Core.Path.{_≡_};
 ghost use mathlib.Core.List.{List};
 ghost use Prim.Native.Nat.{ℕ};
 ghost use lib.ListN.{length};
-ghost use Rattle.runs.specs.declared.Outcome.the-variants.{Done};
 ghost use Rattle.streams.specs.Streams.{Front, Saying};
 ghost use Rattle.image.specs.Image.{imageSpeech, takenSpeech, extractedOf};
 
 // The image of a session that was run to its end.
 fn put_image(session: Session, room: &mut [u8]) -> Said
     requires { ⌜ length (now room) ≡ 61 ⌝ }
-    ensures { λ r. ⌜ Saying (imageSpeech Done session) (now (room .entry)) r (now (room .exit)) ⌝ }
+    ensures { λ r. ⌜ Saying (imageSpeech session) (now (room .entry)) r (now (room .exit)) ⌝ }
 {
     let answer = session_run::take_out(session, room);
     if answer == 0 {
@@ -36,20 +35,13 @@ fn put_taken(s: &[u8], room: &mut [u8]) -> Said
     let mut replies = [0u8; 65536];
     let mut answers = [0u64; 8192];
     let ran = session_run::run(s, &mut replies, &mut answers);
-    let outcome = ran.outcome;
+    let ended = ran.ended;
+    let outcome = ended.outcome;
     let session = ran.session;
     match outcome {
         Outcome::Done => put_image(session, room),
-        Outcome::Over => streams::put_refused(
-            runs::outcome_number(Outcome::Over),
-            b"the session is over 32,768 bytes",
-            room,
-        ),
-        Outcome::Short => streams::put_refused(
-            runs::outcome_number(Outcome::Short),
-            b"the room for the answers is too small",
-            room,
-        ),
+        Outcome::Over => text::put_unrun(Outcome::Over, room),
+        Outcome::Short => text::put_unrun(Outcome::Short, room),
     }
 }
 

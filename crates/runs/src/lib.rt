@@ -43,6 +43,13 @@ pub fn outcome_of(bytes: usize, answers: usize) -> Outcome
     Outcome::Done
 }
 
+// How a run of any state ended: how many lines it has, and how many bytes of reply.
+pub struct Ended {
+    pub outcome: Outcome,
+    pub lines: usize,
+    pub replied: usize,
+}
+
 // Whether a whole record stands at the front.
 pub fn whole(l: &[u8]) -> bool
     ensures { λ r. ⌜ r ≡ wholeOf (now (l .entry)) ⌝ }

@@ -14,13 +14,10 @@ fn put_session(s: &[u8], out: &mut [u8]) -> usize
     requires { ⌜ 270372 ≤ length (now out) ⌝ }
     ensures { λ r. ⌜ Reporting (sessionText (now (s .entry))) (now (out .entry)) r (now (out .exit)) ⌝ }
 {
-    let mut room = [0u8; 65536];
+    let mut replies = [0u8; 65536];
     let mut answers = [0u64; 8192];
-    let ran = session_run::run(s, &mut room, &mut answers);
-    let outcome = ran.outcome;
-    let lines = ran.lines;
-    let replied = ran.replied;
-    text::report(outcome, &answers[..lines], &room[..replied], out)
+    let ran = session_run::run(s, &mut replies, &mut answers);
+    text::report(ran.ended, &answers, &replies, out)
 }
 
 // What the program says. A byte more than a session may have is enough to know of any input. (That the room keeps its length is said for `main`.)

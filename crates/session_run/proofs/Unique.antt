@@ -18,7 +18,7 @@ pub empty-once : Once empty.ended empty.Reads.Pre empty.Reads.Learnt
 empty-once κs a r r′ w w′ p h h′ = (h .0 ∙ sym (h′ .0), refl)
 
 ran-of : Result Session → Ran
-ran-of r = record { outcome = r .outcome; session = r .state; lines = r .lines; replied = r .replied }
+ran-of r = record { session = r .state; ended = record { outcome = r .outcome; lines = r .lines; replied = r .replied } }
 
 pub run-once : Once run.ended run.Reads.Pre run.Reads.Learnt
 unfolding ran-of

@@ -28,11 +28,11 @@ sessionOf s room = linesAfter didOf emptyOf room (recsOf s)
 
 -- what `run` hands back, as every run does
 abbrev pub resultOf : Ran → Result Session
-resultOf r = record { outcome = r .outcome; state = r .session; lines = r .lines; replied = r .replied }
+resultOf r = record { outcome = r .ended .outcome; state = r .session; lines = r .ended .lines; replied = r .ended .replied }
 
 -- a session that is not run, as the code hands it back
 abbrev pub idleOf : Outcome → Ran
-idleOf o = record { outcome = o; session = emptyOf; lines = 0; replied = 0 }
+idleOf o = record { session = emptyOf; ended = record { outcome = o; lines = 0; replied = 0 } }
 
 -- ---- the image taken out: 5 before an image was accepted, then 9 for a room under 60, or under 61
 

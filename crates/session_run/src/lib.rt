@@ -5,6 +5,7 @@ use record::IMAGE_SIZE;
 use record::Refusal;
 use record::Taken;
 use runs::Asked;
+use runs::Ended;
 use runs::Outcome;
 use runs::Session;
 use state::Profile;
@@ -16,12 +17,10 @@ ghost use Rattle.gauge.specs.Image.{sizeFor};
 ghost use Rattle.runs.specs.SessionRecord.{SessionWF, didOf};
 ghost use Rattle.session_run.specs.SessionRun.{emptyOf, resultOf, idleOf, TakenOut};
 
-// What a session did: the state at its end, how many lines it has, and how many bytes of reply.
+// What a session did: the state at its end, and how it ended.
 pub struct Ran {
-    pub outcome: Outcome,
     pub session: Session,
-    pub lines: usize,
-    pub replied: usize,
+    pub ended: Ended,
 }
 
 // Before the first record.
@@ -95,13 +94,15 @@ fn run_all(s: &[u8], room: &mut [u8], answers: &mut [u64]) -> Ran
         lines = lines + 1;
     }
     Ran {
-        outcome: Outcome::Done,
         session: Session {
             loaded: loaded,
             gauge: gauge,
         },
-        lines: lines,
-        replied: used,
+        ended: Ended {
+            outcome: Outcome::Done,
+            lines: lines,
+            replied: used,
+        },
     }
 }
 
@@ -111,10 +112,12 @@ fn idle(outcome: Outcome) -> Ran
 {
     let session = empty();
     Ran {
-        outcome: outcome,
         session: session,
-        lines: 0,
-        replied: 0,
+        ended: Ended {
+            outcome: outcome,
+            lines: 0,
+            replied: 0,
+        },
     }
 }
 

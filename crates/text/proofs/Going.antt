@@ -1,21 +1,19 @@
 -- The loop of `put_codes`: where it stands after some lines, and how it comes there.
-use mathlib.Core.Path.{_≡_, refl, sym, ap, _∙_}
-use mathlib.Core.Bool.{Bool, true, false}
+use mathlib.Core.Path.{_≡_, refl, sym, _∙_}
 use mathlib.Core.List.{List, [], _∷_}
 use Prim.Native.Nat.{ℕ, _+_, _-_, _*_, _/_, _≤_, _<_, min}
 use native.Mathlib.Nat.{add-zero}
 use native.Mathlib.Numerals.{add-one}
 use native.Mathlib.Omega.{arith}
-use borrow.Author.Tests.{leb-true, leb-false}
-use lib.Dec.{leb}
 use lib.ListN.{length, getD, take, drop, drop-of-length-le}
-use lib.Seq.{drop-cons, drop-drop, take-all, length-take-le}
+use lib.Seq.{drop-cons, drop-drop, length-take-le}
 use Rattle.slices.specs.Slices.{part}
 use Rattle.slices.proofs.Laws.{part-length, part-rest}
 use Rattle.text.specs.Text.{codeKind, codeAnswer, codeReplied, codesText}
 use Rattle.digits.specs.Digits.{decimalText, Writing}
 use Rattle.text.specs.Line.{lineText, fieldsText, startText, endText}
 use Rattle.digits.proofs.Laws.{kept, none, then, wider}
+use Rattle.text.proofs.Laws.{take-drop-min}
 
 -- i lines are written, with so much of the replies: whatever is written behind them as the rest makes the whole
 pub record Going (codes replies before : List ℕ) (at : ℕ) (room : List ℕ) (next used i : ℕ) : Type 0 where
@@ -25,19 +23,6 @@ pub record Going (codes replies before : List ℕ) (at : ℕ) (room : List ℕ) 
   pub short : next ≤ at + (17 * i + 2 * used)
   pub whole : (m last : ℕ) (after : List ℕ) → Writing m (codesText (i + 1) (drop i codes) (drop used replies)) room next last after
       → Writing (17 * i + 2 * used + m) (codesText 1 codes replies) before at last after
-
--- asking for more than a list has is asking for all of it
-take-drop-min : (k : ℕ) (l : List ℕ) (n : ℕ) → n ≡ min k (length l) → (take n l ≡ take k l) × (drop n l ≡ drop k l)
-take-drop-min k l n e = by (leb k (length l)) refl
-  where
-    by : (b : Bool) → leb k (length l) ≡ b → (take n l ≡ take k l) × (drop n l ≡ drop k l)
-    by true h =
-        let same : n ≡ k = omega (arith, leb-true k (length l) h) in
-        (ap (λ (m : ℕ). take m l) same, ap (λ (m : ℕ). drop m l) same)
-    by false h =
-        let over : length l ≤ k = omega (arith, leb-false k (length l) h) in
-        let all : length l ≤ n = omega (arith, leb-false k (length l) h) in
-        (take-all n l all ∙ sym (take-all k l over), drop-of-length-le l all ∙ sym (drop-of-length-le l over))
 
 pub start : (codes replies before : List ℕ) (at : ℕ) → Going codes replies before at before at 0 0
 start codes replies before at = record {

@@ -4,4 +4,5 @@ pub mod Laws
 pub mod Going
 pub mod Lines
 pub mod Printed
-pub mod Ended
+pub mod AtEnd
+pub mod TakenOut

@@ -2,7 +2,7 @@
 use mathlib.Core.Path.{_≡_, refl, sym, ap, _∙_}
 use mathlib.Core.Bool.{Bool, true, false}
 use mathlib.Core.List.{List, [], _∷_, _++_, append-nil}
-use Prim.Native.Nat.{ℕ, suc, _+_, _-_, _/_, _≤_, _<_}
+use Prim.Native.Nat.{ℕ, suc, _+_, _/_, _≤_, _<_}
 use native.Mathlib.Omega.{arith}
 use borrow.Author.Tests.{le-leb, le-ltb, lt-ltb, ltb-false}
 use lib.Dec.{ltb}
@@ -10,6 +10,7 @@ use lib.ListN.{length, take, length-take}
 use Rattle.numbers.specs.Choice.{pick}
 use Rattle.slices.specs.Slices.{put}
 use Rattle.slices.proofs.Laws.{put-length, put-read}
+use Rattle.streams.specs.Streams.{Speech}
 use Rattle.runs.specs.declared.Outcome.{Outcome}
 use Rattle.runs.specs.declared.Outcome.the-variants.{Done, Over, Short}
 use Rattle.runs.specs.Record.{Rec, recsOf}
@@ -17,7 +18,7 @@ use Rattle.runs.specs.Run.{Did, Line, linesAfter, codesOf, repliesOf, Result, o
 use Rattle.runs.proofs.Records.{Bytes}
 use Rattle.runs.proofs.Lines.{Fits, lines-coded, lines-few, lines-fit}
 use Rattle.runs.proofs.Ends.{done-within}
-use Rattle.text.specs.Text.{headerText, overText, codedText, textOf, runText, mostOf, fitsOf, reportOf}
+use Rattle.text.specs.Text.{headerText, overText, codedText, textOf, runText, mostOf, fitsOf, reportOf, Reporting, ranSpeech, unrunSpeech}
 use Rattle.text.proofs.Lines.{codes-lines}
 
 -- as many numbers as lines
@@ -40,14 +41,6 @@ module _ {S : Type 0} (did : S → ℕ → Rec → Did S) (start : S) (f : Fits 
       (ap length (run .answered) ∙ put-length answers 0 (codesOf ls), ap length (run .replies) ∙ put-length room 0 (repliesOf ls))
   sized Over idle = (ap length (idle .answered), ap length (idle .replies))
   sized Short idle = (ap length (idle .answered), ap length (idle .replies))
-
-  -- and the counts lie within them
-  pub counts-within : (o : Outcome) → outcomeOf (length s) (length answers) ≡ o → RunsTo did start o s room answers r after told → (r .lines ≤ length told) × (r .replied ≤ length after)
-  counts-within Done e run =
-      let lent = sized Done run in
-      (omega (arith, run .lines, lines-few did start (length room) s, done-within (length s) (length answers) e .1, lent .0), omega (arith, run .replied, lines-fit did f start (length room) (recsOf s), lent .1))
-  counts-within Over e idle = rw (idle .result) (omega arith)
-  counts-within Short e idle = rw (idle .result) (omega arith)
 
   module _ (bytes : Bytes s) where
     told-done : (length s + 3) / 4 ≤ length answers → Running did start s room answers r after told
@@ -76,10 +69,13 @@ module _ {S : Type 0} (did : S → ℕ → Rec → Did S) (start : S) (f : Fits 
         let all : mostOf (length (take (r .lines) told)) (length (take (r .replied) after)) ≤ n = omega arith in
         rw (le-leb _ _ numbered, le-leb _ _ all) (told-text (outcomeOf (length s) (length answers)) refl runs)
 
-    -- what `report` writes of what the run told, where a answers and m bytes of reply room were lent, is the text of the session
-    pub session-text : (a m n : ℕ) → a ≡ length answers → m ≡ length room → Runs did start s room answers r after told
-        → a ≤ 99999 → mostOf a m ≤ n → reportOf (r .outcome) (take (r .lines) told) (take (r .replied) after) n ≡ textOf (outcomeOf (length s) a) (lines m)
-    session-text a m n e f runs few fits = rw (e, f) (reported-text n runs (rw e at few) (rw (e, f) at fits))
+    -- so what `report` writes of a run for which a program lent 8,192 answers and 65,536 bytes of reply room is the text of the session
+    pub session-text : {before out : List ℕ} {count : ℕ} → 8192 ≡ length answers → 65536 ≡ length room → Runs did start s room answers r after told
+        → mostOf 8192 65536 ≤ length before
+        → Reporting (reportOf (r .outcome) (take (r .lines) told) (take (r .replied) after) (length before)) before count out
+        → Reporting (textOf (outcomeOf (length s) 8192) (lines 65536)) before count out
+    session-text {before} e f runs fits written =
+        rw (e, f, ← reported-text (length before) runs (omega arith) (omega arith)) written
 
 -- with 8,192 answers there are never too few
 pub outcome-told : (s : List ℕ) → outcomeOf (length s) 8192 ≡ pick (ltb 32768 (length s)) Over Done
@@ -96,3 +92,7 @@ outcome-told s = by (ltb 32768 (length s)) refl
 pub over-alike : (lines : List ℕ → ℕ → List Line) (s : List ℕ) → 32768 < length s → runText lines s ≡ headerText ++ overText
 unfolding runText
 over-alike lines s h = rw (outcome-told s, lt-ltb 32768 (length s) h)
+
+-- nor does what is said of it
+pub over-said : (s : List ℕ) (said : Speech) → 32768 < length s → ranSpeech (outcomeOf (length s) 8192) said ≡ unrunSpeech Over
+over-said s said h = rw (outcome-told s, lt-ltb 32768 (length s) h) refl

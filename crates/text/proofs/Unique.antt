@@ -1,12 +1,13 @@
 -- The contracts of this crate's public functions leave no choice.
--- The contract of this crate's public function leaves no choice.
 use mathlib.Core.Path.{sym, _∙_}
 use Rattle.once.specs.Once.{Once}
+use Rattle.streams.proofs.Laws.{same-said, same-room}
 use Rattle.text.proofs.put_fields
 use Rattle.text.proofs.put_done
 use Rattle.text.proofs.put_bare_end
 use Rattle.text.proofs.put_end
 use Rattle.text.proofs.report
+use Rattle.text.proofs.put_unrun
 
 pub put-fields-once : Once put_fields.ended put_fields.Reads.Pre put_fields.Reads.Learnt
 put-fields-once κs a r r′ w w′ p h h′ = (h .onward ∙ sym (h′ .onward), λ i. (tt, (tt, (tt, ((h .written ∙ sym (h′ .written)) i, (tt, tt))))))
@@ -22,3 +23,6 @@ put-end-once κs a r r′ w w′ p h h′ = (h .onward ∙ sym (h′ .onward), �
 
 pub report-once : Once report.ended report.Reads.Pre report.Reads.Learnt
 report-once κs a r r′ w w′ p h h′ = (h .counted ∙ sym (h′ .counted), λ i. (tt, (tt, (tt, ((h .written ∙ sym (h′ .written)) i, tt)))))
+
+pub put-unrun-once : Once put_unrun.ended put_unrun.Reads.Pre put_unrun.Reads.Learnt
+put-unrun-once κs a r r′ w w′ p h h′ = (same-said h h′, λ i. (tt, (same-room h h′ i, tt)))

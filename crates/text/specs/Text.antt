@@ -9,7 +9,13 @@ use Rattle.numbers.specs.Choice.{pick, both}
 use Rattle.slices.specs.Slices.{put}
 use Rattle.digits.specs.Ascii.{ascii}
 use Rattle.digits.specs.Digits.{decimalText}
+use Rattle.streams.specs.Streams.{Speech, output, error, refusedText}
 use Rattle.text.specs.Line.{lineText, endText}
+use Rattle.record.specs.declared.Refusal.the-variants.{Order}
+use Rattle.record.specs.Record.{refusalNumber}
+use Rattle.gauge.specs.declared.Gauge.{Gauge}
+use Rattle.gauge.specs.Image.{bytesOf}
+use Rattle.runs.specs.declared.Ended.{Ended}
 use Rattle.runs.specs.declared.Outcome.{Outcome}
 use Rattle.runs.specs.declared.Outcome.the-variants.{Done, Over, Short}
 use Rattle.runs.specs.Run.{Line, outcomeNumber, outcomeOf}
@@ -82,6 +88,10 @@ fitsOf lines replied room = both (leb lines 99999) (leb (mostOf lines replied) r
 unfoldable pub reportOf : Outcome → List ℕ → List ℕ → ℕ → List ℕ
 reportOf outcome codes replies room = pick (fitsOf (length codes) (length replies) room) (codedText outcome codes replies) []
 
+-- and of a run, by how it ended: as many of the lent answers as it has lines, and as many bytes of the lent replies
+abbrev pub endedText : Ended → List ℕ → List ℕ → ℕ → List ℕ
+endedText ended answers replies room = reportOf (ended .outcome) (take (ended .lines) answers) (take (ended .replied) replies) room
+
 -- text stands at the front of the room, and is so many bytes. The last two fields follow, and are said for a caller that takes them out
 pub record Reporting (text before : List ℕ) (count : ℕ) (after : List ℕ) : Type 0 where
   pub counted : count ≡ length text
@@ -96,3 +106,21 @@ overWords = ascii "the session is over 32,768 bytes"
 
 abbrev pub shortWords : List ℕ
 shortWords = ascii "the room for the answers is too small"
+
+-- what is said of a session that was not run, on standard error: its answer number and what that means. Of one that was run nothing is said
+abbrev pub unrunSpeech : Outcome → Speech
+unrunSpeech Done = output []
+unrunSpeech Over = error (refusedText (outcomeNumber Over) overWords)
+unrunSpeech Short = error (refusedText (outcomeNumber Short) shortWords)
+
+-- what a program says of a session that was run, or else why it was not
+abbrev pub ranSpeech : Outcome → Speech → Speech
+ranSpeech Done said = said
+ranSpeech Over said = unrunSpeech Over
+ranSpeech Short said = unrunSpeech Short
+
+-- ---- the image taken out of a session, or of a slot of a tray
+
+-- it goes to standard output; where there is none, 5 and what that means go to standard error
+abbrev pub packSpeech : Bool → Gauge → List ℕ → Speech
+packSpeech held gauge words = pick held (output (bytesOf gauge)) (error (refusedText (refusalNumber Order) words))

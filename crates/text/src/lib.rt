@@ -1,12 +1,16 @@
 // What is printed: the line of an answer, and the text of a run.
+use runs::Ended;
 use runs::Outcome;
+use streams::Said;
+use streams::Stream;
 ghost use mathlib.Core.Path.{_≡_};
 ghost use mathlib.Core.List.{[]};
 ghost use Prim.Native.Nat.{_+_, _*_, _≤_, _<_};
 ghost use lib.ListN.{length};
 ghost use Rattle.digits.specs.Digits.{lower, pairsOf, Writing};
+ghost use Rattle.streams.specs.Streams.{Saying};
 ghost use Rattle.text.specs.Line.{kindText, fieldsText, endText};
-ghost use Rattle.text.specs.Text.{codesText, headerText, overText, codedText, mostOf, fitsOf, Held, reportOf, Reporting};
+ghost use Rattle.text.specs.Text.{codesText, headerText, overText, codedText, mostOf, fitsOf, Held, endedText, Reporting, unrunSpeech};
 
 fn put_kind(table: &[u8; 512], kind: usize, answer: usize, out: &mut [u8], at: usize) -> usize
     requires { ⌜ now table ≡ pairsOf lower ⌝ }
@@ -153,13 +157,43 @@ fn fits(lines: usize, replied: usize, room: usize) -> bool
     replied <= (room - least) / 2
 }
 
-// The text of a session that was run, at the front of the room, and how many bytes it is. 0, and nothing is written, where the lines are more
-// than five digits can number, or where the room is less than such a text can take: 36 bytes, 17 for each line, 2 for each byte of the replies.
-pub fn report(outcome: Outcome, codes: &[u64], replies: &[u8], out: &mut [u8]) -> usize
-    ensures { λ r. ⌜ Reporting (reportOf outcome (now (codes .entry)) (now (replies .entry)) (length (now (out .entry)))) (now (out .entry)) r (now (out .exit)) ⌝ }
+// The text of a run, of one pack or of a tray, at the front of the room, and how many bytes it is: of as many of the lent answers as it has lines,
+// and of as many bytes of the lent replies. 0, and nothing is written, where the lines are more than five digits can number, or where the room
+// is less than such a text can take: 36 bytes, 17 for each line, 2 for each byte of the replies.
+pub fn report(ended: Ended, answers: &[u64], replies: &[u8], out: &mut [u8]) -> usize
+    ensures { λ r. ⌜ Reporting (endedText ended (now (answers .entry)) (now (replies .entry)) (length (now (out .entry)))) (now (out .entry)) r (now (out .exit)) ⌝ }
 {
-    if fits(codes.len(), replies.len(), out.len()) {
-        return put_coded(outcome, codes, replies, out);
+    let outcome = ended.outcome;
+    let lines = slices::lower(ended.lines, answers.len());
+    let replied = slices::lower(ended.replied, replies.len());
+    if fits(lines, replied, out.len()) {
+        return put_coded(outcome, &answers[..lines], &replies[..replied], out);
     }
     0
+}
+
+// Why a session was not run, in a line for standard error. Of one that was run nothing is said.
+pub fn put_unrun(outcome: Outcome, room: &mut [u8]) -> Said
+    requires { ⌜ 45 ≤ length (now room) ⌝ }
+    ensures { λ r. ⌜ Saying (unrunSpeech outcome) (now (room .entry)) r (now (room .exit)) ⌝ }
+{
+    match outcome {
+        Outcome::Done => {
+            let stream = Stream::Output;
+            Said {
+                stream: stream,
+                count: 0,
+            }
+        }
+        Outcome::Over => streams::put_refused(
+            runs::outcome_number(Outcome::Over),
+            b"the session is over 32,768 bytes",
+            room,
+        ),
+        Outcome::Short => streams::put_refused(
+            runs::outcome_number(Outcome::Short),
+            b"the room for the answers is too small",
+            room,
+        ),
+    }
 }

@@ -6,18 +6,13 @@ use lib.Dec.{ltb, leb}
 use lib.ListN.{length}
 use Rattle.numbers.specs.Choice.{pick, both}
 use Rattle.digits.specs.Ascii.{ascii}
-use Rattle.streams.specs.Streams.{Speech, output, error, unreadText, refusedText}
-use Rattle.record.specs.declared.Refusal.the-variants.{Order}
-use Rattle.record.specs.Record.{refusalNumber}
-use Rattle.gauge.specs.Image.{bytesOf}
-use Rattle.runs.specs.declared.Outcome.{Outcome}
-use Rattle.runs.specs.declared.Outcome.the-variants.{Done, Over, Short}
+use Rattle.streams.specs.Streams.{Speech, error, unreadText}
 use Rattle.runs.specs.Record.{recsOf}
-use Rattle.runs.specs.Run.{endAfter, outcomeOf, outcomeNumber}
+use Rattle.runs.specs.Run.{endAfter, outcomeOf}
 use Rattle.tray_record.specs.declared.Tray.{Tray}
 use Rattle.tray_record.specs.Tray.{emptyTray, packOf, trayDid}
 use Rattle.tray_run.specs.TrayRun.{slotHeld}
-use Rattle.text.specs.Text.{overWords, shortWords}
+use Rattle.text.specs.Text.{ranSpeech, packSpeech}
 
 -- ---- SLOT, in decimal digits
 
@@ -58,15 +53,13 @@ slotWords = ascii "no image was accepted for this slot"
 unfoldable pub lastOf : List ℕ → Tray
 lastOf s = endAfter trayDid emptyTray 65536 (recsOf s)
 
--- the image goes to standard output, a refusal to standard error: that of a session that was not run, or 5 for a slot without an image
-abbrev pub slotSpeech : Outcome → Tray → ℕ → Speech
-slotSpeech Done τ i = pick (slotHeld τ i) (output (bytesOf (packOf τ i))) (error (refusedText (refusalNumber Order) slotWords))
-slotSpeech Over τ i = error (refusedText (outcomeNumber Over) overWords)
-slotSpeech Short τ i = error (refusedText (outcomeNumber Short) shortWords)
+-- the image goes to standard output, 5 for a slot without an image to standard error
+abbrev pub slotSpeech : Tray → ℕ → Speech
+slotSpeech τ i = packSpeech (slotHeld τ i) (packOf τ i) slotWords
 
--- with an answer lent for each record that 32,768 bytes can hold
+-- and so does the refusal of a session that was not run, with an answer lent for each record that 32,768 bytes can hold
 unfoldable pub takenSpeech : ℕ → List ℕ → Speech
-takenSpeech i s = slotSpeech (outcomeOf (length s) 8192) (lastOf s) i
+takenSpeech i s = ranSpeech (outcomeOf (length s) 8192) (slotSpeech (lastOf s) i)
 
 -- of any word
 unfoldable pub wordSpeech : List ℕ → List ℕ → Speech

@@ -8,7 +8,6 @@ ghost use mathlib.Core.Path.{_≡_};
 ghost use mathlib.Core.List.{List};
 ghost use Prim.Native.Nat.{ℕ};
 ghost use lib.ListN.{length};
-ghost use Rattle.runs.specs.declared.Outcome.the-variants.{Done};
 ghost use Rattle.streams.specs.Streams.{Front, Saying, error};
 ghost use Rattle.tray_image.specs.TrayImage.{isNumber, slotOf, noNumberText, slotSpeech, takenSpeech, wordSpeech, extractedOf};
 
@@ -60,7 +59,7 @@ fn put_no_number(room: &mut [u8]) -> Said
 // The image of a slot of a session that was run to its end.
 fn put_image(tray: Tray, slot: u8, room: &mut [u8]) -> Said
     requires { ⌜ length (now room) ≡ 61 ⌝ }
-    ensures { λ r. ⌜ Saying (slotSpeech Done tray slot) (now (room .entry)) r (now (room .exit)) ⌝ }
+    ensures { λ r. ⌜ Saying (slotSpeech tray slot) (now (room .entry)) r (now (room .exit)) ⌝ }
 {
     let answer = tray_run::take_out(tray, slot, room);
     if answer == 0 {
@@ -81,20 +80,13 @@ fn put_taken(s: &[u8], slot: u8, room: &mut [u8]) -> Said
     let mut replies = [0u8; 65536];
     let mut answers = [0u64; 8192];
     let ran = tray_run::run(s, &mut replies, &mut answers);
-    let outcome = ran.outcome;
+    let ended = ran.ended;
+    let outcome = ended.outcome;
     let tray = ran.tray;
     match outcome {
         Outcome::Done => put_image(tray, slot, room),
-        Outcome::Over => streams::put_refused(
-            runs::outcome_number(Outcome::Over),
-            b"the session is over 32,768 bytes",
-            room,
-        ),
-        Outcome::Short => streams::put_refused(
-            runs::outcome_number(Outcome::Short),
-            b"the room for the answers is too small",
-            room,
-        ),
+        Outcome::Over => text::put_unrun(Outcome::Over, room),
+        Outcome::Short => text::put_unrun(Outcome::Short, room),
     }
 }
 

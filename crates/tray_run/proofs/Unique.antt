@@ -14,7 +14,7 @@ use Rattle.tray_run.proofs.take_out
 use Rattle.tray_run.proofs.image_size
 
 ran-of : Result Tray → Ran
-ran-of r = record { outcome = r .outcome; tray = r .state; lines = r .lines; replied = r .replied }
+ran-of r = record { tray = r .state; ended = record { outcome = r .outcome; lines = r .lines; replied = r .replied } }
 
 pub run-once : Once run.ended run.Reads.Pre run.Reads.Learnt
 unfolding ran-of

@@ -22,11 +22,11 @@ trayLines s room = linesAfter trayDid emptyTray room (recsOf s)
 
 -- what `run` hands back, as every run does
 abbrev pub trayResultOf : Ran → Result Tray
-trayResultOf r = record { outcome = r .outcome; state = r .tray; lines = r .lines; replied = r .replied }
+trayResultOf r = record { outcome = r .ended .outcome; state = r .tray; lines = r .ended .lines; replied = r .ended .replied }
 
 -- a tray session that is not run, as the code hands it back
 abbrev pub trayIdleOf : Outcome → Ran
-trayIdleOf o = record { outcome = o; tray = emptyTray; lines = 0; replied = 0 }
+trayIdleOf o = record { tray = emptyTray; ended = record { outcome = o; lines = 0; replied = 0 } }
 
 -- ---- the image taken out of a slot: 5 for a slot without an image, from 8 on too, then 9 for a room under 60, or under 61
 

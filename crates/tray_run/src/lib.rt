@@ -5,6 +5,7 @@ use record::Event;
 use record::Refusal;
 use record::Taken;
 use runs::Asked;
+use runs::Ended;
 use runs::Outcome;
 use state::Common;
 use state::Label;
@@ -21,12 +22,10 @@ ghost use Rattle.gauge.specs.Image.{imageOf, sizeFor};
 ghost use Rattle.tray_record.specs.Tray.{TrayWF, emptyTray, packOf, packJoined, trayDid};
 ghost use Rattle.tray_run.specs.TrayRun.{trayResultOf, trayIdleOf, SlotOut};
 
-// What a tray session did: the state at its end, how many lines it has, and how many bytes of reply.
+// What a tray session did: the state at its end, and how it ended.
 pub struct Ran {
-    pub outcome: Outcome,
     pub tray: Tray,
-    pub lines: usize,
-    pub replied: usize,
+    pub ended: Ended,
 }
 
 // A tray with the pack of an image more.
@@ -127,10 +126,12 @@ fn run_all(s: &[u8], room: &mut [u8], answers: &mut [u64]) -> Ran
         lines = lines + 1;
     }
     Ran {
-        outcome: Outcome::Done,
         tray: tray,
-        lines: lines,
-        replied: used,
+        ended: Ended {
+            outcome: Outcome::Done,
+            lines: lines,
+            replied: used,
+        },
     }
 }
 
@@ -140,10 +141,12 @@ fn idle(outcome: Outcome) -> Ran
 {
     let tray = tray_record::empty();
     Ran {
-        outcome: outcome,
         tray: tray,
-        lines: 0,
-        replied: 0,
+        ended: Ended {
+            outcome: outcome,
+            lines: 0,
+            replied: 0,
+        },
     }
 }
 

@@ -6,35 +6,61 @@ use denote.Ref.{now}
 use Rattle.runs.specs.declared.Outcome.the-variants.{Over, Short}
 use Rattle.runs.specs.SessionRecord.{didOf}
 use Rattle.session_run.specs.SessionRun.{emptyOf, resultOf}
-use Rattle.text.proofs.Ended.{Ended, ended}
-use Rattle.image.proofs.Laws.{done, idle}
+use Rattle.text.proofs.AtEnd.{AtEnd, at-end, done-said, idle-said}
+use Rattle.image.specs.Image.{lastOf, imageSpeech, takenSpeech}
 use borrow.Author.Needs.{needs}
 use Rattle.image.proofs.put_taken.Statement.{statement}
 use Rattle.image.proofs.put_taken.Tie as tie
 
-at-end : (c : tie.After-run) → Ended didOf emptyOf (now (c .before .before .before .before .before .args .s)) (resultOf (c .run .result))
-at-end c =
-    ended didOf emptyOf (now (c .before .before .before .before .before .args .s)) (resultOf (c .run .result)) (replicate 65536 0) (replicate 8192 0) (c .run .last .1 .0) (c .run .last .1 .1 .0)
-    (sym (length-replicate {A = ℕ} 8192 0)) (sym (length-replicate {A = ℕ} 65536 0)) (c .run .ensures)
+-- where the run is over, and where the session was lent for it
+abbrev over : tie.After-session → tie.After-answers2
+over c = c .before .before
+
+abbrev ran : tie.After-session → tie.After-run
+ran c = over c .before .before
+
+abbrev known : tie.After-session → tie.After-slice-known
+known c = ran c .before .before .before
+
+abbrev lent : tie.After-session → tie.Start
+lent c = known c .before .before
+
+-- what is known of its end
+ending : (c : tie.After-session) → AtEnd didOf emptyOf (now (lent c .args .s)) (resultOf (ran c .run .result))
+ending c =
+    let run = ran c .run in
+    at-end didOf emptyOf _ (resultOf (run .result)) (replicate 65536 0) (replicate 8192 0) (run .last .1 .0) (run .last .1 .1 .0)
+    (sym (length-replicate {A = ℕ} 8192 0)) (sym (length-replicate {A = ℕ} 65536 0)) (run .ensures)
 
 returns : tie.Need-returns
-returns c = done (at-end (c .before .before .before .before .before .before .before .before .before)) (c .before .before .before .before .enum-told .given .1) (c .before .before .put-image .ensures)
+unfolding takenSpeech lastOf
+returns c =
+    let said = c .before .before in
+    let told = said .before .before in
+    let end = told .before .before in
+    done-said didOf emptyOf imageSpeech _ (ending end) (told .enum-told .given .1) (said .put-image .ensures)
 
 returns-2 : tie.Need-returns-2
-returns-2 c = idle (at-end (c .before .before .before .before .before .before .before .before .before .before .before)) Over (c .before .before .before .before .before .before .enum-told2 .given .1) (rw (c .before .before .before .before .before .outcome-number .ensures) at (c .before .before .put-refused .ensures))
+unfolding takenSpeech lastOf
+returns-2 c =
+    let said = c .before .before in
+    let told = said .before .before in
+    let end = told .before .before in
+    idle-said didOf emptyOf imageSpeech _ (ending end) Over (told .enum-told2 .given .1) (said .put-unrun .ensures)
 
 returns-3 : tie.Need-returns-3
-returns-3 c = idle (at-end (c .before .before .before .before .before .before .before .before .before .before .before)) Short (c .before .before .before .before .before .before .enum-told3 .given .1) (rw (c .before .before .before .before .before .outcome-number2 .ensures) at (c .before .before .put-refused2 .ensures))
+unfolding takenSpeech lastOf
+returns-3 c =
+    let said = c .before .before in
+    let told = said .before .before in
+    let end = told .before .before in
+    idle-said didOf emptyOf imageSpeech _ (ending end) Short (told .enum-told3 .given .1) (said .put-unrun2 .ensures)
 
 pub put-taken-spec : {M : Type 1} → statement M
 put-taken-spec =
     tie.close
     (tie.spec
     (λ c. search needs)
-    (λ c. search needs)
-    (λ c κs. search needs)
-    (λ c. search needs)
-    (λ c κs. search needs)
     (λ c. search needs)
     (λ c κs. search needs)
     (λ c. search needs)

@@ -3,27 +3,61 @@ use mathlib.Core.Path.{sym, _∙_}
 use native.Mathlib.Omega.{arith}
 use lib.ListN.{length}
 use denote.Ref.{now}
-use Rattle.text.specs.Text.{Held, reportOf}
-use Rattle.text.proofs.Laws.{fits-room, reported}
+use Rattle.text.specs.Text.{Held}
+use Rattle.text.proofs.Laws.{fits-room, reported, Cut, cut, report-cut}
 use Rattle.digits.proofs.Laws.{none}
 use borrow.Author.Needs.{needs}
 use Rattle.text.proofs.report.Statement.{statement}
 use Rattle.text.proofs.report.Tie as tie
 
-fitting : (c : tie.Then1)
-    → Held (length (now (c .before .before .before .before .before .args .codes))) (length (now (c .before .before .before .before .before .args .replies))) (length (now (c .before .before .before .before .before .args .out)))
+-- where the function starts, and what was lent then
+abbrev known : tie.After-slice-known → tie.Start
+known c = c .before .before .before
+
+abbrev start : tie.After-fits2 → tie.Start
+start c = known (c .before .before .before)
+
+abbrev tested : tie.After-put-coded-arg3 → tie.Then1
+tested c = c .before .before .before
+
+-- the answers and the replies that are handed on
+codes : (c : tie.After-fits2) → Cut (start c .args .ended .lines) (now (start c .args .answers)) (c .before .before .lower .result)
+codes c = cut _ _ _ (c .before .before .lower .ensures)
+
+replies : (c : tie.After-fits2) → Cut (start c .args .ended .replied) (now (start c .args .replies)) (c .before .lower2 .result)
+replies c = cut _ _ _ (c .before .lower2 .ensures)
+
+fitting : (c : tie.Then1) → Held (c .before .before .before .lower .result) (c .before .before .lower2 .result) (length (now (start (c .before) .args .out)))
 fitting c = fits-room _ _ _ (sym (c .before .fits2 .ensures) ∙ c .if1 .taken)
 
 put-coded-requires : tie.Need-put-coded-requires
-put-coded-requires c κs = fitting (c .before)
+put-coded-requires c κs =
+    let t = tested c in
+    rw (codes (t .before) .count, replies (t .before) .count) (fitting t)
 
 returns : tie.Need-returns
-unfolding reportOf
-returns c = rw (sym (c .before .before .before .before .before .fits2 .ensures) ∙ c .before .before .before .before .if1 .taken) (reported (c .before .before .put-coded .ensures) (fitting (c .before .before .before .before) .fits))
+returns c =
+    let put = c .before .before in
+    let t = tested (put .before) in
+    let bound = fitting t .fits in
+    rw (report-cut _ (codes (t .before)) (replies (t .before)) _, sym (t .before .fits2 .ensures) ∙ t .if1 .taken)
+    (reported (put .put-coded .ensures) (rw (codes (t .before) .count, replies (t .before) .count) bound))
 
 returns-2 : tie.Need-returns-2
-unfolding reportOf
-returns-2 c = rw (sym (c .before .fits2 .ensures) ∙ c .if1 .left) (reported (none (now (c .before .before .before .before .before .args .out)) 0) (omega arith))
+returns-2 c =
+    rw (report-cut _ (codes (c .before)) (replies (c .before)) _, sym (c .before .fits2 .ensures) ∙ c .if1 .left)
+    (reported (none (now (start (c .before) .args .out)) 0) (omega arith))
 
 pub report-spec : {M : Type 1} → statement M
-report-spec = tie.close (tie.spec (λ c κs. search needs) put-coded-requires (λ c. search needs) returns returns-2)
+report-spec =
+    tie.close
+    (tie.spec
+    (λ c κs. search needs)
+    (λ c κs. search needs)
+    (λ c κs. search needs)
+    (λ c. sym (codes (c .before .before) .count))
+    (λ c. sym (replies (c .before .before .before) .count))
+    put-coded-requires
+    (λ c. search needs)
+    returns
+    returns-2)

@@ -15,11 +15,14 @@ returns c = (λ s front. rw (c .before .before .before .if1 .taken) (c .put-unre
 
 returns-2 : tie.Need-returns-2
 returns-2 c =
-    let args = c .before .before .before .before .before .before .before .before .args in
+    let counted = c .before .before .before .before in
+    let asked = counted .before .before in
+    let args = asked .before .before .args in
     let said = wordSpeech (now (args .word)) in
+    let over = overSpeech (now (args .word)) in
     let size : length (now (args .input)) ≡ 32769 = omega arith in
-    let read = ap said (cut (c .before .before .before .before .within .ensures)) in (
-      λ s front. rw (c .before .before .before .before .before .before .if1 .left, ← read ∙ seen said (overSpeech (now (args .word))) 32768 (alike (now (args .word))) size front) (c .put-asked .ensures),
+    let read = ap said (cut (counted .within .ensures)) in (
+      λ s front. rw (asked .if1 .left, ← read ∙ seen said over 32768 (alike (now (args .word))) size front) (c .put-asked .ensures),
       search needs,
     )
 

@@ -1,24 +1,49 @@
 -- `tray_image::put_image` meets its contract.
-use Rattle.tray_image.proofs.Laws.{handed, unaccepted}
+use denote.Ref.{now}
+use Rattle.text.proofs.TakenOut.{OutOf, handed, refused}
+use Rattle.tray_record.specs.Tray.{packOf}
+use Rattle.tray_run.specs.TrayRun.{slotHeld}
+use Rattle.tray_image.specs.TrayImage.{slotWords}
 use borrow.Author.Needs.{needs}
 use Rattle.tray_image.proofs.put_image.Statement.{statement}
 use Rattle.tray_image.proofs.put_image.Tie as tie
 
+-- where the image was taken out, and where the room was lent for it
+abbrev held : tie.Then1 → tie.After-take-out
+held c = c .before .before .before
+
+abbrev none : tie.Else1 → tie.After-take-out
+none c = c .before .before .before
+
+abbrev lent : tie.After-take-out → tie.Start
+lent c = c .before .before .before
+
+-- what was taken out
+out : (c : tie.After-take-out) → let a = lent c .args in
+    OutOf (slotHeld (a .tray) (a .slot)) (packOf (a .tray) (a .slot)) (now (a .room)) (c .take-out .result) (c .take-out .last .1 .1 .0)
+out c = record { number = c .take-out .ensures .number; written = c .take-out .ensures .written }
+
 returns : tie.Need-returns
 returns c =
-    let c1 = c .before in
-    let c4 = c1 .before .before .before in
-    let c7 = c4 .before .before .before in
-    handed (c4 .take-out .ensures) (c7 .pre) (c1 .if1 .taken) (c4 .take-out .kept .1 .1 .0) (c .image-size .ensures)
+    let x = held (c .before) in
+    handed (out x) (lent x .pre) slotWords (c .before .if1 .taken) (x .take-out .kept .1 .1 .0) (c .image-size .ensures)
 
 returns-2 : tie.Need-returns-2
 returns-2 c =
-    let c2 = c .before .before in
-    let c5 = c2 .before .before .before in
-    let c8 = c5 .before .before .before in
-    let c11 = c8 .before .before .before in
-    let none = unaccepted (c8 .take-out .ensures) (c11 .pre) (c5 .if1 .left) in
-    rw (none .empty) (rw (none .number, none .left) at (c2 .put-refused .ensures))
+    let said = c .before .before in
+    let other = said .before .before .before in
+    let x = none other in
+    refused (out x) (lent x .pre) slotWords (other .if1 .left) (said .put-refused .ensures)
 
 pub put-image-spec : {M : Type 1} → statement M
-put-image-spec = tie.close (tie.spec (λ c κs. search needs) (λ c κs. search needs) (λ c. search needs) returns (λ c. search needs) (λ c κs. search needs) (λ c. search needs) returns-2)
+put-image-spec =
+    tie.close
+    (tie.spec
+    (λ c κs. search needs)
+    (λ c κs. search needs)
+    (λ c. search needs)
+    returns
+    (λ c. search needs)
+    (λ c κs. search needs)
+    (λ c. search needs)
+    returns-2)

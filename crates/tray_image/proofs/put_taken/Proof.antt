@@ -3,38 +3,70 @@ use mathlib.Core.Path.{sym}
 use Prim.Native.Nat.{ℕ}
 use lib.ListN.{replicate, length-replicate}
 use denote.Ref.{now}
+use Rattle.streams.specs.Streams.{Speech}
 use Rattle.runs.specs.declared.Outcome.the-variants.{Over, Short}
+use Rattle.tray_record.specs.declared.Tray.{Tray}
 use Rattle.tray_record.specs.Tray.{emptyTray, trayDid}
 use Rattle.tray_run.specs.TrayRun.{trayResultOf}
-use Rattle.text.proofs.Ended.{Ended, ended}
-use Rattle.tray_image.proofs.Laws.{done, idle}
+use Rattle.text.proofs.AtEnd.{AtEnd, at-end, done-said, idle-said}
+use Rattle.tray_image.specs.TrayImage.{lastOf, slotSpeech, takenSpeech}
 use borrow.Author.Needs.{needs}
 use Rattle.tray_image.proofs.put_taken.Statement.{statement}
 use Rattle.tray_image.proofs.put_taken.Tie as tie
 
-at-end : (c : tie.After-run) → Ended trayDid emptyTray (now (c .before .before .before .before .before .args .s)) (trayResultOf (c .run .result))
-at-end c =
-    ended trayDid emptyTray (now (c .before .before .before .before .before .args .s)) (trayResultOf (c .run .result)) (replicate 65536 0) (replicate 8192 0) (c .run .last .1 .0) (c .run .last .1 .1 .0)
-    (sym (length-replicate {A = ℕ} 8192 0)) (sym (length-replicate {A = ℕ} 65536 0)) (c .run .ensures)
+-- where the run is over, and where the session was lent for it
+abbrev over : tie.After-tray → tie.After-answers2
+over c = c .before .before
+
+abbrev ran : tie.After-tray → tie.After-run
+ran c = over c .before .before
+
+abbrev known : tie.After-tray → tie.After-slice-known
+known c = ran c .before .before .before
+
+abbrev lent : tie.After-tray → tie.Start
+lent c = known c .before .before
+
+-- what is said of the tray
+abbrev saidOf : tie.After-tray → Tray → Speech
+saidOf c τ = slotSpeech τ (lent c .args .slot)
+
+-- what is known of its end
+ending : (c : tie.After-tray) → AtEnd trayDid emptyTray (now (lent c .args .s)) (trayResultOf (ran c .run .result))
+ending c =
+    let run = ran c .run in
+    at-end trayDid emptyTray _ (trayResultOf (run .result)) (replicate 65536 0) (replicate 8192 0) (run .last .1 .0) (run .last .1 .1 .0)
+    (sym (length-replicate {A = ℕ} 8192 0)) (sym (length-replicate {A = ℕ} 65536 0)) (run .ensures)
 
 returns : tie.Need-returns
-returns c = done (c .before .before .before .before .before .before .before .before .before .before .before .before .before .before .args .slot) (at-end (c .before .before .before .before .before .before .before .before .before)) (c .before .before .before .before .enum-told .given .1) (c .before .before .put-image .ensures)
+unfolding takenSpeech lastOf
+returns c =
+    let said = c .before .before in
+    let told = said .before .before in
+    let end = told .before .before in
+    done-said trayDid emptyTray (saidOf end) _ (ending end) (told .enum-told .given .1) (said .put-image .ensures)
 
 returns-2 : tie.Need-returns-2
-returns-2 c = idle (c .before .before .before .before .before .before .before .before .before .before .before .before .before .before .before .before .args .slot) (at-end (c .before .before .before .before .before .before .before .before .before .before .before)) Over (c .before .before .before .before .before .before .enum-told2 .given .1) (rw (c .before .before .before .before .before .outcome-number .ensures) at (c .before .before .put-refused .ensures))
+unfolding takenSpeech lastOf
+returns-2 c =
+    let said = c .before .before in
+    let told = said .before .before in
+    let end = told .before .before in
+    idle-said trayDid emptyTray (saidOf end) _ (ending end) Over (told .enum-told2 .given .1) (said .put-unrun .ensures)
 
 returns-3 : tie.Need-returns-3
-returns-3 c = idle (c .before .before .before .before .before .before .before .before .before .before .before .before .before .before .before .before .args .slot) (at-end (c .before .before .before .before .before .before .before .before .before .before .before)) Short (c .before .before .before .before .before .before .enum-told3 .given .1) (rw (c .before .before .before .before .before .outcome-number2 .ensures) at (c .before .before .put-refused2 .ensures))
+unfolding takenSpeech lastOf
+returns-3 c =
+    let said = c .before .before in
+    let told = said .before .before in
+    let end = told .before .before in
+    idle-said trayDid emptyTray (saidOf end) _ (ending end) Short (told .enum-told3 .given .1) (said .put-unrun2 .ensures)
 
 pub put-taken-spec : {M : Type 1} → statement M
 put-taken-spec =
     tie.close
     (tie.spec
     (λ c. search needs)
-    (λ c. search needs)
-    (λ c κs. search needs)
-    (λ c. search needs)
-    (λ c κs. search needs)
     (λ c. search needs)
     (λ c κs. search needs)
     (λ c. search needs)
