@@ -10,7 +10,7 @@ use Rattle.numbers.proofs.Bounds.{picked}
 use Rattle.slices.specs.Slices.{laidOf}
 use Rattle.state.specs.declared.Charge.{Charge}
 use Rattle.conversion.specs.Conversion.{countedOf, averagedOf, foundOf, settledOf, withCharge, withFlow, flowedOf, convertOf}
-use Rattle.reading.specs.Reading.{emptiedOf, seenOf, drainedOf, shownOf, readOf}
+use Rattle.reading.specs.Reading.{emptiedOf, seenOf, drainedOf, resultsShown, readOf}
 use Rattle.state.specs.declared.Meter.{Meter}
 use Rattle.state.specs.State.{noFlow, poweredOf}
 use Rattle.reading.proofs.Figures.{M, withByte, plus, powered, readAt, Figure, _is_, Hold}
@@ -116,7 +116,7 @@ offsetFigures =
     []
 
 pub offset-figures-hold : Hold offsetFigures
-unfolding laidOf reachesOf acrWrittenOf blockWrittenOf meterWrittenOf poweredOf countedOf averagedOf foundOf settledOf flowedOf convertOf emptiedOf seenOf drainedOf shownOf readOf
+unfolding laidOf reachesOf acrWrittenOf blockWrittenOf meterWrittenOf poweredOf countedOf averagedOf foundOf settledOf flowedOf convertOf emptiedOf seenOf drainedOf resultsShown readOf
 offset-figures-hold = (refl, (refl, (refl, (refl, (refl, (refl, (refl, (refl, (refl, (refl, (refl, (refl, tt))))))))))))
 
 -- ---- a write

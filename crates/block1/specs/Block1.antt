@@ -22,13 +22,13 @@ use Rattle.label.specs.Label.{inLabel, inBlock}
 -- ---- a meter with its cells replaced, and cells with a part replaced
 
 abbrev pub withCells : Meter → Cells → Meter
-withCells m cells = record { cells = cells; charge = m .charge; cycles = m .cycles; flow = m .flow; shown = m .shown }
+withCells meter cells = record { cells = cells; charge = meter .charge; cycles = meter .cycles; flow = meter .flow; shown = meter .shown }
 
 abbrev pub withBlock : Cells → Block → Cells
-withBlock c block = record { profile = c .profile; block = block; locks = c .locks; saved = c .saved }
+withBlock cells block = record { profile = cells .profile; block = block; locks = cells .locks; saved = cells .saved }
 
 abbrev pub withLocks : Cells → Locks → Cells
-withLocks c locks = record { profile = c .profile; block = c .block; locks = locks; saved = c .saved }
+withLocks cells locks = record { profile = cells .profile; block = cells .block; locks = locks; saved = cells .saved }
 
 -- ---- 6Ch: bytes written from the address a upward. A write runs upward and nothing wraps, so that it reaches each address at most once
 
@@ -49,10 +49,10 @@ porfWrittenOf porf a bytes = pick (reachesOf a bytes 0x01) (both porf (bitIn (by
 -- 10h is held within its transaction and 11h after it sets ACR, clears the fraction and LEARNF. 11h without 10h is dropped: a write that
 -- starts at 11h does not reach 10h. "a mark after an ACR write": the next conversion adds nothing
 unfoldable pub acrWrittenOf : Charge → ℕ → List ℕ → Charge
-acrWrittenOf g a bytes =
+acrWrittenOf charge a bytes =
     pick (both (reachesOf a bytes 0x10) (reachesOf a bytes 0x11))
-    (markedOf (setOf g (joinedOf (byteFor a bytes 0x10) (byteFor a bytes 0x11)) false))
-    g
+    (markedOf (setOf charge (joinedOf (byteFor a bytes 0x10) (byteFor a bytes 0x11)) false))
+    charge
 
 -- 1Fh takes bit 6 (LOCK) only
 unfoldable pub lockWrittenOf : Bool → ℕ → List ℕ → Bool
@@ -60,68 +60,68 @@ lockWrittenOf lock a bytes = pick (reachesOf a bytes 0x1f) (bitIn (byteFor a byt
 
 -- 1Eh: the cycle counter of a profile that has one is "writable only while block 1 is unlocked"; the rest stays
 unfoldable pub cyclesWrittenOf : Cycles → Cells → ℕ → List ℕ → Cycles
-cyclesWrittenOf y c a bytes =
-    pick (both (reachesOf a bytes 0x1e) (butNot (countsCycles (c .profile)) (c .locks .bl1)))
-    (record { count = byteFor a bytes 0x1e; rest = y .rest })
-    y
+cyclesWrittenOf cycles cells a bytes =
+    pick (both (reachesOf a bytes 0x1e) (butNot (countsCycles (cells .profile)) (cells .locks .bl1)))
+    (record { count = byteFor a bytes 0x1e; rest = cycles .rest })
+    cycles
 
 -- 60h..7Fh, unless locked
 unfoldable pub blockWrittenOf : Block → Bool → ℕ → List ℕ → Block
-blockWrittenOf b locked a bytes =
-    pick locked b (record { shadow = laidOf 0x60 0x80 (b .shadow) a bytes; eeprom = b .eeprom })
+blockWrittenOf block locked a bytes =
+    pick locked block (record { shadow = laidOf 0x60 0x80 (block .shadow) a bytes; eeprom = block .eeprom })
 
 abbrev pub cellsWrittenOf : Cells → ℕ → List ℕ → Cells
-cellsWrittenOf c a bytes = record {
-  profile = c .profile;
-  block = blockWrittenOf (c .block) (c .locks .bl1) a bytes;
-  locks = record { lock = lockWrittenOf (c .locks .lock) a bytes; bl1 = c .locks .bl1 };
-  saved = c .saved;
+cellsWrittenOf cells a bytes = record {
+  profile = cells .profile;
+  block = blockWrittenOf (cells .block) (cells .locks .bl1) a bytes;
+  locks = record { lock = lockWrittenOf (cells .locks .lock) a bytes; bl1 = cells .locks .bl1 };
+  saved = cells .saved;
 }
 
 abbrev pub flagsWrittenOf : Flags → ℕ → List ℕ → Flags
-flagsWrittenOf f a bytes = record { porf = porfWrittenOf (f .porf) a bytes; chgtf = f .chgtf; aef = f .aef; sef = f .sef }
+flagsWrittenOf flags a bytes = record { porf = porfWrittenOf (flags .porf) a bytes; chgtf = flags .chgtf; aef = flags .aef; sef = flags .sef }
 
 -- all else is dropped, a byte at 14h too: no host sets AS
 unfoldable pub meterWrittenOf : Meter → ℕ → List ℕ → Meter
-meterWrittenOf m a bytes = record {
-  cells = cellsWrittenOf (m .cells) a bytes;
-  charge = acrWrittenOf (m .charge) a bytes;
-  cycles = cyclesWrittenOf (m .cycles) (m .cells) a bytes;
-  flow = m .flow;
-  shown = withFlags (m .shown) (flagsWrittenOf (m .shown .flags) a bytes);
+meterWrittenOf meter a bytes = record {
+  cells = cellsWrittenOf (meter .cells) a bytes;
+  charge = acrWrittenOf (meter .charge) a bytes;
+  cycles = cyclesWrittenOf (meter .cycles) (meter .cells) a bytes;
+  flow = meter .flow;
+  shown = withFlags (meter .shown) (flagsWrittenOf (meter .shown .flags) a bytes);
 }
 
 -- ---- 48h and B8h at the address a
 
 -- shadow to EEPROM if it is block 1's, unless locked
 unfoldable pub blockCopiedOf : Block → Bool → ℕ → Block
-blockCopiedOf b locked a = pick (butNot (inBlock a) locked) (record { shadow = b .shadow; eeprom = b .shadow }) b
+blockCopiedOf block locked a = pick (butNot (inBlock a) locked) (record { shadow = block .shadow; eeprom = block .shadow }) block
 
 -- EEPROM to shadow if it is block 1's, locked or not
 unfoldable pub blockRecalledOf : Block → ℕ → Block
-blockRecalledOf b a = pick (inBlock a) (record { shadow = b .eeprom; eeprom = b .eeprom }) b
+blockRecalledOf block a = pick (inBlock a) (record { shadow = block .eeprom; eeprom = block .eeprom }) block
 
 -- a meter with another block 1
 abbrev pub reblockedOf : Meter → Block → Meter
-reblockedOf m block = withCells m (withBlock (m .cells) block)
+reblockedOf meter block = withCells meter (withBlock (meter .cells) block)
 
 unfoldable pub meterCopiedOf : Meter → ℕ → Meter
-meterCopiedOf m a = reblockedOf m (blockCopiedOf (m .cells .block) (m .cells .locks .bl1) a)
+meterCopiedOf meter a = reblockedOf meter (blockCopiedOf (meter .cells .block) (meter .cells .locks .bl1) a)
 
 unfoldable pub meterRecalledOf : Meter → ℕ → Meter
-meterRecalledOf m a = reblockedOf m (blockRecalledOf (m .cells .block) a)
+meterRecalledOf meter a = reblockedOf meter (blockRecalledOf (meter .cells .block) a)
 
 -- ---- 6Ah at the address a: if LOCK is 1, the block's lock bit is set and LOCK cleared
 
 -- LOCK is the meter's, for block 0 too; the lock bit of block 0 is not
 abbrev pub locksLockedOf : Locks → ℕ → Locks
-locksLockedOf l a = record {
-  lock = butNot (l .lock) (either (inLabel a) (inBlock a));
-  bl1 = either (l .bl1) (both (l .lock) (inBlock a));
+locksLockedOf locks a = record {
+  lock = butNot (locks .lock) (either (inLabel a) (inBlock a));
+  bl1 = either (locks .bl1) (both (locks .lock) (inBlock a));
 }
 
 unfoldable pub meterLockedOf : Meter → ℕ → Meter
-meterLockedOf m a = withCells m (withLocks (m .cells) (locksLockedOf (m .cells .locks) a))
+meterLockedOf meter a = withCells meter (withLocks (meter .cells) (locksLockedOf (meter .cells .locks) a))
 
 -- ---- the size of block 1
 

@@ -41,18 +41,18 @@ fn porf_written(porf: bool, a: usize, bytes: &[u8]) -> bool
 }
 
 // 10h and 11h.
-fn acr_written(mut g: Charge, a: usize, bytes: &[u8]) -> Charge
+fn acr_written(mut charge: Charge, a: usize, bytes: &[u8]) -> Charge
     requires { ⌜ a < 256 ⌝ }
-    requires { ⌜ ChargeWF g ⌝ }
-    ensures { λ r. ⌜ r ≡ acrWrittenOf g a (now (bytes .entry)) ⌝ }
+    requires { ⌜ ChargeWF charge ⌝ }
+    ensures { λ r. ⌜ r ≡ acrWrittenOf charge a (now (bytes .entry)) ⌝ }
     ensures kept { λ r. ⌜ ChargeWF r ⌝ }
 {
     if numbers::and(reaches(a, bytes, 0x10), reaches(a, bytes, 0x11)) {
         let acr = numbers::joined(byte_for(a, bytes, 0x10), byte_for(a, bytes, 0x11));
-        g.mark = true;
-        return conversion::set(g, acr, false);
+        charge.mark = true;
+        return conversion::set(charge, acr, false);
     }
-    g
+    charge
 }
 
 // 1Fh.
@@ -66,134 +66,137 @@ fn lock_written(lock: bool, a: usize, bytes: &[u8]) -> bool
     lock
 }
 
-// 1Eh: c says of which profile it is, and whether block 1 is locked.
-fn cycles_written(mut y: Cycles, c: Cells, a: usize, bytes: &[u8]) -> Cycles
+// 1Eh: the cells say of which profile it is, and whether block 1 is locked.
+fn cycles_written(mut cycles: Cycles, cells: Cells, a: usize, bytes: &[u8]) -> Cycles
     requires { ⌜ a < 256 ⌝ }
-    ensures { λ r. ⌜ r ≡ cyclesWrittenOf y c a (now (bytes .entry)) ⌝ }
+    ensures { λ r. ⌜ r ≡ cyclesWrittenOf cycles cells a (now (bytes .entry)) ⌝ }
 {
     if reaches(a, bytes, 0x1e) {
-        let f = c.profile;
-        if numbers::and_not(state::counts(f), c.locks.bl1) {
+        let profile = cells.profile;
+        if numbers::and_not(state::counts_cycles(profile), cells.locks.bl1) {
             let count = byte_for(a, bytes, 0x1e);
-            y.count = count;
+            cycles.count = count;
         }
     }
-    y
+    cycles
 }
 
 // 60h to 7Fh, where the bytes end above 60h.
-fn block_written(mut b: Block, locked: bool, a: usize, bytes: &[u8]) -> Block
+fn block_written(mut block: Block, locked: bool, a: usize, bytes: &[u8]) -> Block
     requires { ⌜ a < 256 ⌝ }
-    ensures { λ r. ⌜ r ≡ blockWrittenOf b locked a (now (bytes .entry)) ⌝ }
+    ensures { λ r. ⌜ r ≡ blockWrittenOf block locked a (now (bytes .entry)) ⌝ }
 {
     if 0x60 < a + bytes.len() {
         if !locked {
-            let mut shadow = b.shadow;
+            let mut shadow = block.shadow;
             slices::laid(&mut shadow, 0x60, a, bytes);
-            b.shadow = shadow;
+            block.shadow = shadow;
         }
     }
-    b
+    block
 }
 
-fn cells_written(mut c: Cells, a: usize, bytes: &[u8]) -> Cells
+fn cells_written(mut cells: Cells, a: usize, bytes: &[u8]) -> Cells
     requires { ⌜ a < 256 ⌝ }
-    ensures { λ r. ⌜ r ≡ cellsWrittenOf c a (now (bytes .entry)) ⌝ }
+    ensures { λ r. ⌜ r ≡ cellsWrittenOf cells a (now (bytes .entry)) ⌝ }
 {
-    let block = block_written(c.block, c.locks.bl1, a, bytes);
-    let lock = lock_written(c.locks.lock, a, bytes);
-    c.block = block;
-    c.locks.lock = lock;
-    c
+    let block = block_written(cells.block, cells.locks.bl1, a, bytes);
+    let lock = lock_written(cells.locks.lock, a, bytes);
+    cells.block = block;
+    cells.locks.lock = lock;
+    cells
 }
 
-pub fn meter_written(mut m: Meter, a: usize, bytes: &[u8]) -> Meter
-    requires { ⌜ MeterWF m ⌝ }
+pub fn meter_written(mut meter: Meter, a: usize, bytes: &[u8]) -> Meter
+    requires { ⌜ MeterWF meter ⌝ }
     requires { ⌜ a < 256 ⌝ }
-    ensures { λ r. ⌜ r ≡ meterWrittenOf m a (now (bytes .entry)) ⌝ }
+    ensures { λ r. ⌜ r ≡ meterWrittenOf meter a (now (bytes .entry)) ⌝ }
     ensures kept { λ r. ⌜ MeterWF r ⌝ }
 {
-    let cells = cells_written(m.cells, a, bytes);
-    m.cells = cells;
+    let cells = cells_written(meter.cells, a, bytes);
+    meter.cells = cells;
     if a < 0x20 {
-        m.cycles = cycles_written(m.cycles, cells, a, bytes);
-        let charge = acr_written(m.charge, a, bytes);
-        let porf = porf_written(m.shown.flags.porf, a, bytes);
-        m.charge = charge;
-        m.shown.flags.porf = porf;
+        meter.cycles = cycles_written(meter.cycles, cells, a, bytes);
+        let charge = acr_written(meter.charge, a, bytes);
+        let porf = porf_written(meter.shown.flags.porf, a, bytes);
+        meter.charge = charge;
+        meter.shown.flags.porf = porf;
     }
-    m
+    meter
 }
 
 // ---- 48h and B8h at the address a
 
-fn block_copied(mut b: Block, locked: bool, a: usize) -> Block
-    ensures { λ r. ⌜ r ≡ blockCopiedOf b locked a ⌝ }
+fn block_copied(mut block: Block, locked: bool, a: usize) -> Block
+    ensures { λ r. ⌜ r ≡ blockCopiedOf block locked a ⌝ }
 {
     if numbers::and_not(label::in_block(a), locked) {
-        let shadow = b.shadow;
-        b.eeprom = shadow;
+        let shadow = block.shadow;
+        block.eeprom = shadow;
     }
-    b
+    block
 }
 
-fn block_recalled(mut b: Block, a: usize) -> Block
-    ensures { λ r. ⌜ r ≡ blockRecalledOf b a ⌝ }
+fn block_recalled(mut block: Block, a: usize) -> Block
+    ensures { λ r. ⌜ r ≡ blockRecalledOf block a ⌝ }
 {
     if label::in_block(a) {
-        let eeprom = b.eeprom;
-        b.shadow = eeprom;
+        let eeprom = block.eeprom;
+        block.shadow = eeprom;
     }
-    b
+    block
 }
 
 // A meter with another block 1.
-fn reblocked(mut m: Meter, block: Block) -> Meter
-    requires { ⌜ MeterWF m ⌝ }
-    ensures { λ r. ⌜ r ≡ reblockedOf m block ⌝ }
+fn reblocked(mut meter: Meter, block: Block) -> Meter
+    requires { ⌜ MeterWF meter ⌝ }
+    ensures { λ r. ⌜ r ≡ reblockedOf meter block ⌝ }
     ensures kept { λ r. ⌜ MeterWF r ⌝ }
 {
-    let mut cells = m.cells;
+    let mut cells = meter.cells;
     cells.block = block;
-    m.cells = cells;
-    m
+    meter.cells = cells;
+    meter
 }
 
-pub fn meter_copied(m: Meter, a: usize) -> Meter
-    requires { ⌜ MeterWF m ⌝ }
-    ensures { λ r. ⌜ r ≡ meterCopiedOf m a ⌝ }
+pub fn meter_copied(meter: Meter, a: usize) -> Meter
+    requires { ⌜ MeterWF meter ⌝ }
+    ensures { λ r. ⌜ r ≡ meterCopiedOf meter a ⌝ }
     ensures kept { λ r. ⌜ MeterWF r ⌝ }
 {
-    reblocked(m, block_copied(m.cells.block, m.cells.locks.bl1, a))
+    reblocked(
+        meter,
+        block_copied(meter.cells.block, meter.cells.locks.bl1, a),
+    )
 }
 
-pub fn meter_recalled(m: Meter, a: usize) -> Meter
-    requires { ⌜ MeterWF m ⌝ }
-    ensures { λ r. ⌜ r ≡ meterRecalledOf m a ⌝ }
+pub fn meter_recalled(meter: Meter, a: usize) -> Meter
+    requires { ⌜ MeterWF meter ⌝ }
+    ensures { λ r. ⌜ r ≡ meterRecalledOf meter a ⌝ }
     ensures kept { λ r. ⌜ MeterWF r ⌝ }
 {
-    reblocked(m, block_recalled(m.cells.block, a))
+    reblocked(meter, block_recalled(meter.cells.block, a))
 }
 
 // ---- 6Ah at the address a
 
-fn locks_locked(l: Locks, a: usize) -> Locks
-    ensures { λ r. ⌜ r ≡ locksLockedOf l a ⌝ }
+fn locks_locked(locks: Locks, a: usize) -> Locks
+    ensures { λ r. ⌜ r ≡ locksLockedOf locks a ⌝ }
 {
     let one = label::in_block(a);
     Locks {
-        lock: numbers::and_not(l.lock, numbers::or(label::in_label(a), one)),
-        bl1: numbers::or(l.bl1, numbers::and(l.lock, one)),
+        lock: numbers::and_not(locks.lock, numbers::or(label::in_label(a), one)),
+        bl1: numbers::or(locks.bl1, numbers::and(locks.lock, one)),
     }
 }
 
-pub fn meter_locked(mut m: Meter, a: usize) -> Meter
-    requires { ⌜ MeterWF m ⌝ }
-    ensures { λ r. ⌜ r ≡ meterLockedOf m a ⌝ }
+pub fn meter_locked(mut meter: Meter, a: usize) -> Meter
+    requires { ⌜ MeterWF meter ⌝ }
+    ensures { λ r. ⌜ r ≡ meterLockedOf meter a ⌝ }
     ensures kept { λ r. ⌜ MeterWF r ⌝ }
 {
-    let locks = locks_locked(m.cells.locks, a);
-    m.cells.locks.lock = locks.lock;
-    m.cells.locks.bl1 = locks.bl1;
-    m
+    let locks = locks_locked(meter.cells.locks, a);
+    meter.cells.locks.lock = locks.lock;
+    meter.cells.locks.bl1 = locks.bl1;
+    meter
 }

@@ -137,18 +137,18 @@ fn wide8(x: u8) -> u64
 }
 
 // Eight bytes as one number, the low byte first: the compiler makes one load of it, where a loop over the bytes stays a loop.
-fn number8(s: &[u8]) -> u64
-    requires { ⌜ length (now s) ≡ 8 ⌝ }
-    ensures { λ r. ⌜ AsNumber (now (s .entry)) r ⌝ }
+fn number8(bytes: &[u8]) -> u64
+    requires { ⌜ length (now bytes) ≡ 8 ⌝ }
+    ensures { λ r. ⌜ AsNumber (now (bytes .entry)) r ⌝ }
 {
-    wide8(s[0])
-        + 0x100 * wide8(s[1])
-        + 0x10000 * wide8(s[2])
-        + 0x1000000 * wide8(s[3])
-        + 0x100000000 * wide8(s[4])
-        + 0x10000000000 * wide8(s[5])
-        + 0x1000000000000 * wide8(s[6])
-        + 0x100000000000000 * wide8(s[7])
+    wide8(bytes[0])
+        + 0x100 * wide8(bytes[1])
+        + 0x10000 * wide8(bytes[2])
+        + 0x1000000 * wide8(bytes[3])
+        + 0x100000000 * wide8(bytes[4])
+        + 0x10000000000 * wide8(bytes[5])
+        + 0x1000000000000 * wide8(bytes[6])
+        + 0x100000000000000 * wide8(bytes[7])
 }
 
 // Whether the 8 bytes after the first are the own address.

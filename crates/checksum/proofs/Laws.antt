@@ -12,7 +12,7 @@ use lib.Seq.{take-at, drop-cons, drop-drop, drop-length}
 use Rattle.numbers.proofs.Bounds.{both-true}
 use Rattle.crc.specs.Crc.{crcOf}
 use Rattle.slices.specs.Slices.{part}
-use Rattle.checksum.specs.Sums.{sumOf, cutText, thereOf, sumsFrom, sumsText, checkedText, Summed}
+use Rattle.checksum.specs.Sums.{crcLine, cutText, thereOf, sumsFrom, sumsText, checkedText, Summed}
 
 -- a message that is there whole has its bytes
 pub there-left : (n left : ℕ) → thereOf n left ≡ true → n ≤ left
@@ -33,7 +33,7 @@ opened s at n h is = rw (add-one, drop-cons s at 0, is)
 
 module _ {s : List ℕ} {at n : ℕ} (h : at < length s) (is : n ≡ getD s at 0) where
   pub whole-answer : {c : ℕ} {line : List ℕ} → thereOf n (length s - (at + 1)) ≡ true
-      → c ≡ crcOf (part (at + 1 + n - (at + 1)) s (at + 1)) → line ≡ sumOf c → Summed s at line (at + 1 + n)
+      → c ≡ crcOf (part (at + 1 + n - (at + 1)) s (at + 1)) → line ≡ crcLine c → Summed s at line (at + 1 + n)
   whole-answer w e l =
       let k : at + 1 + n - (at + 1) ≡ n = omega arith in
       record {

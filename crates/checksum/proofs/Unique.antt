@@ -6,15 +6,15 @@ use Rattle.once.specs.Once.{Once}
 use Rattle.streams.proofs.Laws.{own, same-said, same-room}
 use Rattle.checksum.specs.Sums.{sumsText}
 use Rattle.checksum.proofs.Laws.{front-line}
-use Rattle.checksum.proofs.sum
+use Rattle.checksum.proofs.crc_line
 use Rattle.checksum.proofs.there
 use Rattle.checksum.proofs.message_at
 use Rattle.checksum.proofs.put_sums
 use Rattle.checksum.proofs.put_checked
 use Rattle.checksum.proofs.summed
 
-pub sum-once : Once sum.ended sum.Reads.Pre sum.Reads.Learnt
-sum-once κs a r r′ w w′ p h h′ = (h ∙ sym h′, refl)
+pub crc-line-once : Once «crc_line».ended «crc_line».Reads.Pre «crc_line».Reads.Learnt
+crc-line-once κs a r r′ w w′ p h h′ = (h ∙ sym h′, refl)
 
 pub there-once : Once there.ended there.Reads.Pre there.Reads.Learnt
 there-once κs a r r′ w w′ p h h′ = (h ∙ sym h′, refl)

@@ -15,8 +15,8 @@ abbrev pub checksumName : List ℕ
 checksumName = ascii "checksum"
 
 -- the line of a CRC: two hex digits and a line feed
-abbrev pub sumOf : ℕ → List ℕ
-sumOf c = pairText lower c ++ ascii "\n"
+abbrev pub crcLine : ℕ → List ℕ
+crcLine c = pairText lower c ++ ascii "\n"
 
 -- the line of a message that is not there whole, after which nothing is read, and of a longer input
 abbrev pub cutText : List ℕ
@@ -30,7 +30,7 @@ thereOf n left = both (leb n 64) (leb n left)
 abbrev pub sumsFrom : ℕ → List ℕ → List ℕ
 sumsFrom k [] = []
 sumsFrom (suc k) (x ∷ s) = sumsFrom k s
-sumsFrom zero (n ∷ s) = pick (thereOf n (length s)) (sumOf (crcOf (take n s)) ++ sumsFrom n s) cutText
+sumsFrom zero (n ∷ s) = pick (thereOf n (length s)) (crcLine (crcOf (take n s)) ++ sumsFrom n s) cutText
 
 abbrev pub sumsText : List ℕ → List ℕ
 sumsText s = sumsFrom 0 s
@@ -46,12 +46,12 @@ summedOf failed s = pick failed (error (unreadText checksumName)) (output (check
 -- ---- what the code promises of one message
 
 -- where the next message starts: at the end where this one is not there whole
-abbrev pub endOf : List ℕ → ℕ → ℕ
-endOf s at = pick (thereOf (getD s at 0) (length s - (at + 1))) (at + 1 + getD s at 0) (length s)
+abbrev pub nextMessage : List ℕ → ℕ → ℕ
+nextMessage s at = pick (thereOf (getD s at 0) (length s - (at + 1))) (at + 1 + getD s at 0) (length s)
 
 -- the lines from the index at on are this line, and then the lines from the index next on. The last two fields follow, and are said for the loop
 pub record Summed (s : List ℕ) (at : ℕ) (line : List ℕ) (next : ℕ) : Type 0 where
-  pub goes : next ≡ endOf s at
+  pub goes : next ≡ nextMessage s at
   pub lines : sumsText (drop at s) ≡ line ++ sumsText (drop next s)
   pub three : length line ≡ 3
   pub onward : at < next

@@ -8,7 +8,7 @@ ghost use Prim.Native.Nat.{ℕ, _*_, _<_, _≤_};
 ghost use lib.ListN.{length};
 ghost use Rattle.digits.specs.Digits.{Writing};
 ghost use Rattle.streams.specs.Streams.{Front, Saying};
-ghost use Rattle.checksum.specs.Sums.{sumOf, thereOf, sumsText, checkedText, summedOf, Summed};
+ghost use Rattle.checksum.specs.Sums.{crcLine, thereOf, sumsText, checkedText, summedOf, Summed};
 
 // A line of the answer, and where the next message starts: at the end where this one is not there whole.
 struct Message {
@@ -16,8 +16,8 @@ struct Message {
     next: usize,
 }
 
-fn sum(c: u8) -> [u8; 3]
-    ensures { λ r. ⌜ r ≡ sumOf c ⌝ }
+fn crc_line(c: u8) -> [u8; 3]
+    ensures { λ r. ⌜ r ≡ crcLine c ⌝ }
 {
     [digits::hex(c / 16), digits::hex(c % 16), b'\n']
 }
@@ -30,50 +30,53 @@ fn there(n: usize, left: usize) -> bool
 }
 
 // The message that starts at the index at.
-fn message_at(s: &[u8], at: usize) -> Message
-    requires { ⌜ at < length (now s) ⌝ }
-    ensures { λ r. ⌜ Summed (now (s .entry)) at (r .line) (r .next) ⌝ }
+fn message_at(bytes: &[u8], at: usize) -> Message
+    requires { ⌜ at < length (now bytes) ⌝ }
+    ensures { λ r. ⌜ Summed (now (bytes .entry)) at (r .line) (r .next) ⌝ }
 {
-    let n = slices::wide(s[at]);
+    let n = slices::wide(bytes[at]);
     let from = at + 1;
-    if there(n, s.len() - from) {
+    if there(n, bytes.len() - from) {
         let end = from + n;
-        let l = sum(crc::crc(&s[from..end]));
-        Message { line: l, next: end }
+        let line = crc_line(crc::crc(&bytes[from..end]));
+        Message {
+            line: line,
+            next: end,
+        }
     } else {
         Message {
             line: [b'-', b'-', b'\n'],
-            next: s.len(),
+            next: bytes.len(),
         }
     }
 }
 
 // The lines of all messages: each byte is worth at most one line of three bytes.
-fn put_sums(s: &[u8], out: &mut [u8]) -> usize
-    requires { ⌜ 3 * length (now s) ≤ length (now out) ⌝ }
-    ensures { λ r. ⌜ Writing (3 * length (now (s .entry))) (sumsText (now (s .entry))) (now (out .entry)) 0 r (now (out .exit)) ⌝ }
+fn put_sums(bytes: &[u8], out: &mut [u8]) -> usize
+    requires { ⌜ 3 * length (now bytes) ≤ length (now out) ⌝ }
+    ensures { λ r. ⌜ Writing (3 * length (now (bytes .entry))) (sumsText (now (bytes .entry))) (now (out .entry)) 0 r (now (out .exit)) ⌝ }
 {
     let mut at = 0;
     let mut used = 0;
-    while at < s.len() {
-        let r = message_at(s, at);
-        let l = r.line;
-        slices::store(&l, out, used);
+    while at < bytes.len() {
+        let message = message_at(bytes, at);
+        let line = message.line;
+        slices::store(&line, out, used);
         used += 3;
-        at = r.next;
+        at = message.next;
     }
     used
 }
 
 // Longer input than 65,536 bytes is answered by `--` alone.
-fn put_checked(s: &[u8], out: &mut [u8]) -> usize
+fn put_checked(bytes: &[u8], out: &mut [u8]) -> usize
     requires { ⌜ 196608 ≤ length (now out) ⌝ }
-    ensures { λ r. ⌜ Writing 196608 (checkedText (now (s .entry))) (now (out .entry)) 0 r (now (out .exit)) ⌝ }
+    ensures { λ r. ⌜ Writing 196608 (checkedText (now (bytes .entry))) (now (out .entry)) 0 r (now (out .exit)) ⌝ }
 {
-    if 65536 < s.len() {
+    if 65536 < bytes.len() {
         return digits::put_bytes(b"--\n", out, 0);
     }
-    put_sums(s, out)
+    put_sums(bytes, out)
 }
 
 // What the program says. A byte more than may be there is enough to know of any input. (That the room keeps its length is said for `main`.)

@@ -11,7 +11,7 @@ use Rattle.numbers.proofs.Bounds.{times, picked, both-true}
 use Rattle.numbers.proofs.Offset.{order}
 use Rattle.params.specs.declared.Counting.{Counting}
 use Rattle.state.specs.declared.Profile.{Profile}
-use Rattle.state.specs.State.{edgeOf, ChargeWF, acrOf}
+use Rattle.state.specs.State.{blankingEdgeOf, ChargeWF, acrOf}
 use Rattle.state.specs.declared.Charge.{Charge}
 use Rattle.conversion.specs.declared.Age.{Age}
 use Rattle.conversion.specs.Conversion.{setOf, withAs, markedOf, turnedOf, learningOf, blankedOf, grownOf, addedOf, fallOf, agedOf, newCount, newAge, countedOf, agedFullOf, shareOf, shareUpOf}
@@ -155,7 +155,7 @@ module _ (edge c : ℕ) (near : edge ≤ 17) where
       order c (zeroAt 15) _ (below nben)
       (λ h. order (zeroAt 15) c _ (above nben) (λ k. either-way (within nben) (omega arith) ∙ sym (either-way (blank nben) (omega arith))))
 
-edge-near : (f : Profile) → edgeOf f ≤ 17
+edge-near : (f : Profile) → blankingEdgeOf f ≤ 17
 edge-near Profile.Ds2781 = omega arith
 edge-near Profile.Ds2775 = omega arith
 
@@ -165,13 +165,13 @@ always false = refl
 
 module _ (f : Profile) (nben : Bool) (c : ℕ) where
   abbrev lowest : ℕ
-  lowest = pick nben (zeroAt 15 + 1 - edgeOf f) (zeroAt 15)
+  lowest = pick nben (zeroAt 15 + 1 - blankingEdgeOf f) (zeroAt 15)
 
   abbrev slight : Bool
   slight = both (leb (zeroAt 15 - 16) c) (ltb c (zeroAt 15 + 64))
 
   blanked-in-range : pick (both (leb lowest c) (ltb c (zeroAt 15 + 64))) (zeroAt 15) c ≡ blankedOf f nben c
-  blanked-in-range = in-range (edgeOf f) c (edge-near f) nben
+  blanked-in-range = in-range (blankingEdgeOf f) c (edge-near f) nben
 
   pub blanked-slight : slight ≡ true → pick (leb lowest c) (zeroAt 15) c ≡ blankedOf f nben c
   blanked-slight e =

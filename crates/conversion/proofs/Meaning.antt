@@ -19,7 +19,7 @@ use Rattle.params.specs.Params.{byteAt, signedAt}
 use Rattle.state.specs.declared.Charge.{Charge}
 use Rattle.state.specs.declared.Profile.{Profile}
 use Rattle.state.specs.declared.Profile.the-variants.{Ds2781, Ds2775}
-use Rattle.state.specs.State.{edgeOf, acrOf, runOf}
+use Rattle.state.specs.State.{blankingEdgeOf, acrOf, runOf}
 use Rattle.conversion.specs.Conversion.{currentOf, negative, turnedOf, blankedOf, grownOf, newCount, fallOf, nextMade, averagedOf, tapersOf, currentZ, negativeZ, turnedZ, slightZ, blankedZ, grownZ, addedZ, fallZ, sumZ, meanZ, tapersZ, averagedOver}
 use Rattle.state.specs.declared.Average.{Average}
 
@@ -65,14 +65,14 @@ negative-means c = offset.below-zero 15 c
 pub turned-means : (last c : ℕ) → turnedOf last c ≡ turnedZ (value 15 last) (value 15 c)
 turned-means last c = λ i. both (negative-means c i) (not (negative-means last i))
 
-slight-means : (f : Profile) (c : ℕ) → both (ltb (zeroAt 15 - edgeOf f) c) (ltb c (zeroAt 15)) ≡ slightZ f (value 15 c)
+slight-means : (f : Profile) (c : ℕ) → both (ltb (zeroAt 15 - blankingEdgeOf f) c) (ltb c (zeroAt 15)) ≡ slightZ f (value 15 c)
 slight-means Ds2781 c = λ i. both (compared 15 (zeroAt 15 - 16) c i) (compared 15 c (zeroAt 15) i)
 slight-means Ds2775 c = λ i. both (at-most 15 (zeroAt 15 - 16) c i) (compared 15 c (zeroAt 15) i)
 
 pub blanked-means : (f : Profile) (nben : Bool) (c : ℕ) → value 15 (blankedOf f nben c) ≡ blankedZ f nben (value 15 c)
 blanked-means f nben c =
     let small = both (ltb (zeroAt 15) c) (ltb c (zeroAt 15 + 64)) in
-    let slight = both nben (both (ltb (zeroAt 15 - edgeOf f) c) (ltb c (zeroAt 15))) in
+    let slight = both nben (both (ltb (zeroAt 15 - blankingEdgeOf f) c) (ltb c (zeroAt 15))) in
     through (value 15) (either small slight) (zeroAt 15) c ∙
     (λ i. pick
     (either (both (compared 15 (zeroAt 15) c i) (compared 15 c (zeroAt 15 + 64) i)) (both nben (slight-means f c i))) (pos 0) (value 15 c))

@@ -22,23 +22,23 @@ use Rattle.state.specs.declared.Flags.{Flags}
 use Rattle.state.specs.declared.Flow.{Flow}
 use Rattle.state.specs.declared.Shown.{Shown}
 use Rattle.state.specs.declared.Meter.{Meter}
-use Rattle.state.specs.State.{acrOf, runOf, edgeOf, countsCycles}
+use Rattle.state.specs.State.{acrOf, runOf, blankingEdgeOf, countsCycles}
 use Rattle.conversion.specs.declared.Age.{Age}
 use Rattle.conversion.specs.declared.Stepped.{Stepped}
 
 -- ---- a meter with one of its parts replaced
 
 abbrev pub withCharge : Meter → Charge → Meter
-withCharge m charge = record { cells = m .cells; charge = charge; cycles = m .cycles; flow = m .flow; shown = m .shown }
+withCharge meter charge = record { cells = meter .cells; charge = charge; cycles = meter .cycles; flow = meter .flow; shown = meter .shown }
 
 abbrev pub withCycles : Meter → Cycles → Meter
-withCycles m cycles = record { cells = m .cells; charge = m .charge; cycles = cycles; flow = m .flow; shown = m .shown }
+withCycles meter cycles = record { cells = meter .cells; charge = meter .charge; cycles = cycles; flow = meter .flow; shown = meter .shown }
 
 abbrev pub withFlow : Meter → Flow → Meter
-withFlow m flow = record { cells = m .cells; charge = m .charge; cycles = m .cycles; flow = flow; shown = m .shown }
+withFlow meter flow = record { cells = meter .cells; charge = meter .charge; cycles = meter .cycles; flow = flow; shown = meter .shown }
 
 abbrev pub withFlags : Shown → Flags → Shown
-withFlags s flags = record { model = s .model; results = s .results; reading = s .reading; flags = flags }
+withFlags shown flags = record { model = shown .model; results = shown .results; reading = shown .reading; flags = flags }
 
 -- ---- step 1
 
@@ -55,11 +55,11 @@ nextMade made = (made + 1) % 1024
 
 -- "every 1024th conversion measures the offset": the one that comes next
 abbrev pub offsetTurn : Average → Bool
-offsetTurn a = eqb (a .made) 1023
+offsetTurn average = eqb (average .made) 1023
 
 -- "On the 1024th, the previous c is shown, averaged and counted; the raw value is ignored."
 abbrev pub convertedOf : Flow → ℕ → ℕ → ℕ
-convertedOf f raw cob = pick (offsetTurn (f .average)) (f .trace .last) (currentOf raw cob)
+convertedOf flow raw cob = pick (offsetTurn (flow .average)) (flow .trace .last) (currentOf raw cob)
 
 -- c < 0
 abbrev pub negative : ℕ → Bool
@@ -77,15 +77,15 @@ turnedZ last c = both (negativeZ c) (not (negativeZ last))
 
 -- CURRENT = c, and the c before it
 abbrev pub tracedOf : Trace → ℕ → Trace
-tracedOf t c = record { last = c; before = t .last; any = true; two = t .any }
+tracedOf trace c = record { last = c; before = trace .last; any = true; two = trace .any }
 
 -- ---- step 2: blanking, for the count only
 
 -- 0 < c < 64 counts as 0; with NBEN, -16 < c < 0 counts as 0, and in the DS2775 profile -16 too
 abbrev pub blankedOf : Profile → Bool → ℕ → ℕ
-blankedOf f nben c =
+blankedOf profile nben c =
     pick
-    (either (both (ltb (zeroAt 15) c) (ltb c (zeroAt 15 + 64))) (both nben (both (ltb (zeroAt 15 - edgeOf f) c) (ltb c (zeroAt 15)))))
+    (either (both (ltb (zeroAt 15) c) (ltb c (zeroAt 15 + 64))) (both nben (both (ltb (zeroAt 15 - blankingEdgeOf profile) c) (ltb c (zeroAt 15)))))
     (zeroAt 15) c
 
 -- -16 < c < 0; in the DS2775 profile "-16 counts as 0" too
@@ -94,7 +94,7 @@ slightZ Ds2781 c = both (ltZ (minus 16) c) (ltZ c (pos 0))
 slightZ Ds2775 c = both (leZ (minus 16) c) (ltZ c (pos 0))
 
 abbrev pub blankedZ : Profile → Bool → ℤ → ℤ
-blankedZ f nben c = pick (either (both (ltZ (pos 0) c) (ltZ c (pos 64))) (both nben (slightZ f c))) (pos 0) c
+blankedZ profile nben c = pick (either (both (ltZ (pos 0) c) (ltZ c (pos 64))) (both nben (slightZ profile c))) (pos 0) c
 
 -- ---- step 3
 
@@ -114,7 +114,7 @@ addedZ mark count counted ab = pick mark count (grownZ count counted ab)
 
 -- the count after steps 2 and 3
 abbrev pub newCount : Profile → Counting → Charge → ℕ → ℕ
-newCount f p g c = addedOf (g .mark) (g .count) (blankedOf f (p .nben) c) (p .ab)
+newCount profile counting charge c = addedOf (charge .mark) (charge .count) (blankedOf profile (counting .nben) c) (counting .ab)
 
 -- ---- step 4
 
@@ -133,7 +133,7 @@ agedOf ac age aging =
 
 -- the age counter with a fall of ACR added, and AS
 abbrev pub newAge : Profile → Counting → Charge → ℕ → Age
-newAge f p g c = agedOf (p .ac) (g .age + fallOf (g .count) (newCount f p g c)) (g .aging)
+newAge profile counting charge c = agedOf (counting .ac) (charge .age + fallOf (charge .count) (newCount profile counting charge c)) (charge .aging)
 
 -- ---- step 5
 
@@ -143,17 +143,17 @@ learningOf learnf last c count = butNot (butNot learnf (turnedOf last c)) (eqb (
 
 -- the charge after steps 1 to 5; any conversion uses up the mark
 unfoldable pub countedOf : Profile → Counting → Charge → ℕ → ℕ → Charge
-countedOf f p g last c = record {
-  count = newCount f p g c;
-  age = newAge f p g c .age;
-  aging = newAge f p g c .aging;
-  learnf = learningOf (g .learnf) last c (newCount f p g c);
+countedOf profile counting charge last c = record {
+  count = newCount profile counting charge c;
+  age = newAge profile counting charge c .age;
+  aging = newAge profile counting charge c .aging;
+  learnf = learningOf (charge .learnf) last c (newCount profile counting charge c);
   mark = false;
 }
 
 -- a charge that follows another, and how far ACR fell between them, as the code hands them on
 abbrev pub steppedOf : Charge → Charge → Stepped
-steppedOf g next = record { charge = next; fall = fallOf (g .count) (next .count) }
+steppedOf charge next = record { charge = next; fall = fallOf (charge .count) (next .count) }
 
 -- ---- the cycle counter of the DS2775: it "advances by one for each twice Full40 that ACR has fallen, counted as ageing counts it"
 
@@ -171,38 +171,38 @@ advancedOf full40 count fallen = record { count = min (count + stepsOf full40 fa
 
 -- a conversion in which ACR fell so far
 unfoldable pub cycledOf : Profile → ℕ → Cycles → ℕ → Cycles
-cycledOf f full40 y fall = pick (countsCycles f) (advancedOf full40 (y .count) (y .rest + fall)) y
+cycledOf profile full40 cycles fall = pick (countsCycles profile) (advancedOf full40 (cycles .count) (cycles .rest + fall)) cycles
 
 -- the charge that steps 1 to 5 leave; and the fall of ACR that ageing counts, which the cycle counter counts too
 abbrev pub chargedOf : Meter → ℕ → Charge → Meter
-chargedOf m full40 g = record {
-  cells = m .cells;
-  charge = g;
-  cycles = cycledOf (m .cells .profile) full40 (m .cycles) (fallOf (m .charge .count) (g .count));
-  flow = m .flow;
-  shown = m .shown;
+chargedOf meter full40 charge = record {
+  cells = meter .cells;
+  charge = charge;
+  cycles = cycledOf (meter .cells .profile) full40 (meter .cycles) (fallOf (meter .charge .count) (charge .count));
+  flow = meter .flow;
+  shown = meter .shown;
 }
 
 -- ---- step 6
 
 -- each eighth conversion
 abbrev pub eighth : Average → Bool
-eighth a = eqb (runOf a) 7
+eighth average = eqb (runOf average) 7
 
 -- IAVG: the sum of eight c divided by 8, rounded down
 abbrev pub meanOf : Average → ℕ → ℕ
-meanOf a c = (a .sum + c) / 8
+meanOf average c = (average .sum + c) / 8
 
 -- the run of eight goes on, or ends with IAVG
 unfoldable pub averagedOf : Average → ℕ → Average
-averagedOf a c =
-    pick (eighth a) (record { made = nextMade (a .made); sum = 0; iavg = meanOf a c; known = true })
-    (record { made = nextMade (a .made); sum = a .sum + c; iavg = a .iavg; known = a .known })
+averagedOf average c =
+    pick (eighth average) (record { made = nextMade (average .made); sum = 0; iavg = meanOf average c; known = true })
+    (record { made = nextMade (average .made); sum = average .sum + c; iavg = average .iavg; known = average .known })
 
 -- the average after some c, one after the other; their sum; the sum of eight c divided by 8, rounded down
 abbrev pub averagedOver : Average → List ℕ → Average
-averagedOver a [] = a
-averagedOver a (c ∷ cs) = averagedOver (averagedOf a c) cs
+averagedOver average [] = average
+averagedOver average (c ∷ cs) = averagedOver (averagedOf average c) cs
 
 abbrev pub sumZ : List ℕ → ℤ
 sumZ [] = pos 0
@@ -213,7 +213,7 @@ meanZ cs = divZ (sumZ cs) 8
 
 -- the readings since the previous IAVG: none yet after an eighth conversion
 unfoldable pub renewedOf : Since → Bool → Since
-renewedOf s eighth = pick eighth (record { any = false; lowest = 0 }) s
+renewedOf since eighth = pick eighth (record { any = false; lowest = 0 }) since
 
 -- in 1..32 × IMIN - 1
 abbrev pub tapersOf : ℕ → ℕ → Bool
@@ -224,19 +224,19 @@ tapersZ imin x = both (leZ (pos 1) x) (leZ x (pos (32 * imin) -ℤ pos 1))
 
 -- this and the previous IAVG both lie there
 abbrev pub taperingOf : Average → ℕ → ℕ → Bool
-taperingOf a imin c = both (tapersOf imin (meanOf a c)) (both (a .known) (tapersOf imin (a .iavg)))
+taperingOf average imin c = both (tapersOf imin (meanOf average c)) (both (average .known) (tapersOf imin (average .iavg)))
 
 -- at least one reading came since the previous IAVG, all above 4 × VCHG
 abbrev pub aboveOf : Since → ℕ → Bool
-aboveOf s vchg = both (s .any) (ltb (4 * vchg) (s .lowest))
+aboveOf since vchg = both (since .any) (ltb (4 * vchg) (since .lowest))
 
 -- full is found by an eighth conversion
 unfoldable pub foundOf : Average → Since → Limits → ℕ → Bool
-foundOf a s p c = both (taperingOf a (p .imin) c) (aboveOf s (p .vchg))
+foundOf average since limits c = both (taperingOf average (limits .imin) c) (aboveOf since (limits .vchg))
 
 -- then CHGTF sets
 abbrev pub filledFlags : Flags → Bool → Flags
-filledFlags f found = record { porf = f .porf; chgtf = either found (f .chgtf); aef = f .aef; sef = f .sef }
+filledFlags flags found = record { porf = flags .porf; chgtf = either found (flags .chgtf); aef = flags .aef; sef = flags .sef }
 
 -- AS = ACR × 2^21 / (FULL × Full40), rounded down, moved into 63..128
 unfoldable pub learntOf : ℕ → ℕ → ℕ → ℕ
@@ -244,20 +244,20 @@ learntOf acr full full40 = movedInto 63 128 (acr * 2 ^ 21 / (full * full40))
 
 -- that, if LEARNF and Full40 > 0
 abbrev pub taughtOf : Charge → ℕ → ℕ → ℕ
-taughtOf g full full40 = pick (both (g .learnf) (ltb 0 full40)) (learntOf (acrOf (g .count)) full full40) (g .aging)
+taughtOf charge full full40 = pick (both (charge .learnf) (ltb 0 full40)) (learntOf (acrOf (charge .count)) full full40) (charge .aging)
 
 -- AS alone
 abbrev pub withAs : Charge → ℕ → Charge
-withAs g aging = record { count = g .count; age = g .age; aging = aging; learnf = g .learnf; mark = g .mark }
+withAs charge aging = record { count = charge .count; age = charge .age; aging = aging; learnf = charge .learnf; mark = charge .mark }
 
 -- the count set outright, by a correction (full found, the empty point, an ACR that is above E) or over the bus: ACR = acr, fraction 0,
 -- LEARNF = learnf; AS, the age counter and the mark stay
 abbrev pub setOf : Charge → ℕ → Bool → Charge
-setOf g acr learnf = record { count = acr * 4096; age = g .age; aging = g .aging; learnf = learnf; mark = g .mark }
+setOf charge acr learnf = record { count = acr * 4096; age = charge .age; aging = charge .aging; learnf = learnf; mark = charge .mark }
 
 -- "a mark after an ACR write", which the bus alone sets
 abbrev pub markedOf : Charge → Charge
-markedOf g = record { count = g .count; age = g .age; aging = g .aging; learnf = g .learnf; mark = true }
+markedOf charge = record { count = charge .count; age = charge .age; aging = charge .aging; learnf = charge .learnf; mark = true }
 
 -- AF = FULL × AS / 128 rounded down
 unfoldable pub agedFullOf : ℕ → ℕ → ℕ
@@ -273,55 +273,56 @@ shareUpOf share full40 = (share * full40 + 16383) / 16384
 
 -- LEARNF clears; ACR = AF × Full40 / 16,384 rounded up, fraction 0
 unfoldable pub filledOf : Charge → ℕ → ℕ → Charge
-filledOf g full full40 =
-    let aging = taughtOf g full full40 in
-    setOf (withAs g aging) (shareUpOf (agedFullOf full aging) full40) false
+filledOf charge full full40 =
+    let aging = taughtOf charge full full40 in
+    setOf (withAs charge aging) (shareUpOf (agedFullOf full aging) full40) false
 
 -- the charge after step 6
 unfoldable pub settledOf : Charge → Bool → ℕ → ℕ → Charge
-settledOf g found full full40 = pick found (filledOf g full full40) g
+settledOf charge found full full40 = pick found (filledOf charge full full40) charge
 
 -- CURRENT = c, and step 6: the run of eight goes on, or ends with IAVG, where full may be found
 unfoldable pub flowedOf : Meter → Limits → ℕ → ℕ → Meter
-flowedOf m p full40 c =
-    let f = m .flow in
-    let found = both (eighth (f .average)) (foundOf (f .average) (f .since) p c) in
+flowedOf meter limits full40 c =
+    let f = meter .flow in
+    let found = both (eighth (f .average)) (foundOf (f .average) (f .since) limits c) in
     record {
-      cells = m .cells;
-      charge = settledOf (m .charge) found (m .shown .model .full) full40;
-      cycles = m .cycles;
+      cells = meter .cells;
+      charge = settledOf (meter .charge) found (meter .shown .model .full) full40;
+      cycles = meter .cycles;
       flow = record {
         trace = tracedOf (f .trace) c;
         average = averagedOf (f .average) c;
         since = renewedOf (f .since) (eighth (f .average));
         tick = f .tick;
       };
-      shown = withFlags (m .shown) (filledFlags (m .shown .flags) found);
+      shown = withFlags (meter .shown) (filledFlags (meter .shown .flags) found);
     }
 
 -- ---- all six: steps 1 to 5, then step 6
 
 unfoldable pub convertOf : Meter → ℕ → Meter
-convertOf m raw =
-    let block = m .cells .block .shadow in
+convertOf meter raw =
+    let block = meter .cells .block .shadow in
     let p = countingOf block in
     let full40 = capacityOf block .full40 in
-    let c = convertedOf (m .flow) raw (p .cob) in
-    let counted = countedOf (m .cells .profile) p (m .charge) (m .flow .trace .last) c in
-    flowedOf (chargedOf m full40 counted) (limitsOf block) full40 c
+    let c = convertedOf (meter .flow) raw (p .cob) in
+    let counted = countedOf (meter .cells .profile) p (meter .charge) (meter .flow .trace .last) c in
+    flowedOf (chargedOf meter full40 counted) (limitsOf block) full40 c
 
 -- ---- what a conversion of a raw current finds in a meter
 
 -- its c
 abbrev pub currentIn : Meter → ℕ → ℕ
-currentIn m raw = convertedOf (m .flow) raw (countingOf (m .cells .block .shadow) .cob)
+currentIn meter raw = convertedOf (meter .flow) raw (countingOf (meter .cells .block .shadow) .cob)
 
 -- the charge that steps 1 to 5 leave, which full detection finds
 abbrev pub chargeIn : Meter → ℕ → Charge
-chargeIn m raw = countedOf (m .cells .profile) (countingOf (m .cells .block .shadow)) (m .charge) (m .flow .trace .last) (currentIn m raw)
+chargeIn meter raw =
+    countedOf (meter .cells .profile) (countingOf (meter .cells .block .shadow)) (meter .charge) (meter .flow .trace .last) (currentIn meter raw)
 
 -- step 6: full is found, and ACR is set outright
 abbrev pub correctsFull : Meter → ℕ → Bool
-correctsFull m raw =
-    let f = m .flow in
-    both (eighth (f .average)) (foundOf (f .average) (f .since) (limitsOf (m .cells .block .shadow)) (currentIn m raw))
+correctsFull meter raw =
+    let f = meter .flow in
+    both (eighth (f .average)) (foundOf (f .average) (f .since) (limitsOf (meter .cells .block .shadow)) (currentIn meter raw))

@@ -56,13 +56,13 @@ pub fn traced(trace: Trace, c: u16) -> Trace
 
 // Step 2: what counts as 0 is one range, from the slightest current below 0, or from 0 itself without NBEN, up to 63. Of a current that is
 // outside of the widest such range nothing more is asked.
-pub fn blanked(f: Profile, nben: bool, c: u16) -> u16
-    ensures { λ r. ⌜ r ≡ blankedOf f nben c ⌝ }
+pub fn blanked(profile: Profile, nben: bool, c: u16) -> u16
+    ensures { λ r. ⌜ r ≡ blankedOf profile nben c ⌝ }
 {
     let zero = numbers::ZERO15;
     let mut counted = c;
     if numbers::and(zero - 16 <= c, c < zero + 64) {
-        let lowest = numbers::choose16(nben, zero + 1 - state::edge(f), zero);
+        let lowest = numbers::choose16(nben, zero + 1 - state::blanking_edge(profile), zero);
         counted = numbers::choose16(lowest <= c, zero, c);
     }
     counted
@@ -97,19 +97,19 @@ fn aged(ac: u16, age: u32, aging: u8) -> Age
     ensures { λ r. ⌜ r ≡ agedOf ac age aging ⌝ }
 {
     let limit = 32 * (ac as u32);
-    let mut a = Age {
+    let mut worn = Age {
         age: age,
         aging: aging,
     };
     if limit <= age {
-        a.age = age - limit;
+        worn.age = age - limit;
         if ac == 0 {
-            a.age = 0;
+            worn.age = 0;
         } else {
-            a.aging = numbers::at_least(63, numbers::less(aging as u64, 1)) as u8;
+            worn.aging = numbers::at_least(63, numbers::less(aging as u64, 1)) as u8;
         }
     }
-    a
+    worn
 }
 
 // Steps 1 and 5: what is left of LEARNF. Where it is not set nothing is asked.
@@ -131,18 +131,23 @@ pub struct Stepped {
 }
 
 // Steps 1 to 5: last is the c before and c this one.
-pub fn counted(charge: Charge, f: Profile, p: Counting, last: u16, c: u16) -> Stepped
+pub fn counted(charge: Charge, profile: Profile, counting: Counting, last: u16, c: u16) -> Stepped
     requires { ⌜ ChargeWF charge ⌝ }
-    ensures { λ r. ⌜ r ≡ steppedOf charge (countedOf f p charge last c) ⌝ }
+    ensures { λ r. ⌜ r ≡ steppedOf charge (countedOf profile counting charge last c) ⌝ }
 {
-    let count = added(charge.mark, charge.count, blanked(f, p.nben, c), p.ab);
+    let count = added(
+        charge.mark,
+        charge.count,
+        blanked(profile, counting.nben, c),
+        counting.ab,
+    );
     let fall = fall(charge.count, count);
-    let a = aged(p.ac, charge.age + fall, charge.aging);
+    let worn = aged(counting.ac, charge.age + fall, charge.aging);
     Stepped {
         charge: Charge {
             count: count,
-            age: a.age,
-            aging: a.aging,
+            age: worn.age,
+            aging: worn.aging,
             learnf: learning(charge.learnf, last, c, count),
             mark: false,
         },
@@ -181,12 +186,12 @@ pub fn charged(mut meter: Meter, stepped: Stepped) -> Meter
     ensures kept { λ r. ⌜ MeterWF r ⌝ }
 {
     let cells = meter.cells;
-    let f = cells.profile;
+    let profile = cells.profile;
     let charge = stepped.charge;
     meter.charge = charge;
-    if state::counts(f) {
-        let full = Capacity::of(&meter.cells.block.shadow);
-        let cycles = advanced(meter.cycles, full.full40, stepped.fall);
+    if state::counts_cycles(profile) {
+        let capacity = Capacity::of(&meter.cells.block.shadow);
+        let cycles = advanced(meter.cycles, capacity.full40, stepped.fall);
         meter.cycles.count = cycles.count;
         meter.cycles.rest = cycles.rest;
     }
@@ -226,14 +231,14 @@ pub fn averaged(average: Average, c: u16) -> Average
 }
 
 // Step 6: whether an eighth conversion finds full.
-pub fn found(average: Average, s: Since, p: Limits, c: u16) -> bool
+pub fn found(average: Average, since: Since, limits: Limits, c: u16) -> bool
     requires { ⌜ AverageWF average ⌝ }
-    ensures { λ r. ⌜ r ≡ foundOf average s p c ⌝ }
+    ensures { λ r. ⌜ r ≡ foundOf average since limits c ⌝ }
 {
     let mean = ((average.sum + (c as u32)) / 8) as u16;
-    let before = numbers::and(average.known, tapers(p.imin, average.iavg));
-    let tapering = numbers::and(tapers(p.imin, mean), before);
-    let above = numbers::and(s.any, 4 * (p.vchg as u16) < s.lowest);
+    let before = numbers::and(average.known, tapers(limits.imin, average.iavg));
+    let tapering = numbers::and(tapers(limits.imin, mean), before);
+    let above = numbers::and(since.any, 4 * (limits.vchg as u16) < since.lowest);
     numbers::and(tapering, above)
 }
 
@@ -279,17 +284,17 @@ pub fn share_up(x: u32, full40: u16) -> u64
 }
 
 // Step 6, where full is found.
-pub fn filled(mut g: Charge, full: u16, full40: u16) -> Charge
-    requires { ⌜ ChargeWF g ⌝ }
+pub fn filled(mut charge: Charge, full: u16, full40: u16) -> Charge
+    requires { ⌜ ChargeWF charge ⌝ }
     requires { ⌜ full ≤ 16384 ⌝ }
-    ensures { λ r. ⌜ r ≡ filledOf g full full40 ⌝ }
+    ensures { λ r. ⌜ r ≡ filledOf charge full full40 ⌝ }
 {
-    let teach = numbers::and(g.learnf, 0 < full40);
-    let before = (g.count / 4096) as u16;
-    let aging = numbers::choose8(teach, learnt(before, full, full40), g.aging);
+    let teach = numbers::and(charge.learnf, 0 < full40);
+    let before = (charge.count / 4096) as u16;
+    let aging = numbers::choose8(teach, learnt(before, full, full40), charge.aging);
     let acr = share_up(aged_full(full, aging), full40) as u16;
-    g.aging = aging;
-    set(g, acr, false)
+    charge.aging = aging;
+    set(charge, acr, false)
 }
 
 // Step 6 of a conversion, and CURRENT. The limits are taken at an eighth conversion only, and Full40 only where full is found.
@@ -301,10 +306,10 @@ fn flowed(mut meter: Meter, c: u16) -> Meter
     let mut flow = meter.flow;
     flow.trace = traced(flow.trace, c);
     if flow.average.made % 8 == 7 {
-        let p = Limits::of(&meter.cells.block.shadow);
-        if found(flow.average, flow.since, p, c) {
-            let full = Capacity::of(&meter.cells.block.shadow);
-            meter.charge = filled(meter.charge, meter.shown.model.full, full.full40);
+        let limits = Limits::of(&meter.cells.block.shadow);
+        if found(flow.average, flow.since, limits, c) {
+            let capacity = Capacity::of(&meter.cells.block.shadow);
+            meter.charge = filled(meter.charge, meter.shown.model.full, capacity.full40);
             meter.shown.flags.chgtf = true;
         }
         flow.since.any = false;
@@ -321,10 +326,10 @@ pub fn convert(meter: Meter, raw: u32) -> Meter
     ensures { λ r. ⌜ r ≡ convertOf meter raw ⌝ }
     ensures kept { λ r. ⌜ MeterWF r ⌝ }
 {
-    let p = Counting::of(&meter.cells.block.shadow);
-    let c = converted(meter.flow, raw, p.cob);
+    let counting = Counting::of(&meter.cells.block.shadow);
+    let c = converted(meter.flow, raw, counting.cob);
     let cells = meter.cells;
-    let f = cells.profile;
-    let stepped = counted(meter.charge, f, p, meter.flow.trace.last, c);
+    let profile = cells.profile;
+    let stepped = counted(meter.charge, profile, counting, meter.flow.trace.last, c);
     flowed(charged(meter, stepped), c)
 }

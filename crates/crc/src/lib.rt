@@ -21,15 +21,15 @@ fn next(table: &[u8; 256], c: u8, b: u8) -> u8
     table[i]
 }
 
-// The CRC of the message s.
-pub fn crc(s: &[u8]) -> u8
-    ensures { λ r. ⌜ r ≡ crcOf (now (s .entry)) ⌝ }
+// The CRC of the message.
+pub fn crc(message: &[u8]) -> u8
+    ensures { λ r. ⌜ r ≡ crcOf (now (message .entry)) ⌝ }
 {
     let table = whole_table();
     let mut c: u8 = 0;
     let mut i = 0;
-    while i < s.len() {
-        c = next(&table, c, s[i]);
+    while i < message.len() {
+        c = next(&table, c, message[i]);
         i += 1;
     }
     c

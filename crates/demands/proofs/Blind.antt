@@ -12,7 +12,7 @@ use Rattle.state.specs.declared.Locks.{Locks}
 use Rattle.state.specs.declared.Cells.{Cells}
 use Rattle.state.specs.declared.Meter.{Meter}
 use Rattle.conversion.specs.Conversion.{flowedOf, convertOf}
-use Rattle.reading.specs.Reading.{shownOf, readOf}
+use Rattle.reading.specs.Reading.{resultsShown, readOf}
 use Rattle.samples.specs.Samples.{sampledOf, sampleOf}
 use Rattle.label.specs.Label.{commonLockedOf}
 use Rattle.block1.specs.Block1.{lockWrittenOf, blockWrittenOf, blockCopiedOf, blockRecalledOf, locksLockedOf, meterWrittenOf, meterCopiedOf, meterRecalledOf, meterLockedOf}
@@ -76,7 +76,7 @@ ran-parts Lock g a bytes = refl
 ran-parts Nothing g a bytes = refl
 
 parts-after : (g : Gauge) (h : Happening) → partsOf (happened g h) ≡ partsAfter (partsOf g) h
-unfolding readingOf conversionOf samplingOf sampleOf powerOnOf convertOf flowedOf readOf shownOf poweredOf actOf ranOf
+unfolding readingOf conversionOf samplingOf sampleOf powerOnOf convertOf flowedOf readOf resultsShown poweredOf actOf ranOf
 parts-after g (imaged f p) = refl
 parts-after g (changed (Reading volt temp)) = refl
 parts-after g (changed (Conversion raw)) = refl

@@ -17,7 +17,7 @@ use Rattle.params.specs.Params.{countingOf}
 use Rattle.state.specs.declared.Charge.{Charge}
 use Rattle.conversion.specs.Conversion.{setOf, markedOf, countedOf, settledOf, flowedOf, convertOf, blankedZ, addedZ, currentIn, correctsFull}
 use Rattle.state.specs.declared.Meter.{Meter}
-use Rattle.reading.specs.Reading.{shownOf, readOf, correctsEmpty, emptiedIn}
+use Rattle.reading.specs.Reading.{resultsShown, readOf, correctsEmpty, emptiedIn}
 use Rattle.conversion.proofs.Meaning.{count-means}
 use Rattle.conversion.proofs.OffsetConversion.{convert-made}
 use Rattle.conversion.proofs.Corrections.{converted-means, converted-charge, uncorrected}
@@ -191,7 +191,7 @@ apart-ledger a = λ i. record { profile = a .profile i; last = value 15 (a .last
 
 -- a reading that corrects nothing
 read-apart : (m : Meter) (volt temp : ℕ) → correctsEmpty m volt temp ≡ false → Apart m (readOf m volt temp)
-unfolding readOf shownOf
+unfolding readOf resultsShown
 read-apart m volt temp h =
     let e = read-charge m volt temp ∙ ap (λ (t : Bool). pick t (emptiedIn m volt temp) (m .charge)) h in
     record { profile = refl; count = ap (λ (g : Charge). g .count) e; mark = ap (λ (g : Charge). g .mark) e; last = refl; made = refl; tick = refl }

@@ -10,7 +10,7 @@ use Rattle.state.specs.declared.Profile.the-variants.{Ds2781, Ds2775}
 use Rattle.slices.specs.Slices.{laidOf}
 use Rattle.state.specs.State.{timelyOf, poweredOf}
 use Rattle.conversion.specs.Conversion.{countedOf, shareOf, averagedOf, foundOf, settledOf, flowedOf, convertOf}
-use Rattle.reading.specs.Reading.{slopesOver, linesOf, drainingOf, pointOf, emptiedOf, seenOf, drainedOf, shownOf, readOf}
+use Rattle.reading.specs.Reading.{slopesOver, modelLines, drainingOf, pointOf, emptiedOf, seenOf, drainedOf, resultsShown, readOf}
 use Rattle.numbers.specs.Offset.{minus}
 use Rattle.samples.specs.Samples.{sampledOf, sampleOf}
 use Rattle.block1.specs.Block1.{reachesOf, acrWrittenOf, lockWrittenOf, meterWrittenOf, blockWrittenOf, meterCopiedOf, blockCopiedOf, meterRecalledOf, blockRecalledOf, meterLockedOf}
@@ -105,7 +105,7 @@ call-within rs short = called-within didOf emptyOf (packed (earlier ++ rs)) [] (
 -- -997 + 5, ten times -2, and -997 + 5
 sums : sumOver (leftBy ofGauge (first later)) (heardSince ofGauge didOf 7 (first later) (call later)) ≡ minus 2004
 unfolding recOf sizeOf wholeOf didOf takenOf kindOf judgedAmong addressedOf orderedOf crc.bitOf crc.eightOf crc.nextOf
-    imageOf poweredOf readingOf readOf shownOf drainedOf emptiedOf seenOf pointOf drainingOf linesOf slopesOver shareOf conversionOf convertOf flowedOf samplingOf sampleOf sampledOf timelyOf countedOf averagedOf foundOf settledOf
+    imageOf poweredOf readingOf readOf resultsShown drainedOf emptiedOf seenOf pointOf drainingOf modelLines slopesOver shareOf conversionOf convertOf flowedOf samplingOf sampleOf sampledOf timelyOf countedOf averagedOf foundOf settledOf
     askedOf askedAt romBy commandOf selectedOf actOf ranOf writtenOf labelWrittenOf laidOf meterWrittenOf blockWrittenOf acrWrittenOf lockWrittenOf reachesOf
     copiedOf labelCopiedOf meterCopiedOf blockCopiedOf recalledOf labelRecalledOf meterRecalledOf blockRecalledOf lockedOf meterLockedOf commonLockedOf replyOf inLabel inBlock
 sums = refl
@@ -113,7 +113,7 @@ sums = refl
 -- THE HYPOTHESES CAN BE MET IN A SESSION
 pub books-met : BooksMet didOf emptyOf ofGauge
 unfolding recOf sizeOf wholeOf didOf takenOf kindOf judgedAmong addressedOf orderedOf crc.bitOf crc.eightOf crc.nextOf
-    imageOf poweredOf readingOf readOf shownOf drainedOf emptiedOf seenOf pointOf drainingOf linesOf slopesOver shareOf conversionOf convertOf flowedOf samplingOf sampleOf sampledOf timelyOf countedOf averagedOf foundOf settledOf
+    imageOf poweredOf readingOf readOf resultsShown drainedOf emptiedOf seenOf pointOf drainingOf modelLines slopesOver shareOf conversionOf convertOf flowedOf samplingOf sampleOf sampledOf timelyOf countedOf averagedOf foundOf settledOf
     askedOf askedAt romBy commandOf selectedOf actOf ranOf writtenOf labelWrittenOf laidOf meterWrittenOf blockWrittenOf acrWrittenOf lockWrittenOf reachesOf
     copiedOf labelCopiedOf meterCopiedOf blockCopiedOf recalledOf labelRecalledOf meterRecalledOf blockRecalledOf lockedOf meterLockedOf commonLockedOf replyOf inLabel inBlock
 books-met = record {

@@ -24,7 +24,7 @@ use Rattle.gauge.proofs.Image.{size-few}
 use Rattle.record.specs.Image.{imageAddress}
 use Rattle.record.specs.Record.{kindOf, addressedOf, orderedOf, judgedAmong, takenOf}
 use Rattle.preset_session.specs.declared.Written.the-variants as Written
-use Rattle.preset_session.specs.PresetSession.{programmingOf, answerOf, Granted}
+use Rattle.preset_session.specs.PresetSession.{programmingOf, presetAnswer, Granted}
 use Rattle.runs.specs.declared.Outcome.the-variants.{Done}
 use Rattle.runs.specs.Record.{Rec, whole, wholeOf, recOf, sizeOf, recsOf, recordOf}
 use Rattle.runs.specs.Run.{Line}
@@ -230,7 +230,7 @@ unfolding judgedAmong addressedOf orderedOf crc.bitOf crc.eightOf crc.nextOf
 granted-met = record { accepted = refl; all = refl; unlocked = refl; fits = omega arith }
 
 pub bench-met : Bench image wanted (replicate 120 0) Written.Done (programmingOf image wanted) programmed
-unfolding answerOf judgedAmong addressedOf orderedOf crc.bitOf crc.eightOf crc.nextOf
+unfolding presetAnswer judgedAmong addressedOf orderedOf crc.bitOf crc.eightOf crc.nextOf
 bench-met = record {
   wrote = record { number = refl; answer = refl; written = refl };
   session = refl;

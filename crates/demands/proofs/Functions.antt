@@ -13,7 +13,7 @@ use Rattle.session_run.specs.SessionRun.{emptyOf, resultOf, TakenOut}
 use Rattle.session_run.proofs.run
 use Rattle.session_run.proofs.take_out
 use Rattle.preset_session.specs.PresetSession.{Programming}
-use Rattle.preset_session.proofs.write
+use Rattle.preset_session.proofs.write_session
 use Rattle.mending.specs.Mending.{Mending}
 use Rattle.mending.proofs.mend
 use Rattle.demands.specs.Call.{Call, Allowed}
@@ -63,9 +63,9 @@ pub take-out-taken : (κs : Lfts («take_out».ended .signature .lifetimes)) (a 
 take-out-taken κs a r w h = h
 
 -- and what a caller learns from `programming::write` is what the theorem on programming is stated of
-pub write-wrote : (κs : Lfts (write.ended .signature .lifetimes)) (a : Args (write.ended .signature) κs)
-    (r : Res (write.ended .signature) κs) (w : Lasts write.ended κs a)
-    → write.Reads.Learnt κs a r (atExit write.ended κs a w) → Programming (now (a .0)) (now (a .1 .0)) (now (a .1 .1 .0)) r (w .1 .1 .0)
+pub write-wrote : (κs : Lfts («write_session».ended .signature .lifetimes)) (a : Args («write_session».ended .signature) κs)
+    (r : Res («write_session».ended .signature) κs) (w : Lasts «write_session».ended κs a)
+    → «write_session».Reads.Learnt κs a r (atExit «write_session».ended κs a w) → Programming (now (a .0)) (now (a .1 .0)) (now (a .1 .1 .0)) r (w .1 .1 .0)
 write-wrote κs a r w h = h
 
 -- and of `mending::mend` that on mended images

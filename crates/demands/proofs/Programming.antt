@@ -37,7 +37,7 @@ use Rattle.runs.specs.Run.{Did, silently, lineOf, linesAfter, endAfter}
 use Rattle.runs.proofs.Records.{recs-record}
 use Rattle.preset_session.specs.declared.Written.{Written}
 use Rattle.preset_session.specs.declared.Written.the-variants.{Done}
-use Rattle.preset_session.specs.PresetSession.{writePayload, copyPayload, readPayload, programmingOf, programmingSize, answerOf, Granted}
+use Rattle.preset_session.specs.PresetSession.{writePayload, copyPayload, readPayload, programmingOf, programmingSize, presetAnswer, Granted}
 use Rattle.preset_session.proofs.Laws.{granted, done, programming-length}
 use Rattle.runs.specs.declared.Session.{Session}
 use Rattle.runs.specs.SessionRecord.{loadedWith, didOf}
@@ -144,7 +144,7 @@ module _ (room : ℕ) where
 
 module _ {image wanted room : List ℕ} {said : Written} {after : List ℕ} {c : Call Session} (g : Granted image wanted (length room))
     (b : Bench image wanted room said after c) where
-  writes-all : answerOf image wanted (length room) ≡ Done
+  writes-all : presetAnswer image wanted (length room) ≡ Done
   writes-all = done image wanted (length room) g
 
   size : length image ≡ imageSize

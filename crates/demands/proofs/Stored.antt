@@ -9,7 +9,7 @@ use Rattle.numbers.proofs.Bounds.{through}
 use Rattle.state.specs.declared.Profile.{Profile}
 use Rattle.state.specs.State.{poweredOf}
 use Rattle.conversion.specs.Conversion.{flowedOf, convertOf}
-use Rattle.reading.specs.Reading.{shownOf, readOf}
+use Rattle.reading.specs.Reading.{resultsShown, readOf}
 use Rattle.state.specs.declared.Label.{Label}
 use Rattle.label.specs.Label.{inLabel, inBlock, labelCopiedOf}
 use Rattle.label.proofs.Kept.{label-written-eeprom, label-recalled-eeprom}
@@ -36,7 +36,7 @@ use Rattle.demands.specs.Stored.{Memory, block0, block1, shadowIn, eepro
 
 -- no change writes it, a power-on neither
 changed-eeprom : (b : Memory) (g : Gauge) (c : Change) → eepromIn b (changedOf g c) ≡ eepromIn b g
-unfolding conversionOf readingOf powerOnOf convertOf flowedOf readOf shownOf poweredOf
+unfolding conversionOf readingOf powerOnOf convertOf flowedOf readOf resultsShown poweredOf
 changed-eeprom block0 g c =
     kept.changed (λ (f : Gauge). f .label .eeprom ≡ g .label .eeprom)
     (record { conversion = λ f raw p. p; tick = λ f tick p. p; reading = λ f volt temp p. p; power-on = λ f p. p }) g c refl

@@ -18,7 +18,7 @@ slotEvent n = either (eqb n 18) (either (eqb n 19) (either (eqb n 21) (eqb n 22)
 
 -- whom the transaction of a payload of a form reaches
 abbrev pub reachIn : Tray → Form → List ℕ → Reach
-reachIn τ f p = trayReach τ (transactionIn f p) (masterOf (transactionIn f p) p)
+reachIn tray form p = trayReach tray (transactionIn form p) (masterOf (transactionIn form p) p)
 
 -- a record of the slot i: its event, or a transaction that the search matches to it
 pub data Goes (τ : Tray) (i : ℕ) : Rec → Type 0 where

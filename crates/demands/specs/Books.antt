@@ -97,24 +97,25 @@ bookedSum k (x ∷ xs) = booked k x +ℤ bookedSum (ledgerAfter k x) xs
 -- ---- what is taken of the gauge: the shadow bytes before each event, and where the run starts
 
 abbrev pub entriesOf : Gauge → List Happening → List Entry
-entriesOf g [] = []
-entriesOf g (h ∷ hs) = record { what = h; shadow = g .meter .cells .block .shadow } ∷ entriesOf (happened g h) hs
+entriesOf gauge [] = []
+entriesOf gauge (h ∷ hs) = record { what = h; shadow = gauge .meter .cells .block .shadow } ∷ entriesOf (happened gauge h) hs
 
 -- the previous c is kept as z + 2^15
 abbrev pub ledgerOf : Meter → Ledger
-ledgerOf m = record { profile = m .cells .profile; last = value 15 (m .flow .trace .last); made = m .flow .average .made; mark = m .charge .mark }
+ledgerOf meter =
+    record { profile = meter .cells .profile; last = value 15 (meter .flow .trace .last); made = meter .flow .average .made; mark = meter .charge .mark }
 
 abbrev pub sumOver : Gauge → List Happening → ℤ
-sumOver g hs = bookedSum (ledgerOf (g .meter)) (conversionsIn (g .meter .flow .tick) (entriesOf g hs))
+sumOver gauge hs = bookedSum (ledgerOf (gauge .meter)) (conversionsIn (gauge .meter .flow .tick) (entriesOf gauge hs))
 
 -- "defined from events and shadow bytes, not from the count": it is the same for the same gauge with any other count
 abbrev pub recounted : Gauge → ℕ → Gauge
-recounted g n =
-    let m = g .meter in
+recounted gauge n =
+    let m = gauge .meter in
     let c = m .charge in
     record {
-      common = g .common;
-      label = g .label;
+      common = gauge .common;
+      label = gauge .label;
       meter = record {
         cells = m .cells;
         charge = record { count = n; age = c .age; aging = c .aging; learnf = c .learnf; mark = c .mark };
@@ -129,7 +130,7 @@ FromEvents = (g : Gauge) (n : ℕ) (hs : List Happening) → sumOver (recounted 
 
 -- "ACR × 4,096 + fraction"
 abbrev pub countIn : Meter → ℤ
-countIn m = pos (acrOf (m .charge .count) * 4096 + fractionOf (m .charge .count))
+countIn meter = pos (acrOf (meter .charge .count) * 4096 + fractionOf (meter .charge .count))
 
 -- ---- where the books are not kept
 
@@ -138,13 +139,14 @@ abbrev pub unclamped : ℤ → Bool
 unclamped z = both (leZ (pos 0) z) (leZ z (pos (2 ^ 28 - 1)))
 
 abbrev pub convertsNow : Meter → ℕ → Converts
-convertsNow m raw = record { raw = raw; shadow = m .cells .block .shadow }
+convertsNow meter raw = record { raw = raw; shadow = meter .cells .block .shadow }
 
 -- "no full .. correction", of each of so many conversions
 abbrev pub steady : Meter → ℕ → ℕ → Bool
-steady m raw zero = true
-steady m raw (suc n) =
-    both (not (correctsFull m raw)) (both (unclamped (countIn m +ℤ booked (ledgerOf m) (convertsNow m raw))) (steady (convertOf m raw) raw n))
+steady meter raw zero = true
+steady meter raw (suc n) =
+    both (not (correctsFull meter raw))
+    (both (unclamped (countIn meter +ℤ booked (ledgerOf meter) (convertsNow meter raw))) (steady (convertOf meter raw) raw n))
 
 -- "no ACR write": the pack is selected, and a write runs over 10h and 11h
 abbrev pub isWrite : Command → Bool
@@ -156,24 +158,26 @@ isWrite Lock = false
 isWrite Nothing = false
 
 abbrev pub writesAcr : Gauge → Transaction → List ℕ → Bool
-writesAcr g t master =
-    let bytes = drop (t .from) master in
-    both (selectedOf (g .common .address) t master) (both (isWrite (t .command)) (both (reachesOf (t .address) bytes 0x10) (reachesOf (t .address) bytes 0x11)))
+writesAcr gauge transaction master =
+    let bytes = drop (transaction .from) master in
+    both (selectedOf (gauge .common .address) transaction master)
+    (both (isWrite (transaction .command)) (both (reachesOf (transaction .address) bytes 0x10) (reachesOf (transaction .address) bytes 0x11)))
 
 abbrev pub acrWritten : Transaction → List ℕ → ℕ
-acrWritten t master = let bytes = drop (t .from) master in joinedOf (byteFor (t .address) bytes 0x10) (byteFor (t .address) bytes 0x11)
+acrWritten transaction master =
+    let bytes = drop (transaction .from) master in joinedOf (byteFor (transaction .address) bytes 0x10) (byteFor (transaction .address) bytes 0x11)
 
 abbrev pub keepsBooks : Gauge → Happening → Bool
-keepsBooks g (imaged f p) = false
-keepsBooks g (changed (Reading volt temp)) = not (correctsEmpty (g .meter) volt temp)
-keepsBooks g (changed (Conversion raw)) = steady (g .meter) raw 1
-keepsBooks g (changed (Sample raw tick)) = steady (g .meter) raw (elapsedOf (g .meter .flow .tick) tick)
-keepsBooks g (changed PowerOn) = false
-keepsBooks g (transacted t master) = not (writesAcr g t master)
+keepsBooks gauge (imaged f p) = false
+keepsBooks gauge (changed (Reading volt temp)) = not (correctsEmpty (gauge .meter) volt temp)
+keepsBooks gauge (changed (Conversion raw)) = steady (gauge .meter) raw 1
+keepsBooks gauge (changed (Sample raw tick)) = steady (gauge .meter) raw (elapsedOf (gauge .meter .flow .tick) tick)
+keepsBooks gauge (changed PowerOn) = false
+keepsBooks gauge (transacted t master) = not (writesAcr gauge t master)
 
 abbrev pub BooksKept : Gauge → List Happening → Type 0
-BooksKept g [] = Unit
-BooksKept g (h ∷ hs) = (keepsBooks g h ≡ true) × BooksKept (happened g h) hs
+BooksKept gauge [] = Unit
+BooksKept gauge (h ∷ hs) = (keepsBooks gauge h ≡ true) × BooksKept (happened gauge h) hs
 
 -- ---- and where they are not, there is a reason: each of these sets ACR, or clamps
 

@@ -50,9 +50,9 @@ Selects = Transaction → List ℕ → Bool
 
 -- "an unselected transaction, a net address read .. touches none"
 unfoldable pub touchedOf : Selects → Transaction → List ℕ → List ℕ
-touchedOf selects t master =
-    pick (selects t master)
-    (touchedBy (t .command) (t .address) (t .count) (length (drop (t .from) master)))
+touchedOf selects transaction master =
+    pick (selects transaction master)
+    (touchedBy (transaction .command) (transaction .address) (transaction .count) (length (drop (transaction .from) master)))
     []
 
 -- ---- the class of a transaction

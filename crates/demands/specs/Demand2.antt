@@ -66,14 +66,14 @@ pub record Fresh (f : Profile) (after : List ℕ) (e : Call Session) : Type 0 wh
 
 -- the breakpoints in the EEPROM are not "TBP12 ≤ TBP23 ≤ TBP34 ≤ 40 as signed bytes"
 abbrev pub eepromBreaks : Gauge → Breaks
-eepromBreaks g = breaksOf (g .meter .cells .block .eeprom)
+eepromBreaks gauge = breaksOf (gauge .meter .cells .block .eeprom)
 
 abbrev pub Crossed : Gauge → Type 0
-Crossed g = orderedOf (eepromBreaks g) ≡ false
+Crossed gauge = orderedOf (eepromBreaks gauge) ≡ false
 
 -- what the fresh gauge answers to the image
 abbrev pub AnswersImage : Profile → Call Session → ℕ → Type 0
-AnswersImage f e answer = linesIn didOf emptyOf e ≡ record { kind = imageKind f; answer = answer; reply = [] } ∷ []
+AnswersImage profile e answer = linesIn didOf emptyOf e ≡ record { kind = imageKind profile; answer = answer; reply = [] } ∷ []
 
 -- it is refused, and the fresh gauge is as it was
 pub record Declined (f : Profile) (e : Call Session) : Type 0 where

@@ -69,7 +69,7 @@ module _ {S : Type 0} (did : S → ℕ → Rec → Did S) (start : S) (asked : �
 -- ---- of sessions: "the same accepted image first"
 
 abbrev pub SessionsMixed : Profile → List ℕ → List Rec → List Rec → Call Session → Call Session → Type 0
-SessionsMixed f p = Mixed didOf emptyOf sessionAsked (selectedOf (imageAddress p)) (whole (imageKind f) p ∷ [])
+SessionsMixed profile p = Mixed didOf emptyOf sessionAsked (selectedOf (imageAddress p)) (whole (imageKind profile) p ∷ [])
 
 abbrev pub Demand3 : Type 0
 Demand3 = (f : Profile) (p : List ℕ) (xs ys : List Rec) (a b : Call Session) → takenOf (imageKind f) false p ≡ Run (Image f)
@@ -91,8 +91,8 @@ pub record Demand3Met (profile : Profile) : Type 0 where
 
 -- each image is accepted in its turn; profiles may be mixed
 abbrev pub Opens : Tray → List (Profile × List ℕ) → Type 0
-Opens τ [] = Unit
-Opens τ (x ∷ xs) = (trayTold τ (imageKind (x .0)) (x .1) ≡ Run (Image (x .0))) × Opens (packJoined τ (imageOf (x .0) (x .1))) xs
+Opens tray [] = Unit
+Opens tray (x ∷ xs) = (trayTold tray (imageKind (x .0)) (x .1) ≡ Run (Image (x .0))) × Opens (packJoined tray (imageOf (x .0) (x .1))) xs
 
 abbrev pub imageRecords : List (Profile × List ℕ) → List Rec
 imageRecords ps = map (λ x. whole (imageKind (x .0)) (x .1)) ps

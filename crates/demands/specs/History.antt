@@ -36,14 +36,14 @@ pub data Happening : Type 0 where
   transacted : Transaction → List ℕ → Happening
 
 abbrev pub happened : Gauge → Happening → Gauge
-happened g (imaged f p) = imageOf f p
-happened g (changed c) = changedOf g c
-happened g (transacted t master) = actOf g t master
+happened gauge (imaged f p) = imageOf f p
+happened gauge (changed c) = changedOf gauge c
+happened gauge (transacted t master) = actOf gauge t master
 
 -- one after the other
 abbrev pub lived : Gauge → List Happening → Gauge
-lived g [] = g
-lived g (h ∷ hs) = lived (happened g h) hs
+lived gauge [] = gauge
+lived gauge (h ∷ hs) = lived (happened gauge h) hs
 
 -- no image is accepted
 abbrev pub NoImage : Happening → Type 0
@@ -76,9 +76,9 @@ hearsOf every count j = ltb j count
 
 -- the next image is that of the first slot without a pack; a slot's event names its slot
 abbrev pub slotHears : ℕ → Tray → List ℕ → Event → Bool
-slotHears j τ p (Image f) = eqb j (τ .count)
-slotHears j τ p (Change c) = eqb j (slotIn p)
-slotHears j τ p (Transact t) = hearsOf (trayReach τ t (masterOf t p)) (τ .count) j
+slotHears j tray p (Image f) = eqb j (tray .count)
+slotHears j tray p (Change c) = eqb j (slotIn p)
+slotHears j tray p (Transact t) = hearsOf (trayReach tray t (masterOf t p)) (tray .count) j
 
 abbrev pub ofSlot : ℕ → Pack Tray
 ofSlot j = record { steps = ofTray; gauge = λ τ. packOf τ j; there = λ τ. ltb j (τ .count); hears = slotHears j }

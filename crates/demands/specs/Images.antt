@@ -16,4 +16,4 @@ isImage n = either (eqb n 1) (eqb n 8)
 
 -- the profile that a pack's image picked
 abbrev pub profileOf : Gauge → Profile
-profileOf g = g .meter .cells .profile
+profileOf gauge = gauge .meter .cells .profile

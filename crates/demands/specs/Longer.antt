@@ -34,7 +34,7 @@ payloadOf Short count master = count ∷ master
 payloadOf Long count master = (count % 256) ∷ (count / 256) ∷ master
 
 abbrev pub recordIn : Form → ℕ → List ℕ → Rec
-recordIn f count master = whole (formKind f) (payloadOf f count master)
+recordIn form count master = whole (formKind form) (payloadOf form count master)
 
 -- "allowed": neither the read count nor the master bytes are more than the form takes
 pub record AllowedIn (f : Form) (count : ℕ) (master : List ℕ) : Type 0 where
@@ -72,14 +72,14 @@ OneClass classes = (f g : Form) (count : ℕ) (master : List ℕ) → AllowedIn 
 
 -- so many bytes from an address on, after CCh
 abbrev pub reading : Form → ℕ → ℕ → Rec
-reading f a count = recordIn f count (0xcc ∷ 0x69 ∷ a ∷ [])
+reading form a count = recordIn form count (0xcc ∷ 0x69 ∷ a ∷ [])
 
 abbrev pub quarters : List Rec
 quarters = reading Short 0x00 64 ∷ reading Short 0x40 64 ∷ reading Short 0x80 64 ∷ reading Short 0xc0 64 ∷ []
 
 -- the bytes from 00h to FFh
 abbrev pub wholeMap : Gauge → List ℕ
-wholeMap g = listed (readByte (g .common) (g .label) (g .meter)) 0 256
+wholeMap gauge = listed (readByte (gauge .common) (gauge .label) (gauge .meter)) 0 256
 
 -- ---- "Kind 4 keeps its form and limits, so stored sessions mean what they meant": 01's own numbers
 

@@ -24,7 +24,7 @@ use Rattle.runs.specs.SessionRecord.{didOf, loadedWith}
 use Rattle.session_run.specs.SessionRun.{emptyOf}
 use Rattle.demands.specs.Call.{Call, Allowed, linesIn, Told}
 
--- what `write` says of an image, wanted bytes and a room, and what the room then holds. Its first 120 bytes are the session of c, with answers lent
+-- what `write_session` says of an image, wanted bytes and a room, and what the room then holds. Its first 120 bytes are the session of c, with answers lent
 -- for as many records as they may hold
 pub record Bench (image wanted room : List ℕ) (said : Written) (after : List ℕ) (c : Call Session) : Type 0 where
   pub wrote : Programming image wanted room said after
@@ -75,7 +75,7 @@ BenchTheorem =
     (image wanted room : List ℕ) (said : Written) (after : List ℕ) (c : Call Session) → Granted image wanted (length room)
     → Bench image wanted room said after c → BenchHolds image wanted said c
 
--- and so of every call of `write` that says `Done`, whatever it was given: it was such then
+-- and so of every call of `write_session` that says `Done`, whatever it was given: it was such then
 abbrev pub DoneTheorem : Type 0
 DoneTheorem =
     (image wanted room after : List ℕ) (c : Call Session) → Bench image wanted room Done after c

@@ -47,10 +47,10 @@ oneByOne last (s ∷ ss) = replicate (elapsedOf last (tickIn s)) (converting s) 
 
 -- a state but for its tick
 abbrev pub untickedGauge : Gauge → Gauge
-untickedGauge g = withMeter g (withFlow (g .meter) (withTick (g .meter .flow) noTick))
+untickedGauge gauge = withMeter gauge (withFlow (gauge .meter) (withTick (gauge .meter .flow) noTick))
 
 abbrev pub unticked : Session → Session
-unticked σ = record { loaded = σ .loaded; gauge = untickedGauge (σ .gauge) }
+unticked session = record { loaded = session .loaded; gauge = untickedGauge (session .gauge) }
 
 abbrev pub Slow : Type 0
 Slow = (g : Gauge) (room : ℕ) (ss : List Sample) → Timely (g .meter .flow .tick) ss

@@ -29,16 +29,16 @@ pub data Memory : Type 0 where
   block0 block1 : Memory
 
 abbrev pub shadowIn : Memory → Gauge → List ℕ
-shadowIn block0 g = g .label .shadow
-shadowIn block1 g = g .meter .cells .block .shadow
+shadowIn block0 gauge = gauge .label .shadow
+shadowIn block1 gauge = gauge .meter .cells .block .shadow
 
 abbrev pub eepromIn : Memory → Gauge → List ℕ
-eepromIn block0 g = g .label .eeprom
-eepromIn block1 g = g .meter .cells .block .eeprom
+eepromIn block0 gauge = gauge .label .eeprom
+eepromIn block1 gauge = gauge .meter .cells .block .eeprom
 
 abbrev pub lockedIn : Memory → Gauge → Bool
-lockedIn block0 g = g .common .bl0
-lockedIn block1 g = g .meter .cells .locks .bl1
+lockedIn block0 gauge = gauge .common .bl0
+lockedIn block1 gauge = gauge .meter .cells .locks .bl1
 
 abbrev pub hasAddress : Memory → ℕ → Bool
 hasAddress block0 a = inLabel a
@@ -60,19 +60,20 @@ isCopy Nothing = false
 
 -- the pack is selected, and a 48h names an address of the block, which is unlocked
 abbrev pub copyActs : Memory → Gauge → Transaction → List ℕ → Bool
-copyActs b g t master =
-    both (selectedOf (g .common .address) t master) (both (isCopy (t .command)) (butNot (hasAddress b (t .address)) (lockedIn b g)))
+copyActs b gauge transaction master =
+    both (selectedOf (gauge .common .address) transaction master)
+    (both (isCopy (transaction .command)) (butNot (hasAddress b (transaction .address)) (lockedIn b gauge)))
 
 -- a power-on is no copy
 abbrev pub storedBy : Memory → Gauge → List ℕ → Happening → List ℕ
-storedBy b g bytes (imaged f p) = imageIn b p
-storedBy b g bytes (changed c) = bytes
-storedBy b g bytes (transacted t master) = pick (copyActs b g t master) (shadowIn b g) bytes
+storedBy b gauge bytes (imaged f p) = imageIn b p
+storedBy b gauge bytes (changed c) = bytes
+storedBy b gauge bytes (transacted t master) = pick (copyActs b gauge t master) (shadowIn b gauge) bytes
 
 -- of a history from the gauge g on, before which the bytes were stored
 abbrev pub storedLast : Memory → Gauge → List ℕ → List Happening → List ℕ
-storedLast b g bytes [] = bytes
-storedLast b g bytes (h ∷ hs) = storedLast b (happened g h) (storedBy b g bytes h) hs
+storedLast b gauge bytes [] = bytes
+storedLast b gauge bytes (h ∷ hs) = storedLast b (happened gauge h) (storedBy b gauge bytes h) hs
 
 -- ---- the theorem
 

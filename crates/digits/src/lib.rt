@@ -212,21 +212,21 @@ pub fn packed(n: usize) -> Twos
 }
 
 // Those of n made those of n + 1: ninety-nine times of a hundred one or two of them change, and nothing is divided but by 256.
-pub fn counted_up(n: usize, p: Twos) -> Twos
+pub fn counted_up(n: usize, twos: Twos) -> Twos
     requires { ⌜ n < 100000 ⌝ }
-    requires { ⌜ p ≡ packedOf n ⌝ }
+    requires { ⌜ twos ≡ packedOf n ⌝ }
     ensures { λ r. ⌜ r ≡ packedOf (n + 1) ⌝ }
 {
-    if p.low < 0x3900 {
+    if twos.low < 0x3900 {
         Twos {
-            high: p.high,
-            low: p.low + 0x100,
+            high: twos.high,
+            low: twos.low + 0x100,
         }
     } else {
-        if p.low % 256 < 57 {
+        if twos.low % 256 < 57 {
             Twos {
-                high: p.high,
-                low: p.low + 1 - 9 * 0x100,
+                high: twos.high,
+                low: twos.low + 1 - 9 * 0x100,
             }
         } else {
             packed(n + 1)
@@ -235,16 +235,16 @@ pub fn counted_up(n: usize, p: Twos) -> Twos
 }
 
 // The five digits of a number, of which the last four are packed.
-pub fn unpacked(p: Twos, n: usize) -> [u8; 5]
-    requires { ⌜ p ≡ packedOf n ⌝ }
+pub fn unpacked(twos: Twos, n: usize) -> [u8; 5]
+    requires { ⌜ twos ≡ packedOf n ⌝ }
     ensures { λ r. ⌜ r ≡ placesOf n ⌝ }
 {
     [
         (48 + n / 10000 % 10) as u8,
-        (p.high % 256) as u8,
-        (p.high / 256) as u8,
-        (p.low % 256) as u8,
-        (p.low / 256) as u8,
+        (twos.high % 256) as u8,
+        (twos.high / 256) as u8,
+        (twos.low % 256) as u8,
+        (twos.low / 256) as u8,
     ]
 }
 

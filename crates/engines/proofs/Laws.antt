@@ -28,7 +28,7 @@ use Rattle.runs.specs.declared.Session.{Session}
 use Rattle.runs.specs.SessionRecord.{didOf}
 use Rattle.session_run.specs.declared.Ran.{Ran}
 use Rattle.session_run.specs.SessionRun.{emptyOf, resultOf}
-use Rattle.engines.specs.Engines.{sizeWords, chargeSound, averageSound, soundOf, linesText, gaugeAfter, comparedSpeech}
+use Rattle.engines.specs.Engines.{enginesSizeWords, chargeSound, averageSound, soundOf, engineLines, gaugeAfter, comparedSpeech}
 
 -- ---- a sound meter is well-formed
 
@@ -77,7 +77,7 @@ ended s replies answers r after told short few fits runs =
 -- its lines are said
 pub lines-said : (s : List ℕ) {room after : List ℕ} {g : Gauge} {raw n count : ℕ} → both (leb 6 (length s)) (leb (length s) 32774) ≡ true
     → g ≡ gaugeAfter (drop 6 s) → raw ≡ offset32Of (quadAt s 0) → n ≡ pairAt s 4
-    → Writing 258 (linesText g raw n) room 0 count after → Saying (comparedSpeech s) room (record { stream = Output; count = count }) after
+    → Writing 258 (engineLines g raw n) room 0 count after → Saying (comparedSpeech s) room (record { stream = Output; count = count }) after
 unfolding comparedSpeech
 lines-said s fits eg er en w =
     let x = rw (eg, er, en) at w in
@@ -85,6 +85,6 @@ lines-said s fits eg er en w =
 
 -- ---- an input that is too long: its bytes do not matter
 
-pub alike : (s : List ℕ) → 32774 < length s → comparedSpeech s ≡ error (refusedText 4 sizeWords)
+pub alike : (s : List ℕ) → 32774 < length s → comparedSpeech s ≡ error (refusedText 4 enginesSizeWords)
 unfolding comparedSpeech
 alike s h = rw (le-leb 6 (length s) (omega arith), lt-leb (length s) 32774 h)

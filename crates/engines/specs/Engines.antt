@@ -26,37 +26,37 @@ use Rattle.session_run.specs.SessionRun.{emptyOf}
 abbrev pub enginesName : List ℕ
 enginesName = ascii "engines"
 
-abbrev pub sizeWords : List ℕ
-sizeWords = ascii "the input is not 6 to 32,774 bytes"
+abbrev pub enginesSizeWords : List ℕ
+enginesSizeWords = ascii "the input is not 6 to 32,774 bytes"
 
 -- ---- what an engine asks of a meter, as a test
 
 abbrev pub chargeSound : Charge → Bool
-chargeSound g = both (ltb (g .count) (2 ^ 28)) (both (ltb (g .age) (32 * 65535)) (both (leb 63 (g .aging)) (leb (g .aging) 128)))
+chargeSound charge = both (ltb (charge .count) (2 ^ 28)) (both (ltb (charge .age) (32 * 65535)) (both (leb 63 (charge .aging)) (leb (charge .aging) 128)))
 
 abbrev pub averageSound : Average → Bool
-averageSound a = both (ltb (a .made) 1024) (leb (a .sum) (65535 * runOf a))
+averageSound average = both (ltb (average .made) 1024) (leb (average .sum) (65535 * runOf average))
 
 unfoldable pub soundOf : Meter → Bool
-soundOf m =
-    both (both (chargeSound (m .charge)) (averageSound (m .flow .average)))
-    (both (leb (m .shown .model .full) 16384) (both (leb (m .shown .reading .volt) 1023) (ltb (m .shown .reading .temp) (2 ^ 11))))
+soundOf meter =
+    both (both (chargeSound (meter .charge)) (averageSound (meter .flow .average)))
+    (both (leb (meter .shown .model .full) 16384) (both (leb (meter .shown .reading .volt) 1023) (ltb (meter .shown .reading .temp) (2 ^ 11))))
 
 -- ---- the lines
 
 abbrev pub registersText : Common → Meter → List ℕ
-registersText k m = hexText lower (registersOf k m)
+registersText common meter = hexText lower (registersOf common meter)
 
 -- the registers of a meter, and those after 64 more conversions of no current: the run of eight and the age counter, which no register shows,
 -- come to light there
-abbrev pub lineText : Common → Meter → List ℕ
-lineText k m = registersText k m ++ (registersText k (sampledOf m (zeroAt 31) 64) ++ ascii "\n")
+abbrev pub meterLine : Common → Meter → List ℕ
+meterLine common meter = registersText common meter ++ (registersText common (sampledOf meter (zeroAt 31) 64) ++ ascii "\n")
 
 -- each engine takes n conversions of a raw current, and has a line; where none may be asked, there is no line
-unfoldable pub linesText : Gauge → ℕ → ℕ → List ℕ
-linesText g raw n =
-    let line = lineText (g .common) (sampledOf (g .meter) raw n) in
-    pick (soundOf (g .meter)) (line ++ line) []
+unfoldable pub engineLines : Gauge → ℕ → ℕ → List ℕ
+engineLines gauge raw n =
+    let line = meterLine (gauge .common) (sampledOf (gauge .meter) raw n) in
+    pick (soundOf (gauge .meter)) (line ++ line) []
 
 -- the gauge at the end of a session, with 65,536 bytes of reply room
 abbrev pub gaugeAfter : List ℕ → Gauge
@@ -67,8 +67,8 @@ gaugeAfter s = endAfter didOf emptyOf 65536 (recsOf s) .gauge
 unfoldable pub comparedSpeech : List ℕ → Speech
 comparedSpeech s =
     pick (both (leb 6 (length s)) (leb (length s) 32774))
-    (output (linesText (gaugeAfter (drop 6 s)) (offset32Of (quadAt s 0)) (pairAt s 4)))
-    (error (refusedText 4 sizeWords))
+    (output (engineLines (gaugeAfter (drop 6 s)) (offset32Of (quadAt s 0)) (pairAt s 4)))
+    (error (refusedText 4 enginesSizeWords))
 
 -- what is said of standard input s, or where a read of it failed
 abbrev pub comparedOf : Bool → List ℕ → Speech

@@ -13,80 +13,80 @@ ghost use lib.ListN.{length};
 ghost use Rattle.state.specs.State.{MeterWF};
 ghost use Rattle.digits.specs.Digits.{Writing};
 ghost use Rattle.streams.specs.Streams.{Front, Saying};
-ghost use Rattle.engines.specs.Engines.{averageSound, soundOf, registersText, lineText, linesText, comparedSpeech, comparedOf};
+ghost use Rattle.engines.specs.Engines.{averageSound, soundOf, registersText, meterLine, engineLines, comparedSpeech, comparedOf};
 
 // What an engine asks of the count of conversions and of the run of eight.
-fn average_sound(a: Average) -> bool
-    ensures { λ r. ⌜ r ≡ averageSound a ⌝ }
+fn average_sound(average: Average) -> bool
+    ensures { λ r. ⌜ r ≡ averageSound average ⌝ }
 {
     numbers::and(
-        a.made < 1024,
-        (a.sum as u64) <= 65535 * ((a.made % 8) as u64),
+        average.made < 1024,
+        (average.sum as u64) <= 65535 * ((average.made % 8) as u64),
     )
 }
 
 // What it asks of a meter. Each event keeps it, but `run` does not say so of the state at its end.
-fn sound(m: Meter) -> bool
-    ensures { λ r. ⌜ r ≡ soundOf m ⌝ }
+fn sound(meter: Meter) -> bool
+    ensures { λ r. ⌜ r ≡ soundOf meter ⌝ }
 {
-    let count = m.charge.count < 268435456;
-    let age = m.charge.age < 2097120;
-    let aging = numbers::and(63 <= m.charge.aging, m.charge.aging <= 128);
+    let count = meter.charge.count < 268435456;
+    let age = meter.charge.age < 2097120;
+    let aging = numbers::and(63 <= meter.charge.aging, meter.charge.aging <= 128);
     let charge = numbers::and(count, numbers::and(age, aging));
-    let average = average_sound(m.flow.average);
-    let full = m.shown.model.full <= 16384;
-    let volt = m.shown.reading.volt <= 1023;
-    let temp = m.shown.reading.temp < 2048;
+    let average = average_sound(meter.flow.average);
+    let full = meter.shown.model.full <= 16384;
+    let volt = meter.shown.reading.volt <= 1023;
+    let temp = meter.shown.reading.temp < 2048;
     numbers::and(
         numbers::and(charge, average),
         numbers::and(full, numbers::and(volt, temp)),
     )
 }
 
-fn put_registers(k: Common, m: Meter, out: &mut [u8], at: usize) -> usize
-    requires { ⌜ MeterWF m ⌝ }
+fn put_registers(common: Common, meter: Meter, out: &mut [u8], at: usize) -> usize
+    requires { ⌜ MeterWF meter ⌝ }
     requires { ⌜ at + 64 ≤ length (now out) ⌝ }
-    ensures { λ r. ⌜ Writing 64 (registersText k m) (now (out .entry)) at r (now (out .exit)) ⌝ }
+    ensures { λ r. ⌜ Writing 64 (registersText common meter) (now (out .entry)) at r (now (out .exit)) ⌝ }
 {
     let table = digits::lower_pairs();
-    let bytes = registers::registers(k, m);
+    let bytes = registers::registers(common, meter);
     digits::put_hex(&table, &bytes, out, at)
 }
 
 // A meter as one line.
-fn put_line(k: Common, m: Meter, out: &mut [u8], at: usize) -> usize
-    requires { ⌜ MeterWF m ⌝ }
+fn put_line(common: Common, meter: Meter, out: &mut [u8], at: usize) -> usize
+    requires { ⌜ MeterWF meter ⌝ }
     requires { ⌜ at + 129 ≤ length (now out) ⌝ }
-    ensures { λ r. ⌜ Writing 129 (lineText k m) (now (out .entry)) at r (now (out .exit)) ⌝ }
+    ensures { λ r. ⌜ Writing 129 (meterLine common meter) (now (out .entry)) at r (now (out .exit)) ⌝ }
 {
-    let a = put_registers(k, m, out, at);
-    let later = samples::plain(m, numbers::ZERO31, 64);
-    let b = put_registers(k, later, out, a);
+    let a = put_registers(common, meter, out, at);
+    let later = samples::plain(meter, numbers::ZERO31, 64);
+    let b = put_registers(common, later, out, a);
     digits::put_byte(b'\n', out, b)
 }
 
 // The line of the plain engine and that of the quick one.
-fn put_lines(g: Gauge, raw: u32, n: u16, out: &mut [u8]) -> usize
+fn put_lines(gauge: Gauge, raw: u32, n: u16, out: &mut [u8]) -> usize
     requires { ⌜ 258 ≤ length (now out) ⌝ }
-    ensures { λ r. ⌜ Writing 258 (linesText g raw n) (now (out .entry)) 0 r (now (out .exit)) ⌝ }
+    ensures { λ r. ⌜ Writing 258 (engineLines gauge raw n) (now (out .entry)) 0 r (now (out .exit)) ⌝ }
 {
-    if sound(g.meter) {
-        let next = put_line(g.common, samples::plain(g.meter, raw, n), out, 0);
-        return put_line(g.common, samples::quick(g.meter, raw, n), out, next);
+    if sound(gauge.meter) {
+        let next = put_line(gauge.common, samples::plain(gauge.meter, raw, n), out, 0);
+        return put_line(gauge.common, samples::quick(gauge.meter, raw, n), out, next);
     }
     0
 }
 
-fn put_compared(s: &[u8], room: &mut [u8]) -> Said
+fn put_compared(bytes: &[u8], room: &mut [u8]) -> Said
     requires { ⌜ length (now room) ≡ 258 ⌝ }
-    ensures { λ r. ⌜ Saying (comparedSpeech (now (s .entry))) (now (room .entry)) r (now (room .exit)) ⌝ }
+    ensures { λ r. ⌜ Saying (comparedSpeech (now (bytes .entry))) (now (room .entry)) r (now (room .exit)) ⌝ }
 {
-    if numbers::and(6 <= s.len(), s.len() <= 32774) {
-        let raw = numbers::offset32(slices::quad(s, 0));
-        let n = slices::pair(s, 4);
+    if numbers::and(6 <= bytes.len(), bytes.len() <= 32774) {
+        let raw = numbers::offset32(slices::quad(bytes, 0));
+        let n = slices::pair(bytes, 4);
         let mut replies = [0u8; 65536];
         let mut answers = [0u64; 8192];
-        let ran = session_run::run(&s[6..], &mut replies, &mut answers);
+        let ran = session_run::run(&bytes[6..], &mut replies, &mut answers);
         let count = put_lines(ran.session.gauge, raw, n, room);
         let stream = Stream::Output;
         return Said {

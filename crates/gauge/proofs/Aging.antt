@@ -13,7 +13,7 @@ use Rattle.state.specs.State.{acrOf, elapsedOf, poweredOf}
 use Rattle.conversion.specs.Conversion.{setOf, markedOf, filledOf, settledOf, flowedOf, convertOf, currentIn, chargeIn}
 use Rattle.conversion.proofs.ChargeLaws.{counted-stays}
 use Rattle.state.specs.declared.Meter.{Meter}
-use Rattle.reading.specs.Reading.{readOf, drainedOf, shownOf, emptiedOf}
+use Rattle.reading.specs.Reading.{readOf, drainedOf, resultsShown, emptiedOf}
 use Rattle.samples.specs.Samples.{sampledOf, sampleOf}
 use Rattle.samples.proofs.Laws.{neither}
 use Rattle.block1.specs.Block1.{reachesOf, byteFor, acrWrittenOf, meterWrittenOf, meterCopiedOf, meterRecalledOf, meterLockedOf}
@@ -70,7 +70,7 @@ acr-written-stays g a bytes =
 -- ---- all events
 
 changed-stays : (g : Gauge) (c : Change) → setsAging (g .meter) c ≡ false → agingOf (changedOf g c) ≡ agingOf g
-unfolding readingOf readOf drainedOf shownOf conversionOf samplingOf sampleOf sampledOf
+unfolding readingOf readOf drainedOf resultsShown conversionOf samplingOf sampleOf sampledOf
 changed-stays g (Reading volt temp) e = emptied-stays (g .meter .charge) _ _ _
 changed-stays g (Conversion raw) e = sampled-stays (g .meter) raw 1 e
 changed-stays g (Sample raw tick) e = sampled-stays (g .meter) raw (elapsedOf (g .meter .flow .tick) tick) e

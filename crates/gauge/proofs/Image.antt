@@ -22,7 +22,7 @@ use Rattle.record.specs.declared.Taken.the-variants.{Run, Refused}
 use Rattle.record.specs.Image.{imageAddress, imageLabel, imageBlock, acrAt}
 use Rattle.record.specs.Record.{addressedOf, orderedOf, judgedAmong, judgedBy}
 use Rattle.gauge.specs.Gauge.{Sized, Uncounted, powerOnOf}
-use Rattle.gauge.specs.Image.{imageOf, lockByte, cycleCell, endOf, bytesOf, sizeFor}
+use Rattle.gauge.specs.Image.{imageOf, lockByte, cycleCell, imageEnd, bytesOf, sizeFor}
 
 -- ---- parts of 8, 16 and 32 bytes, and what stands after them
 
@@ -86,7 +86,7 @@ few Ds2775 = omega arith
 pub size-few : (g : Gauge) → sizeFor g ≤ 61
 size-few g = few (g .meter .cells .profile)
 
-pub end-length : (g : Gauge) → 56 + length (endOf g) ≡ sizeFor g
+pub end-length : (g : Gauge) → 56 + length (imageEnd g) ≡ sizeFor g
 end-length g = omega (arith, cell-length (g .meter .cells .profile) (g .meter .cells .saved .cycles))
 
 -- what stands in the image of a gauge
@@ -95,7 +95,7 @@ record Holds (g : Gauge) (p : List ℕ) : Type 0 where
   address : imageAddress p ≡ g .common .address
   label : imageLabel p ≡ g .label .eeprom
   block : imageBlock p ≡ g .meter .cells .block .eeprom
-  byte : (i : ℕ) → getD p (acrAt + i) 0 ≡ getD (endOf g) i 0
+  byte : (i : ℕ) → getD p (acrAt + i) 0 ≡ getD (imageEnd g) i 0
 
 image-holds : (g : Gauge) → Sized g → Holds g (bytesOf g)
 unfolding bytesOf
@@ -104,11 +104,11 @@ image-holds g z =
     let e = g .label .eeprom in
     let b = g .meter .cells .block .eeprom in
     record {
-      size = joint-length a e b (endOf g) (z .address) (z .label .eeprom) (z .block .eeprom) ∙ end-length g;
-      address = joint-address a e b (endOf g) (z .address) (z .label .eeprom) (z .block .eeprom);
-      label = joint-label a e b (endOf g) (z .address) (z .label .eeprom) (z .block .eeprom);
-      block = joint-block a e b (endOf g) (z .address) (z .label .eeprom) (z .block .eeprom);
-      byte = joint-byte a e b (endOf g) (z .address) (z .label .eeprom) (z .block .eeprom);
+      size = joint-length a e b (imageEnd g) (z .address) (z .label .eeprom) (z .block .eeprom) ∙ end-length g;
+      address = joint-address a e b (imageEnd g) (z .address) (z .label .eeprom) (z .block .eeprom);
+      label = joint-label a e b (imageEnd g) (z .address) (z .label .eeprom) (z .block .eeprom);
+      block = joint-block a e b (imageEnd g) (z .address) (z .label .eeprom) (z .block .eeprom);
+      byte = joint-byte a e b (imageEnd g) (z .address) (z .label .eeprom) (z .block .eeprom);
     }
 
 -- read in again it is a power-on

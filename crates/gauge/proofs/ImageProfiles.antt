@@ -13,7 +13,7 @@ use Rattle.state.specs.declared.Profile.the-variants.{Ds2781, Ds2775}
 use Rattle.state.specs.State.{countsCycles, poweredOf}
 use Rattle.state.specs.declared.Meter.{Meter}
 use Rattle.record.specs.Image.{imageSize, imageLocks, imageBreaks}
-use Rattle.record.specs.Record.{numberOf, judgedAmong}
+use Rattle.record.specs.Record.{takenNumber, judgedAmong}
 use Rattle.gauge.specs.Gauge.{NoCycles}
 use Rattle.gauge.specs.Profiles.{baseMeter, baseOf}
 use Rattle.gauge.specs.Image.{imageOf, bytesOf}
@@ -23,9 +23,9 @@ use Rattle.gauge.proofs.Reached.{reached-uncounted}
 -- ---- judged
 
 judged-alike : (f h : Profile) (again : Bool) (p q : List ℕ) → AsGood f h p q → imageLocks p ≡ imageLocks q → imageBreaks p ≡ imageBreaks q
-    → numberOf (judgedAmong f again p) ≡ numberOf (judgedAmong h again q)
+    → takenNumber (judgedAmong f again p) ≡ takenNumber (judgedAmong h again q)
 unfolding judgedAmong
-judged-alike f h again p q good locks breaks = rw (good .size, good .address, locks, breaks) (simp (through numberOf))
+judged-alike f h again p q good locks breaks = rw (good .size, good .address, locks, breaks) (simp (through takenNumber))
 
 -- ---- in
 

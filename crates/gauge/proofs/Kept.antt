@@ -9,7 +9,7 @@ use Rattle.state.specs.declared.Profile.{Profile}
 use Rattle.conversion.specs.Conversion.{cycledOf, flowedOf, convertOf}
 use Rattle.state.specs.declared.Charge.{Charge}
 use Rattle.state.specs.declared.Saved.{Saved}
-use Rattle.reading.specs.Reading.{keptOf, readOf, drainedOf, shownOf}
+use Rattle.reading.specs.Reading.{keptOf, readOf, drainedOf, resultsShown}
 use Rattle.state.specs.declared.Locks.{Locks}
 use Rattle.state.specs.declared.Block.{Block}
 use Rattle.block1.specs.Block1.{withCells, withLocks, meterWrittenOf, meterCopiedOf, meterRecalledOf, meterLockedOf}
@@ -94,7 +94,7 @@ saved-untouched g t master =
 
 -- profile and address never change: what holds of them is kept
 pub address-kept : (P : Profile → List ℕ → Type 0) → Kept (λ g. P (g .meter .cells .profile) (g .common .address))
-unfolding conversionOf readingOf powerOnOf convertOf flowedOf readOf shownOf poweredOf writtenOf copiedOf recalledOf lockedOf commonLockedOf meterWrittenOf meterCopiedOf meterRecalledOf meterLockedOf
+unfolding conversionOf readingOf powerOnOf convertOf flowedOf readOf resultsShown poweredOf writtenOf copiedOf recalledOf lockedOf commonLockedOf meterWrittenOf meterCopiedOf meterRecalledOf meterLockedOf
 address-kept P = record {
   change = changed _ (record { conversion = λ g raw p. p; tick = λ g tick p. p; reading = λ g volt temp p. p; power-on = λ g p. p });
   act = acted _ (record { written = λ g a bytes p. p; copied = λ g a p. p; recalled = λ g a p. p; locked = λ g a p. p });
@@ -107,7 +107,7 @@ none-saved s false g cycles now then = then
 
 -- without a cycle counter none is counted, and so none is saved
 pub uncounted-kept : Kept Uncounted
-unfolding conversionOf readingOf powerOnOf convertOf flowedOf cycledOf readOf shownOf poweredOf writtenOf copiedOf recalledOf lockedOf meterWrittenOf meterCopiedOf meterRecalledOf meterLockedOf
+unfolding conversionOf readingOf powerOnOf convertOf flowedOf cycledOf readOf resultsShown poweredOf writtenOf copiedOf recalledOf lockedOf meterWrittenOf meterCopiedOf meterRecalledOf meterLockedOf
 uncounted-kept = record {
   change = changed Uncounted (record {
     conversion = λ g raw h e. record { count = rw e (h e .count); rest = rw e (h e .rest); saved = h e .saved };
@@ -140,7 +140,7 @@ locked-label-eeprom bytes = record {
 
 -- a locked block 1 stays locked, and its EEPROM never changes
 pub locked-block-eeprom : (bytes : List ℕ) → Kept (λ g. (g .meter .cells .locks .bl1 ≡ true) × (g .meter .cells .block .eeprom ≡ bytes))
-unfolding conversionOf readingOf powerOnOf convertOf flowedOf readOf shownOf poweredOf writtenOf copiedOf recalledOf lockedOf meterWrittenOf meterCopiedOf meterRecalledOf meterLockedOf
+unfolding conversionOf readingOf powerOnOf convertOf flowedOf readOf resultsShown poweredOf writtenOf copiedOf recalledOf lockedOf meterWrittenOf meterCopiedOf meterRecalledOf meterLockedOf
 locked-block-eeprom bytes = record {
   change = changed _ (record { conversion = λ g raw p. p; tick = λ g tick p. p; reading = λ g volt temp p. p; power-on = λ g p. p });
   act = acted _ (record {
@@ -153,7 +153,7 @@ locked-block-eeprom bytes = record {
 
 -- the arrays keep their sizes
 pub sized-kept : Kept Sized
-unfolding conversionOf readingOf powerOnOf convertOf flowedOf readOf shownOf poweredOf writtenOf copiedOf recalledOf lockedOf commonLockedOf meterWrittenOf meterCopiedOf meterRecalledOf meterLockedOf
+unfolding conversionOf readingOf powerOnOf convertOf flowedOf readOf resultsShown poweredOf writtenOf copiedOf recalledOf lockedOf commonLockedOf meterWrittenOf meterCopiedOf meterRecalledOf meterLockedOf
 sized-kept = record {
   change = changed Sized (record {
     conversion = λ g raw z. record { address = z .address; label = z .label; block = z .block };
@@ -202,5 +202,5 @@ module _ (g : Gauge) (a : ℕ) (label : inLabel a ≡ false) (block : inBlock a 
 pub save-ignores-locks : (g : Gauge) (common : Common) (locks : Locks) (volt temp : ℕ) →
     readingOf (record { common = common; label = g .label; meter = withCells (g .meter) (withLocks (g .meter .cells) locks) }) volt temp .meter .cells .saved
     ≡ readingOf g volt temp .meter .cells .saved
-unfolding readingOf readOf drainedOf shownOf
+unfolding readingOf readOf drainedOf resultsShown
 save-ignores-locks g common locks volt temp = refl

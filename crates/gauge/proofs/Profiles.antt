@@ -18,7 +18,7 @@ use Rattle.params.specs.declared.Counting.{Counting}
 use Rattle.params.specs.Params.{countingOf}
 use Rattle.state.specs.declared.Charge.{Charge}
 use Rattle.conversion.specs.Conversion.{blankedOf, countedOf, cycledOf, withCharge, flowedOf, convertOf, currentIn}
-use Rattle.reading.specs.Reading.{keptOf, readOf, drainedOf, shownOf}
+use Rattle.reading.specs.Reading.{keptOf, readOf, drainedOf, resultsShown}
 use Rattle.state.specs.declared.Meter.{Meter}
 use Rattle.samples.specs.Samples.{sampledOf, tickedOf, sampleOf}
 use Rattle.samples.proofs.Laws.{neither}
@@ -101,7 +101,7 @@ none-saved true = refl
 none-saved false = refl
 
 changed-alike : (g : Gauge) (c : Change) → meetsEdge (g .meter) c ≡ false → baseOf (changedOf g c) ≡ changedOf (baseOf g) c
-unfolding readingOf readOf drainedOf shownOf keptOf conversionOf samplingOf sampleOf sampledOf powerOnOf poweredOf
+unfolding readingOf readOf drainedOf resultsShown keptOf conversionOf samplingOf sampleOf sampledOf powerOnOf poweredOf
 changed-alike g (Reading volt temp) e = rw none-saved refl
 changed-alike g (Conversion raw) e = ap (withMeter g) (sampled-alike (g .meter) raw 1 e)
 changed-alike g (Sample raw tick) e =

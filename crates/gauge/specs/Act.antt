@@ -13,12 +13,12 @@ use Rattle.gauge.specs.Gauge.{writtenOf, copiedOf, recalledOf, lockedOf}
 
 -- the function command at the address a, with the master bytes after it
 abbrev pub ranBy : Command → Gauge → ℕ → List ℕ → Gauge
-ranBy Read g a bytes = g
-ranBy Write g a bytes = writtenOf g a bytes
-ranBy Copy g a bytes = copiedOf g a
-ranBy Recall g a bytes = recalledOf g a
-ranBy Lock g a bytes = lockedOf g a
-ranBy Nothing g a bytes = g
+ranBy Read gauge a bytes = gauge
+ranBy Write gauge a bytes = writtenOf gauge a bytes
+ranBy Copy gauge a bytes = copiedOf gauge a
+ranBy Recall gauge a bytes = recalledOf gauge a
+ranBy Lock gauge a bytes = lockedOf gauge a
+ranBy Nothing gauge a bytes = gauge
 
 -- the commands that can change a gauge: the code hands it to these alone, since with the others `ranBy` leaves it as it is
 abbrev pub canChange : Command → Bool
@@ -30,12 +30,12 @@ canChange Lock = true
 canChange Nothing = false
 
 unfoldable pub ranOf : Gauge → Transaction → List ℕ → Gauge
-ranOf g t master = ranBy (t .command) g (t .address) (drop (t .from) master)
+ranOf gauge transaction master = ranBy (transaction .command) gauge (transaction .address) (drop (transaction .from) master)
 
 -- the gauge after a transaction: where nothing is selected, nothing happens
 unfoldable pub actOf : Gauge → Transaction → List ℕ → Gauge
-actOf g t master = pick (selectedOf (g .common .address) t master) (ranOf g t master) g
+actOf gauge transaction master = pick (selectedOf (gauge .common .address) transaction master) (ranOf gauge transaction master) gauge
 
 -- its reply, by the gauge before it
 unfoldable pub replyOf : Gauge → Transaction → List ℕ → List ℕ
-replyOf g t master = repliedOf (selectedOf (g .common .address) t master) (g .common) (g .label) (g .meter) t
+replyOf gauge transaction master = repliedOf (selectedOf (gauge .common .address) transaction master) (gauge .common) (gauge .label) (gauge .meter) transaction

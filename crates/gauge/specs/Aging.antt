@@ -20,35 +20,35 @@ use Rattle.gauge.specs.Act.{actOf}
 
 -- AS
 abbrev pub agingOf : Gauge → ℕ
-agingOf g = g .meter .charge .aging
+agingOf gauge = gauge .meter .charge .aging
 
 -- ---- in a conversion of a raw current
 
 -- ageing: AC is not 0, and with this fall of ACR the counter "is at least 32 × AC"
 abbrev pub agesIn : Meter → ℕ → Bool
-agesIn m raw =
-    let ac = countingOf (m .cells .block .shadow) .ac in
-    butNot (leb (32 * ac) (m .charge .age + fallOf (m .charge .count) (chargeIn m raw .count))) (eqb ac 0)
+agesIn meter raw =
+    let ac = countingOf (meter .cells .block .shadow) .ac in
+    butNot (leb (32 * ac) (meter .charge .age + fallOf (meter .charge .count) (chargeIn meter raw .count))) (eqb ac 0)
 
 -- learning: full is found, "if LEARNF and Full40 > 0"
 abbrev pub learnsIn : Meter → ℕ → Bool
-learnsIn m raw = both (correctsFull m raw) (both (chargeIn m raw .learnf) (ltb 0 (capacityOf (m .cells .block .shadow) .full40)))
+learnsIn meter raw = both (correctsFull meter raw) (both (chargeIn meter raw .learnf) (ltb 0 (capacityOf (meter .cells .block .shadow) .full40)))
 
 -- ---- in an event
 
 -- in one of n conversions, each in the meter that those before it leave
 abbrev pub setsOver : Meter → ℕ → ℕ → Bool
-setsOver m raw zero = false
-setsOver m raw (suc n) =
-    let before = sampledOf m raw n in
-    either (setsOver m raw n) (either (agesIn before raw) (learnsIn before raw))
+setsOver meter raw zero = false
+setsOver meter raw (suc n) =
+    let before = sampledOf meter raw n in
+    either (setsOver meter raw n) (either (agesIn before raw) (learnsIn before raw))
 
 -- a conversion is one, a sample as many as ticks have elapsed
 abbrev pub setsAging : Meter → Change → Bool
-setsAging m (Reading volt temp) = false
-setsAging m (Conversion raw) = setsOver m raw 1
-setsAging m (Sample raw tick) = setsOver m raw (elapsedOf (m .flow .tick) tick)
-setsAging m PowerOn = true
+setsAging meter (Reading volt temp) = false
+setsAging meter (Conversion raw) = setsOver meter raw 1
+setsAging meter (Sample raw tick) = setsOver meter raw (elapsedOf (meter .flow .tick) tick)
+setsAging meter PowerOn = true
 
 -- ---- the law
 

@@ -5,7 +5,7 @@ use Rattle.gauge.specs.declared.Gauge.{Gauge}
 use Rattle.gauge.specs.Gauge.{conversionOf, samplingOf, readingOf, powerOnOf}
 
 abbrev pub changedOf : Gauge → Change → Gauge
-changedOf g (Reading volt temp) = readingOf g volt temp
-changedOf g (Conversion raw) = conversionOf g raw
-changedOf g (Sample raw tick) = samplingOf g raw tick
-changedOf g PowerOn = powerOnOf g
+changedOf gauge (Reading volt temp) = readingOf gauge volt temp
+changedOf gauge (Conversion raw) = conversionOf gauge raw
+changedOf gauge (Sample raw tick) = samplingOf gauge raw tick
+changedOf gauge PowerOn = powerOnOf gauge

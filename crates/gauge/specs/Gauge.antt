@@ -31,50 +31,50 @@ pub record NoCycles (m : Meter) : Type 0 where
   pub saved : m .cells .saved .cycles ≡ 0
 
 abbrev pub Uncounted : Gauge → Type 0
-Uncounted g = countsCycles (g .meter .cells .profile) ≡ false → NoCycles (g .meter)
+Uncounted gauge = countsCycles (gauge .meter .cells .profile) ≡ false → NoCycles (gauge .meter)
 
 -- a gauge with other parts
 abbrev pub withParts : Gauge → Label → Meter → Gauge
-withParts g l m = record { common = g .common; label = l; meter = m }
+withParts gauge label meter = record { common = gauge .common; label = label; meter = meter }
 
 abbrev pub withMeter : Gauge → Meter → Gauge
-withMeter g m = withParts g (g .label) m
+withMeter gauge meter = withParts gauge (gauge .label) meter
 
 -- ---- conversion, sample, reading, power-on
 
 unfoldable pub conversionOf : Gauge → ℕ → Gauge
-conversionOf g raw = withMeter g (convertOf (g .meter) raw)
+conversionOf gauge raw = withMeter gauge (convertOf (gauge .meter) raw)
 
 -- a sample that is taken: the conversions of its ticks
 unfoldable pub samplingOf : Gauge → ℕ → ℕ → Gauge
-samplingOf g raw tick = withMeter g (sampleOf (g .meter) raw tick)
+samplingOf gauge raw tick = withMeter gauge (sampleOf (gauge .meter) raw tick)
 
 unfoldable pub readingOf : Gauge → ℕ → ℕ → Gauge
-readingOf g volt temp = withMeter g (readOf (g .meter) volt temp)
+readingOf gauge volt temp = withMeter gauge (readOf (gauge .meter) volt temp)
 
 -- shadow blocks take the EEPROM bytes; BL1 and BL0 stay
 unfoldable pub powerOnOf : Gauge → Gauge
-powerOnOf g = withParts g (labelPoweredOf (g .label)) (restartedOf (g .meter))
+powerOnOf gauge = withParts gauge (labelPoweredOf (gauge .label)) (restartedOf (gauge .meter))
 
 -- ---- what a function command at the address a does: to the label and to the meter, each found from its own part
 
 -- 6Ch: bytes written from the address a upward
 unfoldable pub writtenOf : Gauge → ℕ → List ℕ → Gauge
-writtenOf g a bytes =
-    withParts g (labelWrittenOf (g .label) (g .common .bl0) a bytes) (meterWrittenOf (g .meter) a bytes)
+writtenOf gauge a bytes =
+    withParts gauge (labelWrittenOf (gauge .label) (gauge .common .bl0) a bytes) (meterWrittenOf (gauge .meter) a bytes)
 
 -- 48h
 unfoldable pub copiedOf : Gauge → ℕ → Gauge
-copiedOf g a = withParts g (labelCopiedOf (g .label) (g .common .bl0) a) (meterCopiedOf (g .meter) a)
+copiedOf gauge a = withParts gauge (labelCopiedOf (gauge .label) (gauge .common .bl0) a) (meterCopiedOf (gauge .meter) a)
 
 -- B8h
 unfoldable pub recalledOf : Gauge → ℕ → Gauge
-recalledOf g a = withParts g (labelRecalledOf (g .label) a) (meterRecalledOf (g .meter) a)
+recalledOf gauge a = withParts gauge (labelRecalledOf (gauge .label) a) (meterRecalledOf (gauge .meter) a)
 
 -- 6Ah: BL0 is common, LOCK and BL1 are the meter's
 unfoldable pub lockedOf : Gauge → ℕ → Gauge
-lockedOf g a = record {
-  common = commonLockedOf (g .common) (g .meter .cells .locks .lock) a;
-  label = g .label;
-  meter = meterLockedOf (g .meter) a;
+lockedOf gauge a = record {
+  common = commonLockedOf (gauge .common) (gauge .meter .cells .locks .lock) a;
+  label = gauge .label;
+  meter = meterLockedOf (gauge .meter) a;
 }

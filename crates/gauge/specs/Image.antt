@@ -17,14 +17,14 @@ use Rattle.gauge.specs.declared.Gauge.{Gauge}
 
 -- accepting an image is a power-on, and the image "picks the profile for that pack"
 unfoldable pub imageOf : Profile → List ℕ → Gauge
-imageOf f p = record {
+imageOf profile p = record {
   common = record { address = imageAddress p; bl0 = imageBl0 p };
   label = record { shadow = imageLabel p; eeprom = imageLabel p };
   meter = poweredOf (record {
-    profile = f;
+    profile = profile;
     block = record { shadow = imageBlock p; eeprom = imageBlock p };
     locks = record { lock = false; bl1 = imageBl1 p };
-    saved = record { acr = imageAcr p; aging = imageAging p; cycles = imageCycles f p };
+    saved = record { acr = imageAcr p; aging = imageAging p; cycles = imageCycles profile p };
   });
 }
 
@@ -38,28 +38,28 @@ abbrev pub cellsOf : Saved → ℕ → List ℕ
 cellsOf saved lock = (saved .acr % 256) ∷ (saved .acr / 256) ∷ saved .aging ∷ lock ∷ []
 
 abbrev pub tailOf : Gauge → List ℕ
-tailOf g = cellsOf (g .meter .cells .saved) (lockByte (g .meter .cells .locks .bl1) (g .common .bl0))
+tailOf gauge = cellsOf (gauge .meter .cells .saved) (lockByte (gauge .meter .cells .locks .bl1) (gauge .common .bl0))
 
 -- "The counter is an EEPROM-saved cell, one byte at the end": none where the profile has no counter
 abbrev pub cycleCell : Profile → ℕ → List ℕ
-cycleCell f count = pick (countsCycles f) (count ∷ []) []
+cycleCell profile count = pick (countsCycles profile) (count ∷ []) []
 
 -- what stands after the blocks
-abbrev pub endOf : Gauge → List ℕ
-endOf g = tailOf g ++ cycleCell (g .meter .cells .profile) (g .meter .cells .saved .cycles)
+abbrev pub imageEnd : Gauge → List ℕ
+imageEnd gauge = tailOf gauge ++ cycleCell (gauge .meter .cells .profile) (gauge .meter .cells .saved .cycles)
 
 -- address, both EEPROM blocks, saved cells, lock byte; and the saved cycle counter
 unfoldable pub bytesOf : Gauge → List ℕ
-bytesOf g = g .common .address ++ (g .label .eeprom ++ (g .meter .cells .block .eeprom ++ endOf g))
+bytesOf gauge = gauge .common .address ++ (gauge .label .eeprom ++ (gauge .meter .cells .block .eeprom ++ imageEnd gauge))
 
 -- how many they are
 abbrev pub sizeFor : Gauge → ℕ
-sizeFor g = imageSizeOf (g .meter .cells .profile)
+sizeFor gauge = imageSizeOf (gauge .meter .cells .profile)
 
 -- the first bytes of the lent room, as many as an image has, the rest untouched; nothing is written in a room under 60 bytes, or under 61
 abbrev pub roomAfter : Bool → Gauge → List ℕ → List ℕ
-roomAfter true g room = bytesOf g ++ drop (sizeFor g) room
-roomAfter false g room = room
+roomAfter true gauge room = bytesOf gauge ++ drop (sizeFor gauge) room
+roomAfter false gauge room = room
 
 pub record ImageOut (g : Gauge) (room : List ℕ) (done : Bool) (after : List ℕ) : Type 0 where
   pub fits : done ≡ leb (sizeFor g) (length room)

@@ -10,7 +10,7 @@ use Rattle.state.specs.declared.Profile.{Profile}
 use Rattle.state.specs.declared.Profile.the-variants.{Ds2781}
 use Rattle.state.specs.State.{imageSizeOf, countsCycles}
 use Rattle.record.specs.Image.{imageSize, imageAddress, imageLocks, imageBreaks}
-use Rattle.record.specs.Record.{numberOf, addressedOf, judgedAmong}
+use Rattle.record.specs.Record.{takenNumber, addressedOf, judgedAmong}
 use Rattle.gauge.specs.declared.Gauge.{Gauge}
 use Rattle.gauge.specs.Profiles.{baseOf}
 use Rattle.gauge.specs.Image.{imageOf, cycleCell, bytesOf}
@@ -24,7 +24,7 @@ pub record AsGood (f h : Profile) (p q : List ℕ) : Type 0 where
 pub record ImagesShare : Type 0 where
   -- by the other tests two images with the same lock byte and breakpoints get one answer
   pub judged : (f h : Profile) (again : Bool) (p q : List ℕ) → AsGood f h p q → imageLocks p ≡ imageLocks q → imageBreaks p ≡ imageBreaks q
-      → numberOf (judgedAmong f again p) ≡ numberOf (judgedAmong h again q)
+      → takenNumber (judgedAmong f again p) ≡ takenNumber (judgedAmong h again q)
   -- the 60 bytes of kind 1, whatever stands behind them, power on to the same base
   pub ins : (f : Profile) (p cell : List ℕ) → length p ≡ imageSize → baseOf (imageOf f (p ++ cell)) ≡ imageOf Ds2781 p
   -- and are taken out of a gauge as of its base, with the cell behind them

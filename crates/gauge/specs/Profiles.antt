@@ -30,42 +30,42 @@ use Rattle.gauge.specs.Act.{actOf, replyOf}
 -- ---- the base of a gauge: the same as a DS2781, without the counter, its rest and its cell
 
 abbrev pub baseCells : Cells → Cells
-baseCells c = record {
+baseCells cells = record {
   profile = Ds2781;
-  block = c .block;
-  locks = c .locks;
-  saved = record { acr = c .saved .acr; aging = c .saved .aging; cycles = 0 };
+  block = cells .block;
+  locks = cells .locks;
+  saved = record { acr = cells .saved .acr; aging = cells .saved .aging; cycles = 0 };
 }
 
 abbrev pub baseMeter : Meter → Meter
-baseMeter m = record {
-  cells = baseCells (m .cells);
-  charge = m .charge;
+baseMeter meter = record {
+  cells = baseCells (meter .cells);
+  charge = meter .charge;
   cycles = record { count = 0; rest = 0 };
-  flow = m .flow;
-  shown = m .shown;
+  flow = meter .flow;
+  shown = meter .shown;
 }
 
 abbrev pub baseOf : Gauge → Gauge
-baseOf g = withMeter g (baseMeter (g .meter))
+baseOf gauge = withMeter gauge (baseMeter (gauge .meter))
 
 -- ---- blanking's edge
 
 -- a conversion with NBEN whose c is -16
 abbrev pub edgeIn : Meter → ℕ → Bool
-edgeIn m raw = both (countingOf (m .cells .block .shadow) .nben) (eqb (currentIn m raw) (zeroAt 15 - 16))
+edgeIn meter raw = both (countingOf (meter .cells .block .shadow) .nben) (eqb (currentIn meter raw) (zeroAt 15 - 16))
 
 -- one of n conversions, each in the meter that those before it leave
 abbrev pub edgeOver : Meter → ℕ → ℕ → Bool
-edgeOver m raw zero = false
-edgeOver m raw (suc n) = either (edgeOver m raw n) (edgeIn (sampledOf m raw n) raw)
+edgeOver meter raw zero = false
+edgeOver meter raw (suc n) = either (edgeOver meter raw n) (edgeIn (sampledOf meter raw n) raw)
 
 -- a conversion is one, a sample as many as ticks have elapsed
 abbrev pub meetsEdge : Meter → Change → Bool
-meetsEdge m (Reading volt temp) = false
-meetsEdge m (Conversion raw) = edgeOver m raw 1
-meetsEdge m (Sample raw tick) = edgeOver m raw (elapsedOf (m .flow .tick) tick)
-meetsEdge m PowerOn = false
+meetsEdge meter (Reading volt temp) = false
+meetsEdge meter (Conversion raw) = edgeOver meter raw 1
+meetsEdge meter (Sample raw tick) = edgeOver meter raw (elapsedOf (meter .flow .tick) tick)
+meetsEdge meter PowerOn = false
 
 -- ---- 1Eh
 
@@ -76,8 +76,8 @@ fromCounter (Bytes a) i = eqb (a + i) 0x1e
 fromCounter Idle i = false
 
 abbrev pub readsCounter : Gauge → Transaction → List ℕ → ℕ → Bool
-readsCounter g t master i =
-    fromCounter (replySourceOf (selectedOf (g .common .address) t master) (g .meter .cells .block .shadow) t) i
+readsCounter gauge transaction master i =
+    fromCounter (replySourceOf (selectedOf (gauge .common .address) transaction master) (gauge .meter .cells .block .shadow) transaction) i
 
 -- ---- the law
 

@@ -153,17 +153,17 @@ impl Gauge {
     }
 
     // The function command of a transaction that is selected.
-    fn ran(self, t: Transaction, master: &[u8]) -> Gauge
+    fn ran(self, transaction: Transaction, master: &[u8]) -> Gauge
         requires { ⌜ GaugeWF self ⌝ }
-        ensures { λ r. ⌜ r ≡ ranOf self t (now (master .entry)) ⌝ }
+        ensures { λ r. ⌜ r ≡ ranOf self transaction (now (master .entry)) ⌝ }
         ensures kept { λ r. ⌜ GaugeWF r ⌝ }
     {
-        let a = slices::wide(t.address);
-        let command = t.command;
+        let a = slices::wide(transaction.address);
+        let command = transaction.command;
         match command {
             Command::Read => self,
             Command::Write => {
-                let from = slices::lower(slices::wide(t.from), master.len());
+                let from = slices::lesser(slices::wide(transaction.from), master.len());
                 self.written(a, &master[from..])
             }
             Command::Copy => self.copied(a),
@@ -174,19 +174,26 @@ impl Gauge {
     }
 
     // A transaction: its reply goes to the front of the room, exactly its read count of bytes.
-    pub fn transact(mut self, t: Transaction, master: &[u8], room: &mut [u8]) -> Gauge
+    pub fn transact(mut self, transaction: Transaction, master: &[u8], room: &mut [u8]) -> Gauge
         requires { ⌜ GaugeWF self ⌝ }
-        requires { ⌜ t .count ≤ length (now room) ⌝ }
-        ensures { λ r. ⌜ r ≡ actOf self t (now (master .entry)) ⌝ }
-        ensures replied { λ r. ⌜ now (room .exit) ≡ replyOf self t (now (master .entry)) ++ drop (t .count) (now (room .entry)) ⌝ }
+        requires { ⌜ transaction .count ≤ length (now room) ⌝ }
+        ensures { λ r. ⌜ r ≡ actOf self transaction (now (master .entry)) ⌝ }
+        ensures replied { λ r. ⌜ now (room .exit) ≡ replyOf self transaction (now (master .entry)) ++ drop (transaction .count) (now (room .entry)) ⌝ }
         ensures kept { λ r. ⌜ GaugeWF r ⌝ }
     {
         let address = self.common.address;
-        let chosen = replies::selected(address, t, master);
-        replies::replied(self.common, self.label, self.meter, t, chosen, room);
-        let command = t.command;
+        let chosen = replies::selected(address, transaction, master);
+        replies::replied(
+            self.common,
+            self.label,
+            self.meter,
+            transaction,
+            chosen,
+            room,
+        );
+        let command = transaction.command;
         if numbers::and(chosen, changes(command)) {
-            self = self.ran(t, master);
+            self = self.ran(transaction, master);
         }
         self
     }
@@ -195,47 +202,47 @@ impl Gauge {
 // ---- in
 
 // The saved cycle counter, 0 where the profile has none.
-fn cycles_in(f: Profile, p: &[u8]) -> u8
-    requires { ⌜ length (now p) ≡ imageSizeOf f ⌝ }
-    ensures { λ r. ⌜ r ≡ imageCycles f (now (p .entry)) ⌝ }
+fn cycles_in(profile: Profile, image: &[u8]) -> u8
+    requires { ⌜ length (now image) ≡ imageSizeOf profile ⌝ }
+    ensures { λ r. ⌜ r ≡ imageCycles profile (now (image .entry)) ⌝ }
 {
-    match f {
+    match profile {
         Profile::Ds2781 => 0,
-        Profile::Ds2775 => p[CYCLES_AT],
+        Profile::Ds2775 => image[CYCLES_AT],
     }
 }
 
 // An image of either profile has the bytes that both have.
-fn whole(f: Profile, p: &[u8])
-    requires { ⌜ length (now p) ≡ imageSizeOf f ⌝ }
-    ensures { λ _. ⌜ 60 ≤ length (now (p .entry)) ⌝ }
+fn whole(profile: Profile, image: &[u8])
+    requires { ⌜ length (now image) ≡ imageSizeOf profile ⌝ }
+    ensures { λ _. ⌜ 60 ≤ length (now (image .entry)) ⌝ }
 {}
 
 // The gauge that the bytes of an image of a profile power on to.
-pub fn image_in(f: Profile, p: &[u8]) -> Gauge
-    requires { ⌜ length (now p) ≡ imageSizeOf f ⌝ }
-    ensures { λ r. ⌜ r ≡ imageOf f (now (p .entry)) ⌝ }
+pub fn image_in(profile: Profile, image: &[u8]) -> Gauge
+    requires { ⌜ length (now image) ≡ imageSizeOf profile ⌝ }
+    ensures { λ r. ⌜ r ≡ imageOf profile (now (image .entry)) ⌝ }
     ensures kept { λ r. ⌜ GaugeWF r ⌝ }
 {
-    whole(f, p);
-    let address = slices::eight(p, ADDRESS_AT);
-    let label = slices::sixteen(p, LABEL_AT);
-    let eeprom = slices::thirty_two(p, BLOCK_AT);
+    whole(profile, image);
+    let address = slices::eight(image, ADDRESS_AT);
+    let label = slices::sixteen(image, LABEL_AT);
+    let eeprom = slices::thirty_two(image, BLOCK_AT);
     let saved = Saved {
-        acr: slices::pair(p, ACR_AT),
-        aging: p[AGING_AT],
-        cycles: cycles_in(f, p),
+        acr: slices::pair(image, ACR_AT),
+        aging: image[AGING_AT],
+        cycles: cycles_in(profile, image),
     };
     let locks = Locks {
         lock: false,
-        bl1: p[LOCKS_AT] / 2 % 2 == 1,
+        bl1: image[LOCKS_AT] / 2 % 2 == 1,
     };
     let block = Block {
         shadow: eeprom,
         eeprom: eeprom,
     };
     let cells = Cells {
-        profile: f,
+        profile: profile,
         block: block,
         locks: locks,
         saved: saved,
@@ -243,7 +250,7 @@ pub fn image_in(f: Profile, p: &[u8]) -> Gauge
     Gauge {
         common: Common {
             address: address,
-            bl0: p[LOCKS_AT] % 2 == 1,
+            bl0: image[LOCKS_AT] % 2 == 1,
         },
         label: Label {
             shadow: label,
@@ -279,21 +286,21 @@ fn cells(saved: Saved, lock: u8) -> [u8; 4]
     ]
 }
 
-fn tail(g: Gauge) -> [u8; 4]
-    ensures { λ r. ⌜ r ≡ tailOf g ⌝ }
+fn tail(gauge: Gauge) -> [u8; 4]
+    ensures { λ r. ⌜ r ≡ tailOf gauge ⌝ }
 {
     cells(
-        g.meter.cells.saved,
-        lock_byte(g.meter.cells.locks.bl1, g.common.bl0),
+        gauge.meter.cells.saved,
+        lock_byte(gauge.meter.cells.locks.bl1, gauge.common.bl0),
     )
 }
 
 // The saved cycle counter, where the profile has one.
-fn cycles_out(f: Profile, count: u8, room: &mut [u8])
-    requires { ⌜ imageSizeOf f ≤ length (now room) ⌝ }
-    ensures { λ _. ⌜ now (room .exit) ≡ put (now (room .entry)) cyclesAt (cycleCell f count) ⌝ }
+fn cycles_out(profile: Profile, count: u8, room: &mut [u8])
+    requires { ⌜ imageSizeOf profile ≤ length (now room) ⌝ }
+    ensures { λ _. ⌜ now (room .exit) ≡ put (now (room .entry)) cyclesAt (cycleCell profile count) ⌝ }
 {
-    match f {
+    match profile {
         Profile::Ds2781 => {}
         Profile::Ds2775 => {
             room[CYCLES_AT] = count;
@@ -302,22 +309,22 @@ fn cycles_out(f: Profile, count: u8, room: &mut [u8])
 }
 
 // The image goes to the first bytes of the room; false, and nothing is written, where they do not fit.
-pub fn image_out(g: Gauge, room: &mut [u8]) -> bool
-    ensures { λ r. ⌜ ImageOut g (now (room .entry)) r (now (room .exit)) ⌝ }
+pub fn image_out(gauge: Gauge, room: &mut [u8]) -> bool
+    ensures { λ r. ⌜ ImageOut gauge (now (room .entry)) r (now (room .exit)) ⌝ }
 {
-    let meter = g.meter;
+    let meter = gauge.meter;
     let kept = meter.cells;
-    let f = kept.profile;
-    if room.len() < state::size(f) {
+    let profile = kept.profile;
+    if room.len() < state::image_size(profile) {
         return false;
     }
-    let address = g.common.address;
-    let label = g.label.eeprom;
+    let address = gauge.common.address;
+    let label = gauge.label.eeprom;
     let block = kept.block.eeprom;
     slices::store8(address, room, ADDRESS_AT);
     slices::store16(label, room, LABEL_AT);
     slices::store32(block, room, BLOCK_AT);
-    slices::store4(tail(g), room, ACR_AT);
-    cycles_out(f, kept.saved.cycles, room);
+    slices::store4(tail(gauge), room, ACR_AT);
+    cycles_out(profile, kept.saved.cycles, room);
     true
 }

@@ -15,16 +15,16 @@ use Rattle.slices.specs.Slices.{part, put}
 use Rattle.slices.proofs.Laws.{put-next, put-front, part-length}
 use Rattle.digits.specs.Digits.{upper, pairValue, hexBytes, hexDigits}
 use Rattle.digits.proofs.Read.{bytes-length, byte-there}
-use Rattle.hex.specs.Line.{colon, lineFeed, sumOf, checksumOf, contentOf, dataRecord, digitsIn, bytesIn, countIn, dataIn, formedOf}
+use Rattle.hex.specs.Line.{colon, lineFeed, byteSum, checksumOf, contentOf, dataRecord, digitsIn, bytesIn, lengthIn, dataIn, formedOf}
 
 -- ---- sums
 
-pub sum-more : (s : List ℕ) (i : ℕ) → i < length s → sumOf (drop i s) ≡ getD s i 0 + sumOf (drop (i + 1) s)
+pub sum-more : (s : List ℕ) (i : ℕ) → i < length s → byteSum (drop i s) ≡ getD s i 0 + byteSum (drop (i + 1) s)
 sum-more s i h = rw (add-one, drop-cons s i 0) refl
 
 -- of the bytes that digits stand for
 pub read-more : (s : List ℕ) (i : ℕ) → 2 ≤ length s - i
-    → sumOf (hexBytes upper (drop i s)) ≡ pairValue upper (getD s i 0) (getD s (i + 1) 0) + sumOf (hexBytes upper (drop (i + 2) s))
+    → byteSum (hexBytes upper (drop i s)) ≡ pairValue upper (getD s i 0) (getD s (i + 1) 0) + byteSum (hexBytes upper (drop (i + 2) s))
 read-more s i h =
     let first : i < length s = omega arith in
     let second : i + 1 < length s = omega arith in
@@ -33,7 +33,7 @@ read-more s i h =
     = rw (drop-cons s i 0 first, ← add-one i, drop-cons s (i + 1) 0 second, ← add-one (i + 1), next) refl in
     rw twice refl
 
-pub read-end : (s : List ℕ) → length s < 2 → sumOf (hexBytes upper s) ≡ 0
+pub read-end : (s : List ℕ) → length s < 2 → byteSum (hexBytes upper s) ≡ 0
 read-end [] h = refl
 read-end (a ∷ []) h = refl
 read-end (a ∷ b ∷ cs) h = absurd (omega arith)
@@ -108,23 +108,23 @@ module _ (l : List ℕ) where
   pub formed-short : length l < 12 → false ≡ formedOf l
   unfolding formedOf
   formed-short h =
-      let few : eqb (length (digitsIn l)) (2 * (countIn l + 5)) ≡ false = ne-eqb (length (digitsIn l)) (2 * (countIn l + 5)) (λ e. omega (arith, digits-length)) in
+      let few : eqb (length (digitsIn l)) (2 * (lengthIn l + 5)) ≡ false = ne-eqb (length (digitsIn l)) (2 * (lengthIn l + 5)) (λ e. omega (arith, digits-length)) in
       rw (few, both-false (hexDigits upper (digitsIn l)), both-false (both (eqb (getD l 0 0) colon) (eqb (getD l (length l - 1) 0) lineFeed))) refl
 
   -- as the code asks it
   pub formed-asked : 2 ≤ length l
       → both (both (eqb (getD l 0 0) colon) (eqb (getD l (length l - 1) 0) lineFeed))
-      (both (hexDigits upper (part (length l - 1 - 1) l 1)) (eqb (length l - 2) (2 * (countIn l + 5))))
+      (both (hexDigits upper (part (length l - 1 - 1) l 1)) (eqb (length l - 2) (2 * (lengthIn l + 5))))
       ≡ formedOf l
   unfolding formedOf
   formed-asked h =
       let e : length l - 1 - 1 ≡ length l - 2 = omega arith in
       rw (e, digits-length) refl
 
-  pub formed-long : formedOf l ≡ true → length l ≡ 2 * countIn l + 12
+  pub formed-long : formedOf l ≡ true → length l ≡ 2 * lengthIn l + 12
   unfolding formedOf
   formed-long e =
-      let counted = eqb (length (digitsIn l)) (2 * (countIn l + 5)) in
+      let counted = eqb (length (digitsIn l)) (2 * (lengthIn l + 5)) in
       let outer = both-true (both (eqb (getD l 0 0) colon) (eqb (getD l (length l - 1) 0) lineFeed)) (both (hexDigits upper (digitsIn l)) counted) e in
       let inner = both-true (hexDigits upper (digitsIn l)) counted (outer .1) in
-      omega (arith, eqb-true (length (digitsIn l)) (2 * (countIn l + 5)) (inner .1), digits-length)
+      omega (arith, eqb-true (length (digitsIn l)) (2 * (lengthIn l + 5)) (inner .1), digits-length)

@@ -14,33 +14,33 @@ use Rattle.numbers.proofs.Bounds.{both-true}
 use Rattle.slices.specs.Slices.{part, put}
 use Rattle.slices.proofs.Laws.{put-next, put-front}
 use Rattle.hex.specs.declared.Fault.{Fault}
-use Rattle.hex.specs.declared.Line.{Line}
-use Rattle.hex.specs.declared.Line.the-variants.{Good, Bad}
-use Rattle.hex.specs.Line.{lineFeed, bytesIn, addressIn, dataIn, lineOf}
+use Rattle.hex.specs.declared.CheckedLine.{CheckedLine}
+use Rattle.hex.specs.declared.CheckedLine.the-variants.{Good, Bad}
+use Rattle.hex.specs.Line.{lineFeed, bytesIn, addressIn, dataIn, checkedLineOf}
 use Rattle.hex.proofs.Laws.{data-length}
 use Rattle.hex.proofs.OneLine.{good-long}
-use Rattle.hex.specs.declared.Why.the-variants as why
+use Rattle.hex.specs.declared.HexRefusal.the-variants as why
 use Rattle.hex.specs.declared.Answer.{Answer}
 use Rattle.hex.specs.declared.Answer.the-variants.{Done, Refused}
-use Rattle.hex.specs.Import.{aheadOf, linesOf, Cut, afterLine, linesAnswer, countOf, onceOf, lastOf, wholeOf, dataAt, importSize, afterLines, importAnswer}
+use Rattle.hex.specs.Import.{aheadOfLines, textLines, Cut, afterLine, linesAnswer, countOf, onceOf, lastAddress, wholeText, dataAt, importSize, afterLines, importAnswer}
 
 -- ---- bytes in front of the first line
 
 abbrev pub prefixedOf : List ℕ → List (List ℕ) → List (List ℕ)
 prefixedOf [] ls = ls
-prefixedOf (x ∷ xs) ls = aheadOf x (prefixedOf xs ls)
+prefixedOf (x ∷ xs) ls = aheadOfLines x (prefixedOf xs ls)
 
-prefixed-more : (xs : List ℕ) (c : ℕ) (ls : List (List ℕ)) → prefixedOf xs (aheadOf c ls) ≡ prefixedOf (xs ++ (c ∷ [])) ls
+prefixed-more : (xs : List ℕ) (c : ℕ) (ls : List (List ℕ)) → prefixedOf xs (aheadOfLines c ls) ≡ prefixedOf (xs ++ (c ∷ [])) ls
 prefixed-more [] c ls = refl
-prefixed-more (x ∷ xs) c ls = ap (aheadOf x) (prefixed-more xs c ls)
+prefixed-more (x ∷ xs) c ls = ap (aheadOfLines x) (prefixed-more xs c ls)
 
 prefixed-line : (xs : List ℕ) (l : List ℕ) (ls : List (List ℕ)) → prefixedOf xs (l ∷ ls) ≡ (xs ++ l) ∷ ls
 prefixed-line [] l ls = refl
-prefixed-line (x ∷ xs) l ls = ap (aheadOf x) (prefixed-line xs l ls)
+prefixed-line (x ∷ xs) l ls = ap (aheadOfLines x) (prefixed-line xs l ls)
 
 prefixed-end : (x : ℕ) (xs : List ℕ) → prefixedOf (x ∷ xs) [] ≡ (x ∷ xs) ∷ []
 prefixed-end x [] = refl
-prefixed-end x (y ∷ ys) = ap (aheadOf x) (prefixed-end y ys)
+prefixed-end x (y ∷ ys) = ap (aheadOfLines x) (prefixed-end y ys)
 
 prefixed-some : (xs : List ℕ) → 0 < length xs → prefixedOf xs [] ≡ xs ∷ []
 prefixed-some [] h = absurd (omega arith)
@@ -50,7 +50,7 @@ prefixed-some (x ∷ xs) h = prefixed-end x xs
 
 -- no line feed so far
 abbrev pub Unfed : List ℕ → ℕ → ℕ → Type 0
-Unfed text at end = linesOf (drop at text) ≡ prefixedOf (part (end - at) text at) (linesOf (drop end text))
+Unfed text at end = textLines (drop at text) ≡ prefixedOf (part (end - at) text at) (textLines (drop end text))
 
 pub unfed-none : (text : List ℕ) (at : ℕ) → Unfed text at at
 unfed-none text at = let none : at - at ≡ 0 = omega arith in rw none refl
@@ -71,22 +71,22 @@ module _ (text : List ℕ) (at end : ℕ) (from : at ≤ end) where
 
     pub line-more : eqb (getD text end 0) lineFeed ≡ false → Unfed text at end → Unfed text at (end + 1)
     line-more other so =
-        let first : linesOf (drop end text) ≡ aheadOf (getD text end 0) (linesOf (drop (end + 1) text)) = ap linesOf rest ∙ rw other refl in
+        let first : textLines (drop end text) ≡ aheadOfLines (getD text end 0) (textLines (drop (end + 1) text)) = ap textLines rest ∙ rw other refl in
         so ∙ ap (prefixedOf (part (end - at) text at)) first
-        ∙ prefixed-more (part (end - at) text at) (getD text end 0) (linesOf (drop (end + 1) text))
-        ∙ ap (λ (xs : List ℕ). prefixedOf xs (linesOf (drop (end + 1) text))) part-more
+        ∙ prefixed-more (part (end - at) text at) (getD text end 0) (textLines (drop (end + 1) text))
+        ∙ ap (λ (xs : List ℕ). prefixedOf xs (textLines (drop (end + 1) text))) part-more
 
     pub line-fed : eqb (getD text end 0) lineFeed ≡ true → Unfed text at end → Cut text at (end + 1)
     line-fed fed so =
         let feed = getD text end 0 ∷ [] in
-        let first : linesOf (drop end text) ≡ feed ∷ linesOf (drop (end + 1) text) = ap linesOf rest ∙ rw fed refl in
+        let first : textLines (drop end text) ≡ feed ∷ textLines (drop (end + 1) text) = ap textLines rest ∙ rw fed refl in
         record {
           onward = omega arith;
           within = omega arith;
           lines =
               so ∙ ap (prefixedOf (part (end - at) text at)) first
-              ∙ prefixed-line (part (end - at) text at) feed (linesOf (drop (end + 1) text))
-              ∙ ap (λ (xs : List ℕ). xs ∷ linesOf (drop (end + 1) text)) part-more;
+              ∙ prefixed-line (part (end - at) text at) feed (textLines (drop (end + 1) text))
+              ∙ ap (λ (xs : List ℕ). xs ∷ textLines (drop (end + 1) text)) part-more;
         }
 
   -- the text ends
@@ -98,46 +98,46 @@ module _ (text : List ℕ) (at end : ℕ) (from : at ≤ end) where
         onward = omega arith;
         within = within;
         lines =
-            so ∙ ap (λ (r : List ℕ). prefixedOf (part (end - at) text at) (linesOf r)) none
+            so ∙ ap (λ (r : List ℕ). prefixedOf (part (end - at) text at) (textLines r)) none
             ∙ prefixed-some (part (end - at) text at) long
-            ∙ ap (λ (r : List ℕ). part (end - at) text at ∷ linesOf r) (sym none);
+            ∙ ap (λ (r : List ℕ). part (end - at) text at ∷ textLines r) (sym none);
       }
 
 -- ---- from line to line
 
 module _ {text : List ℕ} {at end : ℕ} (cut : Cut text at end) where
-  pub answer-good : lineOf (part (end - at) text at) ≡ Good → linesAnswer (linesOf (drop at text)) ≡ linesAnswer (linesOf (drop end text))
+  pub answer-good : checkedLineOf (part (end - at) text at) ≡ Good → linesAnswer (textLines (drop at text)) ≡ linesAnswer (textLines (drop end text))
   answer-good good = ap linesAnswer (cut .lines) ∙ rw good refl
 
-  pub answer-bad : {fault : Fault} → lineOf (part (end - at) text at) ≡ Bad fault → linesAnswer (linesOf (drop at text)) ≡ Refused (why.Line fault)
+  pub answer-bad : {fault : Fault} → checkedLineOf (part (end - at) text at) ≡ Bad fault → linesAnswer (textLines (drop at text)) ≡ Refused (why.Line fault)
   answer-bad bad = ap linesAnswer (cut .lines) ∙ rw bad refl
 
   module _ (address : ℕ) where
-    pub count-more : countOf address (linesOf (drop at text)) ≡ pick (eqb (addressIn (part (end - at) text at)) address) 1 0 + countOf address (linesOf (drop end text))
+    pub count-more : countOf address (textLines (drop at text)) ≡ pick (eqb (addressIn (part (end - at) text at)) address) 1 0 + countOf address (textLines (drop end text))
     count-more = ap (countOf address) (cut .lines)
 
-    pub last-more : lastOf address (linesOf (drop at text)) ≡ lastOf (addressIn (part (end - at) text at)) (linesOf (drop end text))
-    last-more = ap (lastOf address) (cut .lines)
+    pub last-more : lastAddress address (textLines (drop at text)) ≡ lastAddress (addressIn (part (end - at) text at)) (textLines (drop end text))
+    last-more = ap (lastAddress address) (cut .lines)
 
-    pub data-here : eqb (addressIn (part (end - at) text at)) address ≡ true → dataAt address (linesOf (drop at text)) ≡ dataIn (part (end - at) text at)
+    pub data-here : eqb (addressIn (part (end - at) text at)) address ≡ true → dataAt address (textLines (drop at text)) ≡ dataIn (part (end - at) text at)
     data-here same = ap (dataAt address) (cut .lines) ∙ rw same refl
 
-    pub data-later : eqb (addressIn (part (end - at) text at)) address ≡ false → dataAt address (linesOf (drop at text)) ≡ dataAt address (linesOf (drop end text))
+    pub data-later : eqb (addressIn (part (end - at) text at)) address ≡ false → dataAt address (textLines (drop at text)) ≡ dataAt address (textLines (drop end text))
     data-later other = ap (dataAt address) (cut .lines) ∙ rw other refl
 
 -- ---- where no line is bad, the data at an address that is there once are 16 bytes
 
-after-done : (x : Line) (y : Answer) → afterLine x y ≡ Done → (x ≡ Good) × (y ≡ Done)
+after-done : (x : CheckedLine) (y : Answer) → afterLine x y ≡ Done → (x ≡ Good) × (y ≡ Done)
 after-done Good y e = (refl, e)
 after-done (Bad fault) y e = let z : _≡_ {A = ℕ} 0 1 = cc in absurd (omega arith)
 
 pub data-sized : (address : ℕ) (ls : List (List ℕ)) → (address ≡ 0 → ⊥) → linesAnswer ls ≡ Done → countOf address ls ≡ 1 → length (dataAt address ls) ≡ 16
 data-sized address [] some good once = absurd (omega arith)
-data-sized address (l ∷ ls) some good once = by (eqb (addressIn l) address) refl (data-sized address ls some (after-done (lineOf l) (linesAnswer ls) good .1))
+data-sized address (l ∷ ls) some good once = by (eqb (addressIn l) address) refl (data-sized address ls some (after-done (checkedLineOf l) (linesAnswer ls) good .1))
   where
     by : (b : Bool) → eqb (addressIn l) address ≡ b → (countOf address ls ≡ 1 → length (dataAt address ls) ≡ 16) → length (dataAt address (l ∷ ls)) ≡ 16
     by true e later =
-        let long : length (bytesIn l) ≡ 21 = good-long l (after-done (lineOf l) (linesAnswer ls) good .0) (λ z. some (sym (eqb-true (addressIn l) address e) ∙ z)) in
+        let long : length (bytesIn l) ≡ 21 = good-long l (after-done (checkedLineOf l) (linesAnswer ls) good .0) (λ z. some (sym (eqb-true (addressIn l) address e) ∙ z)) in
         rw e (data-length l (omega arith))
     by false e later = rw e (later (omega (arith, rw e at once)))
 
@@ -151,19 +151,19 @@ module _ (ls : List (List ℕ)) (room : ℕ) where
   answered (Refused w) b c e = let z : _≡_ {A = ℕ} 0 1 = cc in absurd (omega arith)
 
   module _ (done : importAnswer ls room ≡ Done) where
-    tests : (linesAnswer ls ≡ Done) × (wholeOf ls ≡ true) × (ltb room importSize ≡ false)
+    tests : (linesAnswer ls ≡ Done) × (wholeText ls ≡ true) × (ltb room importSize ≡ false)
     unfolding importAnswer
-    tests = answered (linesAnswer ls) (wholeOf ls) (ltb room importSize) done
+    tests = answered (linesAnswer ls) (wholeText ls) (ltb room importSize) done
 
     pub import-fits : importSize ≤ room
     import-fits = ltb-false room importSize (tests .2)
 
     -- the three records of data are there once
     counts : (countOf 0x20 ls ≡ 1) × (countOf 0x60 ls ≡ 1) × (countOf 0x70 ls ≡ 1)
-    unfolding wholeOf
+    unfolding wholeText
     counts =
         let three = both (onceOf 0x20 ls) (both (onceOf 0x60 ls) (onceOf 0x70 ls)) in
-        let all = both-true three (both (onceOf 0 ls) (eqb (lastOf 1 ls) 0)) (tests .1) in
+        let all = both-true three (both (onceOf 0 ls) (eqb (lastAddress 1 ls) 0)) (tests .1) in
         let first = both-true (onceOf 0x20 ls) (both (onceOf 0x60 ls) (onceOf 0x70 ls)) (all .0) in
         let other = both-true (onceOf 0x60 ls) (onceOf 0x70 ls) (first .1) in
         (eqb-true (countOf 0x20 ls) 1 (first .0), eqb-true (countOf 0x60 ls) 1 (other .0), eqb-true (countOf 0x70 ls) 1 (other .1))

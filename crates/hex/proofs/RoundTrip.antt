@@ -14,13 +14,13 @@ use Rattle.numbers.proofs.Bounds.{picked}
 use Rattle.slices.specs.Slices.{part}
 use Rattle.digits.specs.Digits.{hexOf, upper, hexText}
 use Rattle.record.specs.Image.{imageLabel, imageBlock, imageBl0}
-use Rattle.hex.specs.declared.Line.the-variants.{Good}
-use Rattle.hex.specs.Line.{lineFeed, lineText, dataRecord, endRecord, addressIn, dataIn, placedOf, lineOf}
+use Rattle.hex.specs.declared.CheckedLine.the-variants.{Good}
+use Rattle.hex.specs.Line.{lineFeed, hexLineText, dataRecord, endRecord, addressIn, dataIn, placedOf, checkedLineOf}
 use Rattle.hex.proofs.OneLine.{good-is, data-good, data-address, data-in, end-good, end-address}
 use Rattle.hex.specs.declared.Answer.the-variants.{Done}
-use Rattle.hex.specs.Export.{answerNumber, bothAccepted, labelOf, exportedOf, labelLine, lowLine, highLine, endLine, exportText, exportSize}
-use Rattle.hex.specs.Import.{linesOf, wholeOf, importedOf, importSize, importAnswer}
-use Rattle.hex.specs.Theorems.{GoodLines, Among, Arranged, joinedText, Bytes, RoundTrip, Unchanged}
+use Rattle.hex.specs.Export.{answerNumber, bothAccepted, exportLabel, exportedOf, labelLine, lowLine, highLine, endLine, exportText, exportSize}
+use Rattle.hex.specs.Import.{textLines, wholeText, importedOf, importSize, importAnswer}
+use Rattle.hex.specs.Theorems.{GoodLines, Among, InSomeOrder, joinedText, Bytes, RoundTrip, ExportedText}
 use Rattle.hex.proofs.Texts.{granted, label-is, label-sized, block-sized, low-sized, high-sized, text-length}
 
 pub good-lines : GoodLines
@@ -32,26 +32,26 @@ no-feed : (d : ℕ) → eqb (hexOf upper d) lineFeed ≡ false
 unfolding hexOf
 no-feed d = picked (λ (c : ℕ). eqb c lineFeed ≡ false) (ltb d 10) (48 + d) (upper - 10 + d) (λ e. ne-eqb (48 + d) 10 (λ z. omega arith)) (λ e. ne-eqb (55 + d) 10 (λ z. omega arith))
 
-hex-line : (bytes rest : List ℕ) → linesOf ((hexText upper bytes ++ (lineFeed ∷ [])) ++ rest) ≡ (hexText upper bytes ++ (lineFeed ∷ [])) ∷ linesOf rest
+hex-line : (bytes rest : List ℕ) → textLines ((hexText upper bytes ++ (lineFeed ∷ [])) ++ rest) ≡ (hexText upper bytes ++ (lineFeed ∷ [])) ∷ textLines rest
 hex-line [] rest = refl
 hex-line (b ∷ bs) rest = rw (no-feed (b / 16), no-feed (b % 16), hex-line bs rest) refl
 
-pub line-first : (bytes rest : List ℕ) → linesOf (lineText bytes ++ rest) ≡ lineText bytes ∷ linesOf rest
+pub line-first : (bytes rest : List ℕ) → textLines (hexLineText bytes ++ rest) ≡ hexLineText bytes ∷ textLines rest
 line-first bytes rest = rw (hex-line bytes rest) refl
 
 -- in front of any text it is the first line
 abbrev Line : List ℕ → Type 0
-Line line = (rest : List ℕ) → linesOf (line ++ rest) ≡ line ∷ linesOf rest
+Line line = (rest : List ℕ) → textLines (line ++ rest) ≡ line ∷ textLines rest
 
 data Lines : List (List ℕ) → Type 0 where
   none : Lines []
   one : {line : List ℕ} {ls : List (List ℕ)} → Line line → Lines ls → Lines (line ∷ ls)
 
 -- such lines, and the end record behind them, are the lines of their text
-text-lines : {ls : List (List ℕ)} → Lines ls → linesOf (joinedText ls ++ endLine) ≡ ls ++ (endLine ∷ [])
+text-lines : {ls : List (List ℕ)} → Lines ls → textLines (joinedText ls ++ endLine) ≡ ls ++ (endLine ∷ [])
 text-lines none = line-first endRecord []
 text-lines (one {line = line} {ls = ls} first w) =
-    ap linesOf (append-assoc line (joinedText ls) endLine)
+    ap textLines (append-assoc line (joinedText ls) endLine)
     ∙ first (joinedText ls ++ endLine)
     ∙ ap (λ (r : List (List ℕ)). line ∷ r) (text-lines w)
 
@@ -59,8 +59,8 @@ text-lines (one {line = line} {ls = ls} first w) =
 
 -- what is known of a line
 pub record Known (line : List ℕ) (address : ℕ) (bytes : List ℕ) : Type 0 where
-  pub first : (rest : List ℕ) → linesOf (line ++ rest) ≡ line ∷ linesOf rest
-  pub good : lineOf line ≡ Good
+  pub first : (rest : List ℕ) → textLines (line ++ rest) ≡ line ∷ textLines rest
+  pub good : checkedLineOf line ≡ Good
   pub there : addressIn line ≡ address
   pub has : dataIn line ≡ bytes
 
@@ -83,12 +83,12 @@ module _ (A B C a b c : List ℕ) (fa : Known A 0x20 a) (fb : Known B 0x60 b) (f
   -- these are the lines of their text, which is taken, and has these bytes
   abbrev Taken : List (List ℕ) → Type 0
   Taken ls =
-      (linesOf (joinedText ls ++ endLine) ≡ ls ++ (endLine ∷ [])) × (importAnswer (ls ++ (endLine ∷ [])) room ≡ Done)
+      (textLines (joinedText ls ++ endLine) ≡ ls ++ (endLine ∷ [])) × (importAnswer (ls ++ (endLine ∷ [])) room ≡ Done)
       × (importedOf (ls ++ (endLine ∷ [])) ≡ a ++ (b ++ c))
 
   reads : {x y z l m n : List ℕ} {p q r : ℕ} → Known x p l → Known y q m → Known z r n → wholeBy p q r ≡ true
       → importedBy p q r l m n ≡ a ++ (b ++ c) → Taken (x ∷ y ∷ z ∷ [])
-  unfolding importAnswer wholeOf
+  unfolding importAnswer wholeText
   reads f g h whole bytes = (
     text-lines (one (f .first) (one (g .first) (one (h .first) none))),
     rw (f .good, g .good, h .good, end-good, f .there, g .there, h .there, end-address, whole, le-ltb room importSize fits) refl,
@@ -130,7 +130,7 @@ module _ (A B C a b c : List ℕ) (fa : Known A 0x20 a) (fb : Known B 0x60 b) (f
   ordered (inr (inr p)) (inr (inl q)) (inr (inr t)) = absurd (let e = apart fa fc p t in omega arith)
   ordered (inr (inr p)) (inr (inr q)) t = absurd (let e = apart fa fb p q in omega arith)
 
-  pub arranged : (ls : List (List ℕ)) → Arranged A B C ls → Taken ls
+  pub arranged : (ls : List (List ℕ)) → InSomeOrder A B C ls → Taken ls
   arranged [] w = absurd (omega (arith, w .many))
   arranged (x ∷ []) w = absurd (omega (arith, w .many))
   arranged (x ∷ y ∷ []) w = absurd (omega (arith, w .many))
@@ -156,7 +156,7 @@ part-bytes n s at h = take-bytes n (drop at s) (drop-bytes at s h)
 -- ---- the lines of an export
 
 known : (address : ℕ) (bytes : List ℕ) → address < 65536 → placedOf address ≡ true → length bytes ≡ 16 → Bytes bytes
-    → Known (lineText (dataRecord address bytes)) address bytes
+    → Known (hexLineText (dataRecord address bytes)) address bytes
 known address bytes near placed sized small = record {
   first = line-first (dataRecord address bytes);
   good = data-good address bytes near sized small placed;
@@ -172,10 +172,10 @@ module _ (pack factory : List ℕ) (held : bothAccepted pack factory ≡ true) w
       ∙ take-append-drop 16 (imageBlock pack)
 
   exported-sized : length (exportedOf pack factory) ≡ importSize
-  exported-sized = length-append (labelOf pack factory) (imageBlock pack) ∙ omega (arith, label-sized pack factory held, block-sized pack factory held)
+  exported-sized = length-append (exportLabel pack factory) (imageBlock pack) ∙ omega (arith, label-sized pack factory held, block-sized pack factory held)
 
   module _ (small : Bytes pack) (other : Bytes factory) where
-    label-bytes : Bytes (labelOf pack factory)
+    label-bytes : Bytes (exportLabel pack factory)
     label-bytes =
         rw (label-is pack factory held)
         (picked Bytes (imageBl0 pack) (imageLabel pack) (imageLabel factory) (λ locked. part-bytes 16 pack 8 small) (λ free. part-bytes 16 factory 8 other))
@@ -184,10 +184,10 @@ module _ (pack factory : List ℕ) (held : bothAccepted pack factory ≡ true) w
     block-bytes = part-bytes 32 pack 24 small
 
     back : (room : ℕ) → importSize ≤ room → (ls : List (List ℕ))
-        → Arranged (labelLine (labelOf pack factory)) (lowLine (imageBlock pack)) (highLine (imageBlock pack)) ls
-        → (importAnswer (linesOf (joinedText ls ++ endLine)) room ≡ Done) × (importedOf (linesOf (joinedText ls ++ endLine)) ≡ exportedOf pack factory)
+        → InSomeOrder (labelLine (exportLabel pack factory)) (lowLine (imageBlock pack)) (highLine (imageBlock pack)) ls
+        → (importAnswer (textLines (joinedText ls ++ endLine)) room ≡ Done) × (importedOf (textLines (joinedText ls ++ endLine)) ≡ exportedOf pack factory)
     back room fits ls w =
-        let label = labelOf pack factory in
+        let label = exportLabel pack factory in
         let low = part 16 (imageBlock pack) 0 in
         let high = part 16 (imageBlock pack) 16 in
         let sized = label-sized pack factory held in
@@ -213,10 +213,10 @@ round-trip pack factory room after small other wrote ls text order lent said las
 regroup : (a b c e : List ℕ) → (a ++ (b ++ (c ++ []))) ++ e ≡ a ++ (b ++ (c ++ e))
 regroup a b c e = simp (append-nil, append-assoc)
 
-pub unchanged : Unchanged
+pub unchanged : ExportedText
 unchanged pack factory room after wrote =
     let g = granted pack factory (length room) (sym (wrote .answer)) in
-    let label = labelOf pack factory in
+    let label = exportLabel pack factory in
     let block = imageBlock pack in
     let all : after ≡ exportText label block ++ drop exportSize room = rw (sym (wrote .answer)) at (wrote .written) in
     let text : take exportSize after ≡ exportText label block

@@ -18,15 +18,15 @@ use Rattle.record.specs.declared.Taken.the-variants as taken
 use Rattle.record.specs.Image.{imageSize, imageLabel, imageBlock, imageBl0}
 use Rattle.record.specs.Record.{judgedOf}
 use Rattle.record.proofs.Fits.{judged-sized}
-use Rattle.hex.specs.Line.{lineText, checksumOf, contentOf, dataRecord, endRecord}
+use Rattle.hex.specs.Line.{hexLineText, checksumOf, contentOf, dataRecord, endRecord}
 use Rattle.hex.proofs.OneLine.{line-length}
-use Rattle.hex.specs.declared.Why.the-variants as why
+use Rattle.hex.specs.declared.HexRefusal.the-variants as why
 use Rattle.hex.specs.declared.Answer.the-variants.{Done, Refused}
-use Rattle.hex.specs.Export.{acceptedBy, acceptedOf, bothAccepted, labelOf, labelLine, lowLine, highLine, endLine, exportText, exportSize, exportAnswer}
+use Rattle.hex.specs.Export.{acceptedBy, imageAccepted, bothAccepted, exportLabel, labelLine, lowLine, highLine, endLine, exportText, exportSize, exportAnswer}
 
 -- ---- images that are taken
 
-accepted-sized : (image : List ℕ) → acceptedOf image ≡ true → length image ≡ imageSize
+accepted-sized : (image : List ℕ) → imageAccepted image ≡ true → length image ≡ imageSize
 accepted-sized image e = by (judgedOf image) refl e
   where
     by : (t : Taken) → judgedOf image ≡ t → acceptedBy t ≡ true → length image ≡ imageSize
@@ -36,17 +36,17 @@ accepted-sized image e = by (judgedOf image) refl e
 module _ (pack factory : List ℕ) (both-taken : bothAccepted pack factory ≡ true) where
   pub pack-sized : length pack ≡ imageSize
   unfolding bothAccepted
-  pack-sized = accepted-sized pack (both-true (acceptedOf pack) (acceptedOf factory) both-taken .0)
+  pack-sized = accepted-sized pack (both-true (imageAccepted pack) (imageAccepted factory) both-taken .0)
 
   pub factory-sized : length factory ≡ imageSize
   unfolding bothAccepted
-  factory-sized = accepted-sized factory (both-true (acceptedOf pack) (acceptedOf factory) both-taken .1)
+  factory-sized = accepted-sized factory (both-true (imageAccepted pack) (imageAccepted factory) both-taken .1)
 
-  pub label-is : labelOf pack factory ≡ pick (imageBl0 pack) (imageLabel pack) (imageLabel factory)
-  unfolding labelOf
+  pub label-is : exportLabel pack factory ≡ pick (imageBl0 pack) (imageLabel pack) (imageLabel factory)
+  unfolding exportLabel
   label-is = rw both-taken refl
 
-  pub label-sized : length (labelOf pack factory) ≡ 16
+  pub label-sized : length (exportLabel pack factory) ≡ 16
   label-sized =
       rw label-is
       (picked (λ (l : List ℕ). length l ≡ 16) (imageBl0 pack) (imageLabel pack) (imageLabel factory)
@@ -73,7 +73,7 @@ module _ (pack factory : List ℕ) (room : ℕ) where
 -- ---- the text
 
 module _ (label block : List ℕ) (sized : length label ≡ 16) (long : length block ≡ 32) where
-  data-line-length : (address : ℕ) (bytes : List ℕ) → length bytes ≡ 16 → length (lineText (dataRecord address bytes)) ≡ 44
+  data-line-length : (address : ℕ) (bytes : List ℕ) → length bytes ≡ 16 → length (hexLineText (dataRecord address bytes)) ≡ 44
   data-line-length address bytes e =
       line-length (dataRecord address bytes) ∙ omega (arith, length-append bytes (checksumOf (contentOf address 0 bytes) ∷ []))
 
@@ -99,7 +99,7 @@ module _ (label block : List ℕ) (sized : length label ≡ 16) (long : length b
   -- four lines, at the front of a room
   pub text-written : {first second third room after : List ℕ} {most next : ℕ} → first ≡ dataRecord 0x20 label → second ≡ dataRecord 0x60 (part 16 block 0)
       → third ≡ dataRecord 0x70 (part 16 block 16) → exportSize ≤ length room
-      → Writing most (lineText first ++ (lineText second ++ (lineText third ++ endLine))) room 0 next after
+      → Writing most (hexLineText first ++ (hexLineText second ++ (hexLineText third ++ endLine))) room 0 next after
       → after ≡ exportText label block ++ drop exportSize room
   text-written {room = room} {after = after} p q r fits w =
       let there : after ≡ put room 0 (exportText label block) = (rw (p, q, r) at w) .written in

@@ -6,16 +6,16 @@ use Rattle.hex.proofs.data_record
 use Rattle.hex.proofs.put_line
 use Rattle.hex.proofs.byte_in
 use Rattle.hex.proofs.address_in
-use Rattle.hex.proofs.judged
+use Rattle.hex.proofs.checked_line
 use Rattle.hex.proofs.put_data
 use contract.Lifetimes.{Lfts}
 use denote.Ref.{now}
 use denote.Triple.Entry.{Args, Res}
 use denote.Triple.Clauses.{Ended, AtExit, Lasts, atExit}
-use Rattle.hex.proofs.number
-use Rattle.hex.proofs.label
-use Rattle.hex.proofs.write
-use Rattle.hex.proofs.read
+use Rattle.hex.proofs.answer_number
+use Rattle.hex.proofs.export_label
+use Rattle.hex.proofs.write_text
+use Rattle.hex.proofs.read_text
 
 pub fault-number-once : Once «fault_number».ended «fault_number».Reads.Pre «fault_number».Reads.Learnt
 fault-number-once κs a r r′ w w′ p h h′ = (h ∙ sym h′, refl)
@@ -32,14 +32,14 @@ byte-in-once κs a r r′ w w′ p h h′ = (h ∙ sym h′, refl)
 pub address-in-once : Once «address_in».ended «address_in».Reads.Pre «address_in».Reads.Learnt
 address-in-once κs a r r′ w w′ p h h′ = (h ∙ sym h′, refl)
 
-pub judged-once : Once judged.ended judged.Reads.Pre judged.Reads.Learnt
-judged-once κs a r r′ w w′ p h h′ = (h ∙ sym h′, refl)
+pub checked-line-once : Once «checked_line».ended «checked_line».Reads.Pre «checked_line».Reads.Learnt
+checked-line-once κs a r r′ w w′ p h h′ = (h ∙ sym h′, refl)
 
 pub put-data-once : Once put_data.ended put_data.Reads.Pre put_data.Reads.Learnt
 put-data-once κs a r r′ w w′ p h h′ = (refl, λ i. (tt, ((h ∙ sym h′) i, (tt, tt))))
 
-pub number-once : Once number.ended number.Reads.Pre number.Reads.Learnt
-number-once κs a r r′ w w′ p h h′ = (h ∙ sym h′, refl)
+pub answer-number-once : Once «answer_number».ended «answer_number».Reads.Pre «answer_number».Reads.Learnt
+answer-number-once κs a r r′ w w′ p h h′ = (h ∙ sym h′, refl)
 
 -- `Once` of what is seen of a result. A part of what was lent is a place and its bytes; of these the contract fixes the bytes, and the lifetime that it
 -- is in one of the two images
@@ -53,11 +53,11 @@ module _ (T : Ended) {X : Type 0} (seen : (κs : Lfts (T .signature .lifetimes))
       Learnt κs a r′ (atExit T κs a w′) →
       (seen κs r ≡ seen κs r′) × (w ≡ w′)
 
-pub label-once : OnceSeen label.ended (λ κs r. now r) label.Reads.Pre label.Reads.Learnt
-label-once κs a r r′ w w′ p h h′ = (h ∙ sym h′, refl)
+pub export-label-once : OnceSeen «export_label».ended (λ κs r. now r) «export_label».Reads.Pre «export_label».Reads.Learnt
+export-label-once κs a r r′ w w′ p h h′ = (h ∙ sym h′, refl)
 
-pub write-once : Once write.ended write.Reads.Pre write.Reads.Learnt
-write-once κs a r r′ w w′ p h h′ = (h .answer ∙ sym (h′ .answer), λ i. (tt, (tt, ((h .written ∙ sym (h′ .written)) i, tt))))
+pub write-text-once : Once «write_text».ended «write_text».Reads.Pre «write_text».Reads.Learnt
+write-text-once κs a r r′ w w′ p h h′ = (h .answer ∙ sym (h′ .answer), λ i. (tt, (tt, ((h .written ∙ sym (h′ .written)) i, tt))))
 
-pub read-once : Once read.ended read.Reads.Pre read.Reads.Learnt
-read-once κs a r r′ w w′ p h h′ = (h .answer ∙ sym (h′ .answer), λ i. (tt, ((h .written ∙ sym (h′ .written)) i, tt)))
+pub read-text-once : Once «read_text».ended «read_text».Reads.Pre «read_text».Reads.Learnt
+read-text-once κs a r r′ w w′ p h h′ = (h .answer ∙ sym (h′ .answer), λ i. (tt, ((h .written ∙ sym (h′ .written)) i, tt)))

@@ -11,23 +11,23 @@ use Rattle.record.specs.declared.Taken.{Taken}
 use Rattle.record.specs.declared.Taken.the-variants as taken
 use Rattle.record.specs.Image.{imageLabel, imageBlock, imageBl0}
 use Rattle.record.specs.Record.{judgedOf}
-use Rattle.hex.specs.Line.{lineText, dataRecord, endRecord, faultNumber}
-use Rattle.hex.specs.declared.Why.{Why}
-use Rattle.hex.specs.declared.Why.the-variants as why
+use Rattle.hex.specs.Line.{hexLineText, dataRecord, endRecord, faultNumber}
+use Rattle.hex.specs.declared.HexRefusal.{HexRefusal}
+use Rattle.hex.specs.declared.HexRefusal.the-variants as why
 use Rattle.hex.specs.declared.Answer.{Answer}
 use Rattle.hex.specs.declared.Answer.the-variants.{Done, Refused}
 
 -- ---- the answers' numbers
 
-abbrev pub whyNumber : Why → ℕ
-whyNumber (why.Line fault) = faultNumber fault
-whyNumber why.Whole = 43
-whyNumber why.Image = 44
-whyNumber why.Room = 45
+abbrev pub hexRefusalNumber : HexRefusal → ℕ
+hexRefusalNumber (why.Line fault) = faultNumber fault
+hexRefusalNumber why.Whole = 43
+hexRefusalNumber why.Image = 44
+hexRefusalNumber why.Room = 45
 
 abbrev pub answerNumber : Answer → ℕ
 answerNumber Done = 0
-answerNumber (Refused w) = whyNumber w
+answerNumber (Refused w) = hexRefusalNumber w
 
 -- ---- "44, in export, if an image record would refuse either image"
 
@@ -35,35 +35,35 @@ abbrev pub acceptedBy : Taken → Bool
 acceptedBy (taken.Run e) = true
 acceptedBy (taken.Refused r) = false
 
-abbrev pub acceptedOf : List ℕ → Bool
-acceptedOf image = acceptedBy (judgedOf image)
+abbrev pub imageAccepted : List ℕ → Bool
+imageAccepted image = acceptedBy (judgedOf image)
 
 unfoldable pub bothAccepted : List ℕ → List ℕ → Bool
-bothAccepted pack factory = both (acceptedOf pack) (acceptedOf factory)
+bothAccepted pack factory = both (imageAccepted pack) (imageAccepted factory)
 
 -- ---- "The label handed back for export is a part of the pack's image if block 0 is locked there, else of the factory's (empty on 44). Block 1 is the
 -- pack's"
 
-unfoldable pub labelOf : List ℕ → List ℕ → List ℕ
-labelOf pack factory = pick (bothAccepted pack factory) (pick (imageBl0 pack) (imageLabel pack) (imageLabel factory)) []
+unfoldable pub exportLabel : List ℕ → List ℕ → List ℕ
+exportLabel pack factory = pick (bothAccepted pack factory) (pick (imageBl0 pack) (imageLabel pack) (imageLabel factory)) []
 
 -- the 48 bytes
 abbrev pub exportedOf : List ℕ → List ℕ → List ℕ
-exportedOf pack factory = labelOf pack factory ++ imageBlock pack
+exportedOf pack factory = exportLabel pack factory ++ imageBlock pack
 
 -- ---- "the label at 0020h and block 1 at 0060h, data records of 16, upper-case, then the end record, a line feed after each"
 
 abbrev pub labelLine : List ℕ → List ℕ
-labelLine label = lineText (dataRecord 0x20 label)
+labelLine label = hexLineText (dataRecord 0x20 label)
 
 abbrev pub lowLine : List ℕ → List ℕ
-lowLine block = lineText (dataRecord 0x60 (part 16 block 0))
+lowLine block = hexLineText (dataRecord 0x60 (part 16 block 0))
 
 abbrev pub highLine : List ℕ → List ℕ
-highLine block = lineText (dataRecord 0x70 (part 16 block 16))
+highLine block = hexLineText (dataRecord 0x70 (part 16 block 16))
 
 abbrev pub endLine : List ℕ
-endLine = lineText endRecord
+endLine = hexLineText endRecord
 
 abbrev pub exportText : List ℕ → List ℕ → List ℕ
 exportText label block = labelLine label ++ (lowLine block ++ (highLine block ++ endLine))
@@ -78,7 +78,7 @@ exportAnswer pack factory room =
     pick (bothAccepted pack factory) (pick (ltb room exportSize) (Refused why.Room) Done) (Refused why.Image)
 
 abbrev pub exportRoom : Answer → List ℕ → List ℕ → List ℕ → List ℕ
-exportRoom Done pack factory room = exportText (labelOf pack factory) (imageBlock pack) ++ drop exportSize room
+exportRoom Done pack factory room = exportText (exportLabel pack factory) (imageBlock pack) ++ drop exportSize room
 exportRoom (Refused w) pack factory room = room
 
 pub record Exporting (pack factory room : List ℕ) (said : Answer) (after : List ℕ) : Type 0 where

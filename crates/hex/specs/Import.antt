@@ -7,10 +7,10 @@ use lib.Dec.{eqb, ltb}
 use lib.ListN.{length, drop}
 use Rattle.numbers.specs.Choice.{pick, both}
 use Rattle.slices.specs.Slices.{part}
-use Rattle.hex.specs.declared.Line.{Line}
-use Rattle.hex.specs.declared.Line.the-variants.{Good, Bad}
-use Rattle.hex.specs.Line.{lineFeed, addressIn, dataIn, lineOf}
-use Rattle.hex.specs.declared.Why.the-variants as why
+use Rattle.hex.specs.declared.CheckedLine.{CheckedLine}
+use Rattle.hex.specs.declared.CheckedLine.the-variants.{Good, Bad}
+use Rattle.hex.specs.Line.{lineFeed, addressIn, dataIn, checkedLineOf}
+use Rattle.hex.specs.declared.HexRefusal.the-variants as why
 use Rattle.hex.specs.declared.Answer.{Answer}
 use Rattle.hex.specs.declared.Answer.the-variants.{Done, Refused}
 use Rattle.hex.specs.Export.{answerNumber}
@@ -18,29 +18,29 @@ use Rattle.hex.specs.Export.{answerNumber}
 -- ---- the lines of a text: each goes up to its line feed, and the last one to the end where it has none
 
 -- a byte in front of the first line
-abbrev pub aheadOf : ℕ → List (List ℕ) → List (List ℕ)
-aheadOf c [] = (c ∷ []) ∷ []
-aheadOf c (l ∷ ls) = (c ∷ l) ∷ ls
+abbrev pub aheadOfLines : ℕ → List (List ℕ) → List (List ℕ)
+aheadOfLines c [] = (c ∷ []) ∷ []
+aheadOfLines c (l ∷ ls) = (c ∷ l) ∷ ls
 
-abbrev pub linesOf : List ℕ → List (List ℕ)
-linesOf [] = []
-linesOf (c ∷ cs) = pick (eqb c lineFeed) ((c ∷ []) ∷ linesOf cs) (aheadOf c (linesOf cs))
+abbrev pub textLines : List ℕ → List (List ℕ)
+textLines [] = []
+textLines (c ∷ cs) = pick (eqb c lineFeed) ((c ∷ []) ∷ textLines cs) (aheadOfLines c (textLines cs))
 
 -- the line that starts at an index goes up to another
 pub record Cut (text : List ℕ) (at end : ℕ) : Type 0 where
   pub onward : at < end
   pub within : end ≤ length text
-  pub lines : linesOf (drop at text) ≡ part (end - at) text at ∷ linesOf (drop end text)
+  pub lines : textLines (drop at text) ≡ part (end - at) text at ∷ textLines (drop end text)
 
 -- ---- "40 to 42 in that order at the first bad line, 43 only if no line is bad"
 
-abbrev pub afterLine : Line → Answer → Answer
+abbrev pub afterLine : CheckedLine → Answer → Answer
 afterLine Good rest = rest
 afterLine (Bad fault) rest = Refused (why.Line fault)
 
 abbrev pub linesAnswer : List (List ℕ) → Answer
 linesAnswer [] = Done
-linesAnswer (l ∷ ls) = afterLine (lineOf l) (linesAnswer ls)
+linesAnswer (l ∷ ls) = afterLine (checkedLineOf l) (linesAnswer ls)
 
 -- ---- "43 bytes missing or repeated, or an end record missing or not last". A good line at 0000h is the end record
 
@@ -52,14 +52,14 @@ abbrev pub onceOf : ℕ → List (List ℕ) → Bool
 onceOf address ls = eqb (countOf address ls) 1
 
 -- the address of the last line, or another where there is none
-abbrev pub lastOf : ℕ → List (List ℕ) → ℕ
-lastOf address [] = address
-lastOf address (l ∷ ls) = lastOf (addressIn l) ls
+abbrev pub lastAddress : ℕ → List (List ℕ) → ℕ
+lastAddress address [] = address
+lastAddress address (l ∷ ls) = lastAddress (addressIn l) ls
 
-unfoldable pub wholeOf : List (List ℕ) → Bool
-wholeOf ls =
+unfoldable pub wholeText : List (List ℕ) → Bool
+wholeText ls =
     both (both (onceOf 0x20 ls) (both (onceOf 0x60 ls) (onceOf 0x70 ls)))
-    (both (onceOf 0 ls) (eqb (lastOf 1 ls) 0))
+    (both (onceOf 0 ls) (eqb (lastAddress 1 ls) 0))
 
 -- ---- the 48 bytes
 
@@ -82,13 +82,13 @@ afterLines (Refused w) rest = Refused w
 
 unfoldable pub importAnswer : List (List ℕ) → ℕ → Answer
 importAnswer ls room =
-    afterLines (linesAnswer ls) (pick (wholeOf ls) (pick (ltb room importSize) (Refused why.Room) Done) (Refused why.Whole))
+    afterLines (linesAnswer ls) (pick (wholeText ls) (pick (ltb room importSize) (Refused why.Room) Done) (Refused why.Whole))
 
 abbrev pub importRoom : Answer → List (List ℕ) → List ℕ → List ℕ
 importRoom Done ls room = importedOf ls ++ drop importSize room
 importRoom (Refused w) ls room = room
 
 pub record Importing (text room : List ℕ) (said : Answer) (after : List ℕ) : Type 0 where
-  pub number : answerNumber said ≡ answerNumber (importAnswer (linesOf text) (length room))
-  pub answer : said ≡ importAnswer (linesOf text) (length room)
-  pub written : after ≡ importRoom (importAnswer (linesOf text) (length room)) (linesOf text) room
+  pub number : answerNumber said ≡ answerNumber (importAnswer (textLines text) (length room))
+  pub answer : said ≡ importAnswer (textLines text) (length room)
+  pub written : after ≡ importRoom (importAnswer (textLines text) (length room)) (textLines text) room

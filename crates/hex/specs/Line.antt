@@ -12,8 +12,8 @@ use Rattle.slices.specs.Slices.{part}
 use Rattle.digits.specs.Digits.{upper, hexText, hexBytes, hexDigits}
 use Rattle.hex.specs.declared.Fault.{Fault}
 use Rattle.hex.specs.declared.Fault.the-variants.{Form, Checksum, Record}
-use Rattle.hex.specs.declared.Line.{Line}
-use Rattle.hex.specs.declared.Line.the-variants.{Good, Bad}
+use Rattle.hex.specs.declared.CheckedLine.{CheckedLine}
+use Rattle.hex.specs.declared.CheckedLine.the-variants.{Good, Bad}
 
 abbrev pub colon : ℕ
 colon = code ":"
@@ -24,31 +24,31 @@ lineFeed = code "\n"
 -- ---- written
 
 -- the line of some bytes
-abbrev pub lineText : List ℕ → List ℕ
-lineText bytes = colon ∷ (hexText upper bytes ++ (lineFeed ∷ []))
+abbrev pub hexLineText : List ℕ → List ℕ
+hexLineText bytes = colon ∷ (hexText upper bytes ++ (lineFeed ∷ []))
 
-abbrev pub sumOf : List ℕ → ℕ
-sumOf [] = 0
-sumOf (b ∷ bs) = b + sumOf bs
+abbrev pub byteSum : List ℕ → ℕ
+byteSum [] = 0
+byteSum (b ∷ bs) = b + byteSum bs
 
 -- the byte with which the others sum to 0 modulo 256
 abbrev pub checksumOf : List ℕ → ℕ
-checksumOf bytes = (256 - sumOf bytes % 256) % 256
+checksumOf bytes = (256 - byteSum bytes % 256) % 256
 
 -- all but the checksum: count, address, type, data
 abbrev pub contentOf : ℕ → ℕ → List ℕ → List ℕ
 contentOf address kind bytes = length bytes ∷ address / 256 ∷ address % 256 ∷ kind ∷ bytes
 
-abbrev pub recordOf : ℕ → ℕ → List ℕ → List ℕ
-recordOf address kind bytes = contentOf address kind bytes ++ (checksumOf (contentOf address kind bytes) ∷ [])
+abbrev pub hexRecord : ℕ → ℕ → List ℕ → List ℕ
+hexRecord address kind bytes = contentOf address kind bytes ++ (checksumOf (contentOf address kind bytes) ∷ [])
 
 -- a record of data has type 00
 abbrev pub dataRecord : ℕ → List ℕ → List ℕ
-dataRecord address bytes = recordOf address 0 bytes
+dataRecord address bytes = hexRecord address 0 bytes
 
 -- the end record has type 01, the address 0000h and no data
 abbrev pub endRecord : List ℕ
-endRecord = recordOf 0 1 []
+endRecord = hexRecord 0 1 []
 
 -- ---- read
 
@@ -59,8 +59,8 @@ digitsIn l = part (length l - 2) l 1
 abbrev pub bytesIn : List ℕ → List ℕ
 bytesIn l = hexBytes upper (digitsIn l)
 
-abbrev pub countIn : List ℕ → ℕ
-countIn l = getD (bytesIn l) 0 0
+abbrev pub lengthIn : List ℕ → ℕ
+lengthIn l = getD (bytesIn l) 0 0
 
 abbrev pub addressIn : List ℕ → ℕ
 addressIn l = joinedOf (getD (bytesIn l) 1 0) (getD (bytesIn l) 2 0)
@@ -75,25 +75,25 @@ dataIn l = part 16 (bytesIn l) 4
 unfoldable pub formedOf : List ℕ → Bool
 formedOf l =
     both (both (eqb (getD l 0 0) colon) (eqb (getD l (length l - 1) 0) lineFeed))
-    (both (hexDigits upper (digitsIn l)) (eqb (length (digitsIn l)) (2 * (countIn l + 5))))
+    (both (hexDigits upper (digitsIn l)) (eqb (length (digitsIn l)) (2 * (lengthIn l + 5))))
 
 -- 41: "checksum": all bytes of the line sum to 0 modulo 256
-unfoldable pub summedOf : List ℕ → Bool
-summedOf l = eqb (sumOf (bytesIn l) % 256) 0
+unfoldable pub sumsToZero : List ℕ → Bool
+sumsToZero l = eqb (byteSum (bytesIn l) % 256) 0
 
 -- 42: "any record but the end record and 16 bytes at 0020h, 0060h or 0070h"
 abbrev pub placedOf : ℕ → Bool
 placedOf address = either (eqb address 0x20) (either (eqb address 0x60) (eqb address 0x70))
 
 abbrev pub headedOf : ℕ → ℕ → List ℕ → Bool
-headedOf count kind l = both (eqb (countIn l) count) (eqb (typeIn l) kind)
+headedOf count kind l = both (eqb (lengthIn l) count) (eqb (typeIn l) kind)
 
 unfoldable pub expectedOf : List ℕ → Bool
 expectedOf l = either (both (headedOf 0 1 l) (eqb (addressIn l) 0)) (both (headedOf 16 0 l) (placedOf (addressIn l)))
 
 -- "40 to 42 in that order"
-unfoldable pub lineOf : List ℕ → Line
-lineOf l = pick (formedOf l) (pick (summedOf l) (pick (expectedOf l) Good (Bad Record)) (Bad Checksum)) (Bad Form)
+unfoldable pub checkedLineOf : List ℕ → CheckedLine
+checkedLineOf l = pick (formedOf l) (pick (sumsToZero l) (pick (expectedOf l) Good (Bad Record)) (Bad Checksum)) (Bad Form)
 
 abbrev pub faultNumber : Fault → ℕ
 faultNumber Form = 40

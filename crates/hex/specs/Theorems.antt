@@ -2,7 +2,7 @@
 --
 -- "Import reads just this layout, record order free, and gives back the 48 bytes of every export."
 --
--- Stated of any two calls that their contracts allow: one of `hex::write`, which is given two images of bytes, and one of `hex::read`, which
+-- Stated of any two calls that their contracts allow: one of `hex::write_text`, which is given two images of bytes, and one of `hex::read_text`, which
 -- is given the lines that were written, those of the data in any order.
 use mathlib.Core.Path.{_≡_}
 use mathlib.Core.Bool.{true}
@@ -11,19 +11,19 @@ use mathlib.Core.List.{List, [], _∷_, _++_}
 use Prim.Native.Nat.{ℕ, _≤_, _<_}
 use lib.ListN.{length, getD, take, drop}
 use Rattle.record.specs.Image.{imageBlock}
-use Rattle.hex.specs.declared.Line.the-variants.{Good}
-use Rattle.hex.specs.Line.{lineText, dataRecord, addressIn, dataIn, placedOf, lineOf}
+use Rattle.hex.specs.declared.CheckedLine.the-variants.{Good}
+use Rattle.hex.specs.Line.{hexLineText, dataRecord, addressIn, dataIn, placedOf, checkedLineOf}
 use Rattle.hex.specs.declared.Answer.{Answer}
 use Rattle.hex.specs.declared.Answer.the-variants.{Done}
-use Rattle.hex.specs.Export.{answerNumber, labelOf, exportedOf, labelLine, lowLine, highLine, endLine, exportText, exportSize, Exporting}
+use Rattle.hex.specs.Export.{answerNumber, exportLabel, exportedOf, labelLine, lowLine, highLine, endLine, exportText, exportSize, Exporting}
 use Rattle.hex.specs.Import.{importSize, Importing}
 
 -- ---- a good line is the end record, or 16 bytes at one of the three addresses, as they are written
 
 abbrev pub GoodLines : Type 0
 GoodLines =
-    (l : List ℕ) → lineOf l ≡ Good
-    → (l ≡ endLine) ⊎ ((placedOf (addressIn l) ≡ true) × (l ≡ lineText (dataRecord (addressIn l) (dataIn l))))
+    (l : List ℕ) → checkedLineOf l ≡ Good
+    → (l ≡ endLine) ⊎ ((placedOf (addressIn l) ≡ true) × (l ≡ hexLineText (dataRecord (addressIn l) (dataIn l))))
 
 -- ---- the lines of an export, those of the data in any order
 
@@ -33,7 +33,7 @@ Among line [] = ⊥
 Among line (l ∷ ls) = (l ≡ line) ⊎ Among line ls
 
 -- three lines, among which each of the three is: the three in some order
-pub record Arranged (one two three : List ℕ) (ls : List (List ℕ)) : Type 0 where
+pub record InSomeOrder (one two three : List ℕ) (ls : List (List ℕ)) : Type 0 where
   pub many : length ls ≡ 3
   pub first : Among one ls
   pub second : Among two ls
@@ -46,7 +46,7 @@ joinedText (l ∷ ls) = l ++ joinedText ls
 
 -- the text of an export, its data lines in an order
 pub record Reordered (pack factory : List ℕ) (ls : List (List ℕ)) (text : List ℕ) : Type 0 where
-  pub arranged : Arranged (labelLine (labelOf pack factory)) (lowLine (imageBlock pack)) (highLine (imageBlock pack)) ls
+  pub arranged : InSomeOrder (labelLine (exportLabel pack factory)) (lowLine (imageBlock pack)) (highLine (imageBlock pack)) ls
   pub lines : text ≡ joinedText ls ++ endLine
 
 abbrev pub Bytes : List ℕ → Type 0
@@ -60,7 +60,7 @@ pub record Returned (pack factory room : List ℕ) (said : Answer) (after : List
   pub sized : length (exportedOf pack factory) ≡ importSize
   pub bytes : after ≡ exportedOf pack factory ++ drop importSize room
 
--- of every call of `write` that says `Done`, whatever it was given: it left 144 bytes, which are the text in an order, and any order of it is read back
+-- of every call of `write_text` that says `Done`, whatever it was given: it left 144 bytes, which are the text in an order, and any order of it is read back
 abbrev pub RoundTrip : Type 0
 RoundTrip =
     (pack factory room after : List ℕ) → Bytes pack → Bytes factory → Exporting pack factory room Done after
@@ -68,8 +68,8 @@ RoundTrip =
     → (lent : List ℕ) (said : Answer) (last : List ℕ) → importSize ≤ length lent → Importing text lent said last
     → Returned pack factory lent said last
 
-abbrev pub Unchanged : Type 0
-Unchanged =
+abbrev pub ExportedText : Type 0
+ExportedText =
     (pack factory room after : List ℕ) → Exporting pack factory room Done after
-    → (take exportSize after ≡ exportText (labelOf pack factory) (imageBlock pack))
-    × Reordered pack factory (labelLine (labelOf pack factory) ∷ lowLine (imageBlock pack) ∷ highLine (imageBlock pack) ∷ []) (take exportSize after)
+    → (take exportSize after ≡ exportText (exportLabel pack factory) (imageBlock pack))
+    × Reordered pack factory (labelLine (exportLabel pack factory) ∷ lowLine (imageBlock pack) ∷ highLine (imageBlock pack) ∷ []) (take exportSize after)

@@ -5,11 +5,11 @@ ghost use Prim.Native.Nat.{_+_, _*_, _%_, _≤_, _<_};
 ghost use lib.ListN.{length, getD, drop};
 ghost use Rattle.slices.specs.Slices.{put};
 ghost use Rattle.digits.specs.Digits.{upper, hexBytes, Writing};
-ghost use Rattle.hex.specs.Line.{lineText, sumOf, checksumOf, dataRecord, bytesIn, addressIn, dataIn, formedOf, summedOf, placedOf, headedOf, expectedOf, lineOf, faultNumber};
+ghost use Rattle.hex.specs.Line.{hexLineText, byteSum, checksumOf, dataRecord, bytesIn, addressIn, dataIn, formedOf, sumsToZero, placedOf, headedOf, expectedOf, checkedLineOf, faultNumber};
 ghost use mathlib.Core.List.{_++_};
 ghost use Rattle.numbers.specs.Choice.{pick};
-ghost use Rattle.hex.specs.Export.{answerNumber, acceptedOf, bothAccepted, labelOf, exportText, exportSize, exportAnswer, Exporting};
-ghost use Rattle.hex.specs.Import.{linesOf, Cut, linesAnswer, countOf, lastOf, wholeOf, dataAt, importedOf, importSize, importAnswer, Importing};
+ghost use Rattle.hex.specs.Export.{answerNumber, imageAccepted, bothAccepted, exportLabel, exportText, exportSize, exportAnswer, Exporting};
+ghost use Rattle.hex.specs.Import.{textLines, Cut, linesAnswer, countOf, lastAddress, wholeText, dataAt, importedOf, importSize, importAnswer, Importing};
 
 // What is wrong with a line: its form, its checksum, or which record it is.
 pub enum Fault {
@@ -18,7 +18,7 @@ pub enum Fault {
     Record,
 }
 
-pub enum Line {
+pub enum CheckedLine {
     Good,
     Bad(Fault),
 }
@@ -37,7 +37,7 @@ pub fn fault_number(fault: Fault) -> u8
 
 // The sum of bytes, modulo 256.
 fn total(bytes: &[u8]) -> u8
-    ensures { λ r. ⌜ r ≡ sumOf (now (bytes .entry)) % 256 ⌝ }
+    ensures { λ r. ⌜ r ≡ byteSum (now (bytes .entry)) % 256 ⌝ }
 {
     let mut sum: u8 = 0;
     let mut i = 0;
@@ -70,7 +70,7 @@ pub fn data_record(address: u8, carried: &[u8]) -> [u8; 21]
 // The line of some bytes.
 pub fn put_line(bytes: &[u8], out: &mut [u8], at: usize) -> usize
     requires { ⌜ at + (2 * length (now bytes) + 2) ≤ length (now out) ⌝ }
-    ensures { λ r. ⌜ Writing (1 + (2 * length (now (bytes .entry)) + 1)) (lineText (now (bytes .entry))) (now (out .entry)) at r (now (out .exit)) ⌝ }
+    ensures { λ r. ⌜ Writing (1 + (2 * length (now (bytes .entry)) + 1)) (hexLineText (now (bytes .entry))) (now (out .entry)) at r (now (out .exit)) ⌝ }
 {
     let a = digits::put_byte(b':', out, at);
     let b = digits::put_upper(bytes, out, a);
@@ -80,39 +80,39 @@ pub fn put_line(bytes: &[u8], out: &mut [u8], at: usize) -> usize
 // ---- read
 
 // A byte of a line, by its place; 0 behind the last.
-pub fn byte_in(l: &[u8], k: usize) -> u8
+pub fn byte_in(line: &[u8], k: usize) -> u8
     requires { ⌜ k < 32 ⌝ }
-    ensures { λ r. ⌜ r ≡ getD (bytesIn (now (l .entry))) k 0 ⌝ }
+    ensures { λ r. ⌜ r ≡ getD (bytesIn (now (line .entry))) k 0 ⌝ }
 {
     let at = 2 * k + 1;
-    if l.len() < at + 3 {
+    if line.len() < at + 3 {
         return 0;
     }
-    digits::upper_byte(l[at], l[at + 1])
+    digits::upper_byte(line[at], line[at + 1])
 }
 
-pub fn address_in(l: &[u8]) -> u16
-    ensures { λ r. ⌜ r ≡ addressIn (now (l .entry)) ⌝ }
+pub fn address_in(line: &[u8]) -> u16
+    ensures { λ r. ⌜ r ≡ addressIn (now (line .entry)) ⌝ }
 {
-    numbers::joined(byte_in(l, 1), byte_in(l, 2))
+    numbers::joined(byte_in(line, 1), byte_in(line, 2))
 }
 
-fn formed(l: &[u8]) -> bool
-    ensures { λ r. ⌜ r ≡ formedOf (now (l .entry)) ⌝ }
+fn formed(line: &[u8]) -> bool
+    ensures { λ r. ⌜ r ≡ formedOf (now (line .entry)) ⌝ }
 {
-    let n = l.len();
+    let n = line.len();
     if n < 12 {
         return false;
     }
-    let count = slices::wide(byte_in(l, 0));
-    let ends = numbers::and(l[0] == b':', l[n - 1] == b'\n');
-    let digits = digits::upper_digits(&l[1..n - 1]);
+    let count = slices::wide(byte_in(line, 0));
+    let ends = numbers::and(line[0] == b':', line[n - 1] == b'\n');
+    let digits = digits::upper_digits(&line[1..n - 1]);
     numbers::and(ends, numbers::and(digits, n - 2 == 2 * (count + 5)))
 }
 
 // The sum of the bytes that digits stand for, modulo 256.
 fn total_read(text: &[u8]) -> u8
-    ensures { λ r. ⌜ r ≡ sumOf (hexBytes upper (now (text .entry))) % 256 ⌝ }
+    ensures { λ r. ⌜ r ≡ byteSum (hexBytes upper (now (text .entry))) % 256 ⌝ }
 {
     let mut sum: u8 = 0;
     let mut i = 0;
@@ -123,12 +123,12 @@ fn total_read(text: &[u8]) -> u8
     sum
 }
 
-fn summed(l: &[u8]) -> bool
-    requires { ⌜ 2 ≤ length (now l) ⌝ }
-    ensures { λ r. ⌜ r ≡ summedOf (now (l .entry)) ⌝ }
+fn sums_to_zero(line: &[u8]) -> bool
+    requires { ⌜ 2 ≤ length (now line) ⌝ }
+    ensures { λ r. ⌜ r ≡ sumsToZero (now (line .entry)) ⌝ }
 {
-    let end = l.len() - 1;
-    total_read(&l[1..end]) == 0
+    let end = line.len() - 1;
+    total_read(&line[1..end]) == 0
 }
 
 fn placed(address: u16) -> bool
@@ -140,52 +140,52 @@ fn placed(address: u16) -> bool
     )
 }
 
-fn headed(count: u8, kind: u8, l: &[u8]) -> bool
-    ensures { λ r. ⌜ r ≡ headedOf count kind (now (l .entry)) ⌝ }
+fn headed(count: u8, kind: u8, line: &[u8]) -> bool
+    ensures { λ r. ⌜ r ≡ headedOf count kind (now (line .entry)) ⌝ }
 {
-    numbers::and(byte_in(l, 0) == count, byte_in(l, 3) == kind)
+    numbers::and(byte_in(line, 0) == count, byte_in(line, 3) == kind)
 }
 
 // Whether it is the end record, or 16 bytes at one of the three addresses.
-fn known(l: &[u8]) -> bool
-    ensures { λ r. ⌜ r ≡ expectedOf (now (l .entry)) ⌝ }
+fn expected(line: &[u8]) -> bool
+    ensures { λ r. ⌜ r ≡ expectedOf (now (line .entry)) ⌝ }
 {
-    let at = address_in(l);
-    let end = numbers::and(headed(0, 1, l), at == 0);
-    numbers::or(end, numbers::and(headed(16, 0, l), placed(at)))
+    let at = address_in(line);
+    let end = numbers::and(headed(0, 1, line), at == 0);
+    numbers::or(end, numbers::and(headed(16, 0, line), placed(at)))
 }
 
 // A line, judged by itself.
-pub fn judged(l: &[u8]) -> Line
-    ensures { λ r. ⌜ r ≡ lineOf (now (l .entry)) ⌝ }
+pub fn checked_line(line: &[u8]) -> CheckedLine
+    ensures { λ r. ⌜ r ≡ checkedLineOf (now (line .entry)) ⌝ }
 {
-    if formed(l) {
-        if summed(l) {
-            if known(l) {
-                return Line::Good;
+    if formed(line) {
+        if sums_to_zero(line) {
+            if expected(line) {
+                return CheckedLine::Good;
             }
-            return Line::Bad(Fault::Record);
+            return CheckedLine::Bad(Fault::Record);
         }
-        return Line::Bad(Fault::Checksum);
+        return CheckedLine::Bad(Fault::Checksum);
     }
-    Line::Bad(Fault::Form)
+    CheckedLine::Bad(Fault::Form)
 }
 
 // The data of a record of 16 bytes, at a place of a lent buffer.
-pub fn put_data(l: &[u8], out: &mut [u8], at: usize)
-    requires { ⌜ 20 ≤ length (bytesIn (now l)) ⌝ }
+pub fn put_data(line: &[u8], out: &mut [u8], at: usize)
+    requires { ⌜ 20 ≤ length (bytesIn (now line)) ⌝ }
     requires { ⌜ at + 16 ≤ length (now out) ⌝ }
-    ensures { λ _. ⌜ now (out .exit) ≡ put (now (out .entry)) at (dataIn (now (l .entry))) ⌝ }
+    ensures { λ _. ⌜ now (out .exit) ≡ put (now (out .entry)) at (dataIn (now (line .entry))) ⌝ }
 {
     let mut i = 0;
     while i < 16 {
-        out[at + i] = byte_in(l, 4 + i);
+        out[at + i] = byte_in(line, 4 + i);
         i += 1;
     }
 }
 
 // What keeps a text from being written or read: a line; lines that are not the whole; an image; or the room.
-pub enum Why {
+pub enum HexRefusal {
     Line(Fault),
     Whole,
     Image,
@@ -194,28 +194,28 @@ pub enum Why {
 
 pub enum Answer {
     Done,
-    Refused(Why),
+    Refused(HexRefusal),
 }
 
 // The answer's number.
-pub fn number(answer: Answer) -> u8
+pub fn answer_number(answer: Answer) -> u8
     ensures { λ r. ⌜ r ≡ answerNumber answer ⌝ }
 {
     match answer {
         Answer::Done => 0,
         Answer::Refused(why) => match why {
-            Why::Line(fault) => fault_number(fault),
-            Why::Whole => 43,
-            Why::Image => 44,
-            Why::Room => 45,
+            HexRefusal::Line(fault) => fault_number(fault),
+            HexRefusal::Whole => 43,
+            HexRefusal::Image => 44,
+            HexRefusal::Room => 45,
         },
     }
 }
 
 // ---- export
 
-fn accepted(image: &[u8]) -> bool
-    ensures { λ r. ⌜ r ≡ acceptedOf (now (image .entry)) ⌝ }
+fn image_accepted(image: &[u8]) -> bool
+    ensures { λ r. ⌜ r ≡ imageAccepted (now (image .entry)) ⌝ }
 {
     let judged = record::judged(image);
     match judged {
@@ -227,12 +227,12 @@ fn accepted(image: &[u8]) -> bool
 fn both_accepted(pack: &[u8], factory: &[u8]) -> bool
     ensures { λ r. ⌜ r ≡ bothAccepted (now (pack .entry)) (now (factory .entry)) ⌝ }
 {
-    numbers::and(accepted(pack), accepted(factory))
+    numbers::and(image_accepted(pack), image_accepted(factory))
 }
 
 // The label for export, a part of one of the two images.
-pub fn label<'a>(pack: &'a [u8], factory: &'a [u8]) -> &'a [u8]
-    ensures { λ r. ⌜ now r ≡ labelOf (now (pack .entry)) (now (factory .entry)) ⌝ }
+pub fn export_label<'a>(pack: &'a [u8], factory: &'a [u8]) -> &'a [u8]
+    ensures { λ r. ⌜ now r ≡ exportLabel (now (pack .entry)) (now (factory .entry)) ⌝ }
 {
     if both_accepted(pack, factory) {
         if pack[record::LOCKS_AT] % 2 == 1 {
@@ -248,11 +248,11 @@ fn export_answer(pack: &[u8], factory: &[u8], room: usize) -> Answer
 {
     if both_accepted(pack, factory) {
         if room < 144 {
-            return Answer::Refused(Why::Room);
+            return Answer::Refused(HexRefusal::Room);
         }
         return Answer::Done;
     }
-    Answer::Refused(Why::Image)
+    Answer::Refused(HexRefusal::Image)
 }
 
 // Three records of data and the end record, a line each.
@@ -273,13 +273,13 @@ fn put_text(label: &[u8], block: &[u8], room: &mut [u8])
 }
 
 // Writes the text at the front of the room, or nothing.
-pub fn write<'a>(pack: &'a [u8], factory: &'a [u8], room: &mut [u8]) -> Answer
+pub fn write_text<'a>(pack: &'a [u8], factory: &'a [u8], room: &mut [u8]) -> Answer
     ensures { λ r. ⌜ Exporting (now (pack .entry)) (now (factory .entry)) (now (room .entry)) r (now (room .exit)) ⌝ }
 {
     let found = export_answer(pack, factory, room.len());
     match found {
         Answer::Done => {
-            let chosen = label(pack, factory);
+            let chosen = export_label(pack, factory);
             put_text(chosen, &pack[record::BLOCK_AT..record::ACR_AT], room);
             Answer::Done
         }
@@ -306,18 +306,18 @@ fn line_end(text: &[u8], at: usize) -> usize
 
 // The first bad line decides.
 fn lines_answer(text: &[u8]) -> Answer
-    ensures { λ r. ⌜ r ≡ linesAnswer (linesOf (now (text .entry))) ⌝ }
+    ensures { λ r. ⌜ r ≡ linesAnswer (textLines (now (text .entry))) ⌝ }
 {
     let mut at = 0;
     while at < text.len() {
         let end = line_end(text, at);
-        let line = judged(&text[at..end]);
+        let line = checked_line(&text[at..end]);
         match line {
-            Line::Good => {
+            CheckedLine::Good => {
                 at = end;
             }
-            Line::Bad(fault) => {
-                return Answer::Refused(Why::Line(fault));
+            CheckedLine::Bad(fault) => {
+                return Answer::Refused(HexRefusal::Line(fault));
             }
         }
     }
@@ -332,7 +332,7 @@ fn one(t: bool) -> usize
 
 // How many lines have an address.
 fn count(text: &[u8], address: u16) -> usize
-    ensures { λ r. ⌜ r ≡ countOf address (linesOf (now (text .entry))) ⌝ }
+    ensures { λ r. ⌜ r ≡ countOf address (textLines (now (text .entry))) ⌝ }
 {
     let mut n = 0;
     let mut at = 0;
@@ -345,8 +345,8 @@ fn count(text: &[u8], address: u16) -> usize
 }
 
 // The address of the last line, or 1.
-fn last(text: &[u8]) -> u16
-    ensures { λ r. ⌜ r ≡ lastOf 1 (linesOf (now (text .entry))) ⌝ }
+fn last_address(text: &[u8]) -> u16
+    ensures { λ r. ⌜ r ≡ lastAddress 1 (textLines (now (text .entry))) ⌝ }
 {
     let mut address = 1;
     let mut at = 0;
@@ -359,27 +359,27 @@ fn last(text: &[u8]) -> u16
 }
 
 // Whether each of the four records is there once, the end record last.
-fn whole(text: &[u8]) -> bool
-    ensures { λ r. ⌜ r ≡ wholeOf (linesOf (now (text .entry))) ⌝ }
+fn whole_text(text: &[u8]) -> bool
+    ensures { λ r. ⌜ r ≡ wholeText (textLines (now (text .entry))) ⌝ }
 {
     let block = numbers::and(count(text, 0x60) == 1, count(text, 0x70) == 1);
-    let ended = numbers::and(count(text, 0) == 1, last(text) == 0);
+    let ended = numbers::and(count(text, 0) == 1, last_address(text) == 0);
     numbers::and(numbers::and(count(text, 0x20) == 1, block), ended)
 }
 
 fn import_answer(text: &[u8], room: usize) -> Answer
-    ensures { λ r. ⌜ r ≡ importAnswer (linesOf (now (text .entry))) room ⌝ }
+    ensures { λ r. ⌜ r ≡ importAnswer (textLines (now (text .entry))) room ⌝ }
 {
     let lines = lines_answer(text);
     match lines {
         Answer::Done => {
-            if whole(text) {
+            if whole_text(text) {
                 if room < 48 {
-                    return Answer::Refused(Why::Room);
+                    return Answer::Refused(HexRefusal::Room);
                 }
                 return Answer::Done;
             }
-            Answer::Refused(Why::Whole)
+            Answer::Refused(HexRefusal::Whole)
         }
         Answer::Refused(why) => Answer::Refused(why),
     }
@@ -387,9 +387,9 @@ fn import_answer(text: &[u8], room: usize) -> Answer
 
 // Puts the data of the line at an address into the room.
 fn put_found(text: &[u8], address: u16, room: &mut [u8], to: usize)
-    requires { ⌜ length (dataAt address (linesOf (now text))) ≡ 16 ⌝ }
+    requires { ⌜ length (dataAt address (textLines (now text))) ≡ 16 ⌝ }
     requires { ⌜ to + 16 ≤ length (now room) ⌝ }
-    ensures { λ _. ⌜ now (room .exit) ≡ put (now (room .entry)) to (dataAt address (linesOf (now (text .entry)))) ⌝ }
+    ensures { λ _. ⌜ now (room .exit) ≡ put (now (room .entry)) to (dataAt address (textLines (now (text .entry)))) ⌝ }
 {
     let mut at = 0;
     while at < text.len() {
@@ -404,11 +404,11 @@ fn put_found(text: &[u8], address: u16, room: &mut [u8], to: usize)
 
 // The label, and the two halves of block 1.
 fn put_imported(text: &[u8], room: &mut [u8])
-    requires { ⌜ length (dataAt 0x20 (linesOf (now text))) ≡ 16 ⌝ }
-    requires { ⌜ length (dataAt 0x60 (linesOf (now text))) ≡ 16 ⌝ }
-    requires { ⌜ length (dataAt 0x70 (linesOf (now text))) ≡ 16 ⌝ }
+    requires { ⌜ length (dataAt 0x20 (textLines (now text))) ≡ 16 ⌝ }
+    requires { ⌜ length (dataAt 0x60 (textLines (now text))) ≡ 16 ⌝ }
+    requires { ⌜ length (dataAt 0x70 (textLines (now text))) ≡ 16 ⌝ }
     requires { ⌜ importSize ≤ length (now room) ⌝ }
-    ensures { λ _. ⌜ now (room .exit) ≡ importedOf (linesOf (now (text .entry))) ++ drop importSize (now (room .entry)) ⌝ }
+    ensures { λ _. ⌜ now (room .exit) ≡ importedOf (textLines (now (text .entry))) ++ drop importSize (now (room .entry)) ⌝ }
 {
     put_found(text, 0x20, room, 0);
     put_found(text, 0x60, room, 16);
@@ -416,7 +416,7 @@ fn put_imported(text: &[u8], room: &mut [u8])
 }
 
 // Reads the 48 bytes to the front of the room, or nothing.
-pub fn read(text: &[u8], room: &mut [u8]) -> Answer
+pub fn read_text(text: &[u8], room: &mut [u8]) -> Answer
     ensures { λ r. ⌜ Importing (now (text .entry)) (now (room .entry)) r (now (room .exit)) ⌝ }
 {
     let found = import_answer(text, room.len());

@@ -9,28 +9,28 @@ use Rattle.slices.proofs.Laws.{put-front}
 use Rattle.streams.specs.declared.Said.{Said}
 use Rattle.streams.specs.declared.Stream.the-variants.{Output}
 use Rattle.streams.specs.Streams.{Saying, error, refusedText}
-use Rattle.hex.specs.declared.Why.{Why}
+use Rattle.hex.specs.declared.HexRefusal.{HexRefusal}
 use Rattle.hex.specs.declared.Answer.{Answer}
 use Rattle.hex.specs.declared.Answer.the-variants.{Done, Refused}
-use Rattle.hex.specs.Export.{whyNumber}
-use Rattle.hex.specs.Import.{linesOf, dataAt, importedOf, importSize, importAnswer, Importing}
+use Rattle.hex.specs.Export.{hexRefusalNumber}
+use Rattle.hex.specs.Import.{textLines, dataAt, importedOf, importSize, importAnswer, Importing}
 use Rattle.hex.proofs.Lines.{import-sized}
-use Rattle.hex_in.specs.HexIn.{whyWords, overText, mostText, roomSize, hexInSpeech}
+use Rattle.hex_in.specs.HexIn.{hexInRefusalWords, hexInOverText, mostText, roomSize, hexInSpeech}
 
 -- a refusal, by its number and its words
-pub why-said : {why x : Why} {number : ℕ} {room after : List ℕ} {r : Said} → why ≡ x → number ≡ whyNumber why
-    → Saying (error (refusedText number (whyWords x))) room r after → Saying (error (refusedText (whyNumber why) (whyWords why))) room r after
+pub why-said : {why x : HexRefusal} {number : ℕ} {room after : List ℕ} {r : Said} → why ≡ x → number ≡ hexRefusalNumber why
+    → Saying (error (refusedText number (hexInRefusalWords x))) room r after → Saying (error (refusedText (hexRefusalNumber why) (hexInRefusalWords why))) room r after
 why-said is told w = rw (← told, is) w
 
 -- ---- what is said of what `read` told
 
 module _ {text room after : List ℕ} {answer : Answer} (w : Importing text room answer after) (size : length room ≡ roomSize) (few : length text ≤ mostText) where
-  answered : importAnswer (linesOf text) roomSize ≡ answer
-  answered = ap (importAnswer (linesOf text)) (sym size) ∙ sym (w .answer)
+  answered : importAnswer (textLines text) roomSize ≡ answer
+  answered = ap (importAnswer (textLines text)) (sym size) ∙ sym (w .answer)
 
-  imported-length : answer ≡ Done → length (importedOf (linesOf text)) ≡ importSize
+  imported-length : answer ≡ Done → length (importedOf (textLines text)) ≡ importSize
   imported-length is =
-      let ls = linesOf text in
+      let ls = textLines text in
       let s = import-sized ls roomSize (answered ∙ is) in
       length-append (dataAt 0x20 ls) (dataAt 0x60 ls ++ dataAt 0x70 ls)
       ∙ omega (arith, length-append (dataAt 0x60 ls) (dataAt 0x70 ls), s .0, s .1, s .2)
@@ -38,7 +38,7 @@ module _ {text room after : List ℕ} {answer : Answer} (w : Importing text room
   pub bytes-said : answer ≡ Done → Saying (hexInSpeech text) room (record { stream = Output; count = importSize }) after
   unfolding hexInSpeech
   bytes-said is =
-      let bytes : List ℕ = importedOf (linesOf text) in
+      let bytes : List ℕ = importedOf (textLines text) in
       let long : length bytes ≡ importSize = imported-length is in
       let front = put-front room bytes (omega arith) ∙ ap (λ (n : ℕ). bytes ++ drop n room) long in
       rw (le-ltb mostText (length text) few, answered ∙ is)
@@ -48,13 +48,13 @@ module _ {text room after : List ℕ} {answer : Answer} (w : Importing text room
         written = rw (sym (w .answer) ∙ is) at (w .written) ∙ sym front;
       })
 
-  pub refusal-said : {why : Why} {r : Said} {last : List ℕ} → answer ≡ Refused why → Saying (error (refusedText (whyNumber why) (whyWords why))) after r last
+  pub refusal-said : {why : HexRefusal} {r : Said} {last : List ℕ} → answer ≡ Refused why → Saying (error (refusedText (hexRefusalNumber why) (hexInRefusalWords why))) after r last
       → Saying (hexInSpeech text) room r last
   unfolding hexInSpeech
   refusal-said is said = rw (le-ltb mostText (length text) few, answered ∙ is) (rw (rw (sym (w .answer) ∙ is) at (w .written)) at said)
 
 -- ---- of a text that is too long the bytes do not matter
 
-pub alike : (text : List ℕ) → mostText < length text → hexInSpeech text ≡ error overText
+pub alike : (text : List ℕ) → mostText < length text → hexInSpeech text ≡ error hexInOverText
 unfolding hexInSpeech
 alike text long = rw (lt-ltb mostText (length text) long) refl

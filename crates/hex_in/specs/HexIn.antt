@@ -9,12 +9,12 @@ use Rattle.digits.specs.Ascii.{ascii}
 use Rattle.streams.specs.Streams.{Speech, output, error, unreadText, refusedText}
 use Rattle.hex.specs.declared.Fault.{Fault}
 use Rattle.hex.specs.declared.Fault.the-variants.{Form, Checksum, Record}
-use Rattle.hex.specs.declared.Why.{Why}
-use Rattle.hex.specs.declared.Why.the-variants.{Line, Whole, Image, Room}
+use Rattle.hex.specs.declared.HexRefusal.{HexRefusal}
+use Rattle.hex.specs.declared.HexRefusal.the-variants.{Line, Whole, Image, Room}
 use Rattle.hex.specs.declared.Answer.{Answer}
 use Rattle.hex.specs.declared.Answer.the-variants.{Done, Refused}
-use Rattle.hex.specs.Export.{whyNumber}
-use Rattle.hex.specs.Import.{linesOf, importedOf, importAnswer}
+use Rattle.hex.specs.Export.{hexRefusalNumber}
+use Rattle.hex.specs.Import.{textLines, importedOf, importAnswer}
 
 abbrev pub hexInName : List ℕ
 hexInName = ascii "hex_in"
@@ -33,11 +33,11 @@ recordWords = ascii "a line is neither the end record nor 16 bytes at 0020h, 006
 abbrev pub wholeWords : List ℕ
 wholeWords = ascii "a record is missing or repeated, or the end record is not last"
 
-abbrev pub roomWords : List ℕ
-roomWords = ascii "the room for the bytes is too small"
+abbrev pub hexInRoomWords : List ℕ
+hexInRoomWords = ascii "the room for the bytes is too small"
 
-abbrev pub otherWords : List ℕ
-otherWords = ascii "the text is refused"
+abbrev pub hexInOtherWords : List ℕ
+hexInOtherWords = ascii "the text is refused"
 
 abbrev pub faultWords : Fault → List ℕ
 faultWords Form = formWords
@@ -45,16 +45,16 @@ faultWords Checksum = checksumWords
 faultWords Record = recordWords
 
 -- an import is never refused for an image
-abbrev pub whyWords : Why → List ℕ
-whyWords (Line fault) = faultWords fault
-whyWords Whole = wholeWords
-whyWords Image = otherWords
-whyWords Room = roomWords
+abbrev pub hexInRefusalWords : HexRefusal → List ℕ
+hexInRefusalWords (Line fault) = faultWords fault
+hexInRefusalWords Whole = wholeWords
+hexInRefusalWords Image = hexInOtherWords
+hexInRefusalWords Room = hexInRoomWords
 
 -- ---- what is said
 
-abbrev pub overText : List ℕ
-overText = ascii "hex_in: the text is over 65536 bytes\n"
+abbrev pub hexInOverText : List ℕ
+hexInOverText = ascii "hex_in: the text is over 65536 bytes\n"
 
 -- how many bytes of text are taken
 abbrev pub mostText : ℕ
@@ -67,10 +67,10 @@ roomSize = 128
 -- the bytes go to standard output, a refusal to standard error
 abbrev pub hexInBy : Answer → List (List ℕ) → Speech
 hexInBy Done ls = output (importedOf ls)
-hexInBy (Refused why) ls = error (refusedText (whyNumber why) (whyWords why))
+hexInBy (Refused why) ls = error (refusedText (hexRefusalNumber why) (hexInRefusalWords why))
 
 unfoldable pub hexInSpeech : List ℕ → Speech
-hexInSpeech text = pick (ltb mostText (length text)) (error overText) (hexInBy (importAnswer (linesOf text) roomSize) (linesOf text))
+hexInSpeech text = pick (ltb mostText (length text)) (error hexInOverText) (hexInBy (importAnswer (textLines text) roomSize) (textLines text))
 
 -- what is said of standard input, or where a read of it failed
 abbrev pub hexInOf : Bool → List ℕ → Speech

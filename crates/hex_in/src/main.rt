@@ -1,7 +1,7 @@
 // hex_in: reads Intel HEX on standard input and writes the 48 bytes that it has, a label and block 1
 use hex::Answer;
 use hex::Fault;
-use hex::Why;
+use hex::HexRefusal;
 use streams::Input;
 use streams::Said;
 use streams::Stream;
@@ -10,8 +10,8 @@ ghost use mathlib.Core.List.{List};
 ghost use Prim.Native.Nat.{ℕ};
 ghost use lib.ListN.{length};
 ghost use Rattle.streams.specs.Streams.{Front, Saying, error, refusedText};
-ghost use Rattle.hex.specs.Export.{whyNumber};
-ghost use Rattle.hex_in.specs.HexIn.{faultWords, whyWords, roomSize, hexInSpeech, hexInOf};
+ghost use Rattle.hex.specs.Export.{hexRefusalNumber};
+ghost use Rattle.hex_in.specs.HexIn.{faultWords, hexInRefusalWords, roomSize, hexInSpeech, hexInOf};
 
 fn put_fault(number: u8, fault: Fault, room: &mut [u8]) -> Said
     requires { ⌜ length (now room) ≡ roomSize ⌝ }
@@ -32,20 +32,24 @@ fn put_fault(number: u8, fault: Fault, room: &mut [u8]) -> Said
     }
 }
 
-fn put_why(why: Why, room: &mut [u8]) -> Said
+fn put_why(why: HexRefusal, room: &mut [u8]) -> Said
     requires { ⌜ length (now room) ≡ roomSize ⌝ }
-    ensures { λ r. ⌜ Saying (error (refusedText (whyNumber why) (whyWords why))) (now (room .entry)) r (now (room .exit)) ⌝ }
+    ensures { λ r. ⌜ Saying (error (refusedText (hexRefusalNumber why) (hexInRefusalWords why))) (now (room .entry)) r (now (room .exit)) ⌝ }
 {
-    let number = hex::number(Answer::Refused(why));
+    let number = hex::answer_number(Answer::Refused(why));
     match why {
-        Why::Line(fault) => put_fault(number, fault, room),
-        Why::Whole => streams::put_refused(
+        HexRefusal::Line(fault) => put_fault(number, fault, room),
+        HexRefusal::Whole => streams::put_refused(
             number,
             b"a record is missing or repeated, or the end record is not last",
             room,
         ),
-        Why::Image => streams::put_refused(number, b"the text is refused", room),
-        Why::Room => streams::put_refused(number, b"the room for the bytes is too small", room),
+        HexRefusal::Image => streams::put_refused(number, b"the text is refused", room),
+        HexRefusal::Room => streams::put_refused(
+            number,
+            b"the room for the bytes is too small",
+            room,
+        ),
     }
 }
 
@@ -62,7 +66,7 @@ fn put_import(text: &[u8], room: &mut [u8]) -> Said
             count: count,
         };
     }
-    let answer = hex::read(text, room);
+    let answer = hex::read_text(text, room);
     match answer {
         Answer::Done => {
             let to = Stream::Output;

@@ -10,21 +10,21 @@ use Rattle.numbers.specs.Choice.{both}
 use Rattle.slices.proofs.Laws.{put-front}
 use Rattle.streams.specs.declared.Said.{Said}
 use Rattle.streams.specs.declared.Stream.the-variants.{Output}
-use Rattle.streams.specs.Streams.{Front, Within, Saying, error, refusedText}
+use Rattle.streams.specs.Streams.{Front, CountWithin, Saying, error, refusedText}
 use Rattle.streams.proofs.Laws.{cut, seen}
 use Rattle.record.specs.Image.{imageSize, imageBlock}
 use Rattle.record.specs.Record.{judgedAmong}
-use Rattle.hex.specs.declared.Why.{Why}
-use Rattle.hex.specs.declared.Why.the-variants.{Image}
+use Rattle.hex.specs.declared.HexRefusal.{HexRefusal}
+use Rattle.hex.specs.declared.HexRefusal.the-variants.{Image}
 use Rattle.hex.specs.declared.Answer.{Answer}
 use Rattle.hex.specs.declared.Answer.the-variants.{Done, Refused}
-use Rattle.hex.specs.Export.{whyNumber, acceptedOf, bothAccepted, labelOf, exportText, exportSize, exportAnswer, Exporting}
+use Rattle.hex.specs.Export.{hexRefusalNumber, imageAccepted, bothAccepted, exportLabel, exportText, exportSize, exportAnswer, Exporting}
 use Rattle.hex.proofs.Texts.{granted, label-sized, block-sized, text-length}
-use Rattle.hex_out.specs.HexOut.{whyWords, hexOutBy, hexOutSpeech}
+use Rattle.hex_out.specs.HexOut.{hexOutRefusalWords, hexOutBy, hexOutSpeech}
 
 -- a refusal, by its number and its words
-pub why-said : {why x : Why} {number : ℕ} {room after : List ℕ} {r : Said} → why ≡ x → number ≡ whyNumber why
-    → Saying (error (refusedText number (whyWords x))) room r after → Saying (error (refusedText (whyNumber why) (whyWords why))) room r after
+pub why-said : {why x : HexRefusal} {number : ℕ} {room after : List ℕ} {r : Said} → why ≡ x → number ≡ hexRefusalNumber why
+    → Saying (error (refusedText number (hexOutRefusalWords x))) room r after → Saying (error (refusedText (hexRefusalNumber why) (hexOutRefusalWords why))) room r after
 why-said is told w = rw (← told, is) w
 
 -- ---- what is said of what `write` told, with room for the whole text
@@ -37,8 +37,8 @@ module _ {pack factory room after : List ℕ} {answer : Answer} (w : Exporting p
   unfolding hexOutSpeech
   text-said is kept =
       let held = granted pack factory exportSize (answered ∙ is) .0 in
-      let text : List ℕ = exportText (labelOf pack factory) (imageBlock pack) in
-      let long : length text ≡ exportSize = text-length (labelOf pack factory) (imageBlock pack) (label-sized pack factory held) (block-sized pack factory held) in
+      let text : List ℕ = exportText (exportLabel pack factory) (imageBlock pack) in
+      let long : length text ≡ exportSize = text-length (exportLabel pack factory) (imageBlock pack) (label-sized pack factory held) (block-sized pack factory held) in
       let front = put-front room text (omega arith) ∙ ap (λ (n : ℕ). text ++ drop n room) long in
       rw (answered ∙ is)
       (record {
@@ -47,14 +47,14 @@ module _ {pack factory room after : List ℕ} {answer : Answer} (w : Exporting p
         written = rw (sym (w .answer) ∙ is) at (w .written) ∙ sym front;
       })
 
-  pub refusal-said : {why : Why} {r : Said} {last : List ℕ} → answer ≡ Refused why → Saying (error (refusedText (whyNumber why) (whyWords why))) after r last
+  pub refusal-said : {why : HexRefusal} {r : Said} {last : List ℕ} → answer ≡ Refused why → Saying (error (refusedText (hexRefusalNumber why) (hexOutRefusalWords why))) after r last
       → Saying (hexOutSpeech pack factory) room r last
   unfolding hexOutSpeech
   refusal-said is said = rw (answered ∙ is) (rw (rw (sym (w .answer) ∙ is) at (w .written)) at said)
 
 -- ---- of a file that is too long the bytes do not matter
 
-long-refused : (image : List ℕ) → imageSize < length image → acceptedOf image ≡ false
+long-refused : (image : List ℕ) → imageSize < length image → imageAccepted image ≡ false
 unfolding judgedAmong
 long-refused image long = rw (ne-eqb (length image) imageSize (λ e. omega arith)) refl
 
@@ -68,14 +68,14 @@ long-pack factory pack long = refused-by pack factory (rw (long-refused pack lon
 
 long-factory : (pack factory : List ℕ) → imageSize < length factory → hexOutSpeech pack factory ≡ hexOutBy (Refused Image) [] []
 unfolding bothAccepted
-long-factory pack factory long = refused-by pack factory (rw (long-refused factory long) (last (acceptedOf pack)))
+long-factory pack factory long = refused-by pack factory (rw (long-refused factory long) (last (imageAccepted pack)))
   where
     last : (s : Bool) → both s false ≡ false
     last true = refl
     last false = refl
 
 -- what is said of what was read is what is said of the two files
-pub both-seen : {pack factory s t : List ℕ} {i j n m : ℕ} → length pack ≡ 61 → length factory ≡ 61 → Within i pack n → Within j factory m
+pub both-seen : {pack factory s t : List ℕ} {i j n m : ℕ} → length pack ≡ 61 → length factory ≡ 61 → CountWithin i pack n → CountWithin j factory m
     → Front s pack i → Front t factory j → hexOutSpeech (take n pack) (take m factory) ≡ hexOutSpeech s t
 both-seen {pack} {factory} {s} {t} {i} {j} {n} {m} one two first second front other =
     ap (λ (l : List ℕ). hexOutSpeech l (take m factory)) (cut first)

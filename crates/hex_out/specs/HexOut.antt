@@ -6,36 +6,36 @@ use Rattle.numbers.specs.Choice.{pick}
 use Rattle.digits.specs.Ascii.{ascii}
 use Rattle.streams.specs.Streams.{Speech, output, error, refusedText}
 use Rattle.record.specs.Image.{imageBlock}
-use Rattle.hex.specs.declared.Why.{Why}
-use Rattle.hex.specs.declared.Why.the-variants.{Line, Whole, Image, Room}
+use Rattle.hex.specs.declared.HexRefusal.{HexRefusal}
+use Rattle.hex.specs.declared.HexRefusal.the-variants.{Line, Whole, Image, Room}
 use Rattle.hex.specs.declared.Answer.{Answer}
 use Rattle.hex.specs.declared.Answer.the-variants.{Done, Refused}
-use Rattle.hex.specs.Export.{whyNumber, labelOf, exportText, exportSize, exportAnswer}
+use Rattle.hex.specs.Export.{hexRefusalNumber, exportLabel, exportText, exportSize, exportAnswer}
 
 -- ---- what the refusals mean
 
-abbrev pub imageWords : List ℕ
-imageWords = ascii "the image of the pack or of the factory is refused"
+abbrev pub hexOutImageWords : List ℕ
+hexOutImageWords = ascii "the image of the pack or of the factory is refused"
 
-abbrev pub roomWords : List ℕ
-roomWords = ascii "the room for the text is too small"
+abbrev pub hexOutRoomWords : List ℕ
+hexOutRoomWords = ascii "the room for the text is too small"
 
-abbrev pub otherWords : List ℕ
-otherWords = ascii "the text is refused"
+abbrev pub hexOutOtherWords : List ℕ
+hexOutOtherWords = ascii "the text is refused"
 
 -- an export is refused for an image or the room alone
-abbrev pub whyWords : Why → List ℕ
-whyWords (Line fault) = otherWords
-whyWords Whole = otherWords
-whyWords Image = imageWords
-whyWords Room = roomWords
+abbrev pub hexOutRefusalWords : HexRefusal → List ℕ
+hexOutRefusalWords (Line fault) = hexOutOtherWords
+hexOutRefusalWords Whole = hexOutOtherWords
+hexOutRefusalWords Image = hexOutImageWords
+hexOutRefusalWords Room = hexOutRoomWords
 
 -- ---- what is said
 
 -- the text goes to standard output, a refusal to standard error
 abbrev pub hexOutBy : Answer → List ℕ → List ℕ → Speech
-hexOutBy Done pack factory = output (exportText (labelOf pack factory) (imageBlock pack))
-hexOutBy (Refused why) pack factory = error (refusedText (whyNumber why) (whyWords why))
+hexOutBy Done pack factory = output (exportText (exportLabel pack factory) (imageBlock pack))
+hexOutBy (Refused why) pack factory = error (refusedText (hexRefusalNumber why) (hexOutRefusalWords why))
 
 -- with room for the whole text
 unfoldable pub hexOutSpeech : List ℕ → List ℕ → Speech

@@ -1,6 +1,6 @@
 // hex_out PACK FACTORY: writes the label and block 1 of a pack as Intel HEX, the label of the factory's image where the pack's block 0 is not locked
 use hex::Answer;
-use hex::Why;
+use hex::HexRefusal;
 use streams::Input;
 use streams::Said;
 use streams::Stream;
@@ -10,23 +10,27 @@ ghost use Prim.Native.Nat.{ℕ};
 ghost use lib.ListN.{length};
 ghost use Rattle.numbers.specs.Choice.{either};
 ghost use Rattle.streams.specs.Streams.{Front, Saying, error, refusedText};
-ghost use Rattle.hex.specs.Export.{whyNumber};
-ghost use Rattle.hex_out.specs.HexOut.{whyWords, hexOutOf};
+ghost use Rattle.hex.specs.Export.{hexRefusalNumber};
+ghost use Rattle.hex_out.specs.HexOut.{hexOutRefusalWords, hexOutOf};
 
-fn put_why(why: Why, room: &mut [u8]) -> Said
+fn put_why(why: HexRefusal, room: &mut [u8]) -> Said
     requires { ⌜ length (now room) ≡ 144 ⌝ }
-    ensures { λ r. ⌜ Saying (error (refusedText (whyNumber why) (whyWords why))) (now (room .entry)) r (now (room .exit)) ⌝ }
+    ensures { λ r. ⌜ Saying (error (refusedText (hexRefusalNumber why) (hexOutRefusalWords why))) (now (room .entry)) r (now (room .exit)) ⌝ }
 {
-    let number = hex::number(Answer::Refused(why));
+    let number = hex::answer_number(Answer::Refused(why));
     match why {
-        Why::Line(_) => streams::put_refused(number, b"the text is refused", room),
-        Why::Whole => streams::put_refused(number, b"the text is refused", room),
-        Why::Image => streams::put_refused(
+        HexRefusal::Line(_) => streams::put_refused(number, b"the text is refused", room),
+        HexRefusal::Whole => streams::put_refused(number, b"the text is refused", room),
+        HexRefusal::Image => streams::put_refused(
             number,
             b"the image of the pack or of the factory is refused",
             room,
         ),
-        Why::Room => streams::put_refused(number, b"the room for the text is too small", room),
+        HexRefusal::Room => streams::put_refused(
+            number,
+            b"the room for the text is too small",
+            room,
+        ),
     }
 }
 
@@ -42,7 +46,7 @@ fn put_export<'a>(unread: bool, pack: &'a [u8], factory: &'a [u8], room: &mut [u
             count: 0,
         };
     }
-    let answer = hex::write(pack, factory, room);
+    let answer = hex::write_text(pack, factory, room);
     match answer {
         Answer::Done => {
             let count = room.len();

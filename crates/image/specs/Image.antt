@@ -24,17 +24,17 @@ orderWords = ascii "no image was accepted"
 -- ---- what is said
 
 -- the state at the end of a session, with 65,536 bytes of reply room
-unfoldable pub lastOf : List ℕ → Session
-lastOf s = endAfter didOf emptyOf 65536 (recsOf s)
+unfoldable pub sessionAtEnd : List ℕ → Session
+sessionAtEnd s = endAfter didOf emptyOf 65536 (recsOf s)
 
 -- the image goes to standard output, 5 where none was accepted to standard error
 abbrev pub imageSpeech : Session → Speech
-imageSpeech σ = packSpeech (σ .loaded) (σ .gauge) orderWords
+imageSpeech session = packSpeech (session .loaded) (session .gauge) orderWords
 
 -- and so does the refusal of a session that was not run, with an answer lent for each record that 32,768 bytes can hold
-unfoldable pub takenSpeech : List ℕ → Speech
-takenSpeech s = ranSpeech (outcomeOf (length s) 8192) (imageSpeech (lastOf s))
+unfoldable pub sessionImageSpeech : List ℕ → Speech
+sessionImageSpeech s = ranSpeech (outcomeOf (length s) 8192) (imageSpeech (sessionAtEnd s))
 
 -- what is said of standard input s, or where a read of it failed
-abbrev pub extractedOf : Bool → List ℕ → Speech
-extractedOf failed s = pick failed (error (unreadText imageName)) (takenSpeech s)
+abbrev pub sessionImageOf : Bool → List ℕ → Speech
+sessionImageOf failed s = pick failed (error (unreadText imageName)) (sessionImageSpeech s)

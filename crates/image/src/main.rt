@@ -9,7 +9,7 @@ ghost use mathlib.Core.List.{List};
 ghost use Prim.Native.Nat.{ℕ};
 ghost use lib.ListN.{length};
 ghost use Rattle.streams.specs.Streams.{Front, Saying};
-ghost use Rattle.image.specs.Image.{imageSpeech, takenSpeech, extractedOf};
+ghost use Rattle.image.specs.Image.{imageSpeech, sessionImageSpeech, sessionImageOf};
 
 // The image of a session that was run to its end.
 fn put_image(session: Session, room: &mut [u8]) -> Said
@@ -28,13 +28,13 @@ fn put_image(session: Session, room: &mut [u8]) -> Said
     streams::put_refused(answer, b"no image was accepted", room)
 }
 
-fn put_taken(s: &[u8], room: &mut [u8]) -> Said
+fn put_taken(bytes: &[u8], room: &mut [u8]) -> Said
     requires { ⌜ length (now room) ≡ 61 ⌝ }
-    ensures { λ r. ⌜ Saying (takenSpeech (now (s .entry))) (now (room .entry)) r (now (room .exit)) ⌝ }
+    ensures { λ r. ⌜ Saying (sessionImageSpeech (now (bytes .entry))) (now (room .entry)) r (now (room .exit)) ⌝ }
 {
     let mut replies = [0u8; 65536];
     let mut answers = [0u64; 8192];
-    let ran = session_run::run(s, &mut replies, &mut answers);
+    let ran = session_run::run(bytes, &mut replies, &mut answers);
     let ended = ran.ended;
     let outcome = ended.outcome;
     let session = ran.session;
@@ -47,7 +47,7 @@ fn put_taken(s: &[u8], room: &mut [u8]) -> Said
 
 // What the program says. A byte more than a session may have is enough to know of any input. (That the room keeps its length is said for `main`.)
 fn extracted(input: &[u8; 32769], got: Input, room: &mut [u8; 61]) -> Said
-    ensures { λ r. ⌜ ((s : List ℕ) → Front s (now (input .entry)) (got .count) → Saying (extractedOf (got .failed) s) (now (room .entry)) r (now (room .exit))) ⌝ }
+    ensures { λ r. ⌜ ((s : List ℕ) → Front s (now (input .entry)) (got .count) → Saying (sessionImageOf (got .failed) s) (now (room .entry)) r (now (room .exit))) ⌝ }
     ensures { λ _. ⌜ 61 ≡ length (now (room .exit)) ⌝ }
 {
     if got.failed {

@@ -20,25 +20,25 @@ inBlock a = both (leb 0x60 a) (ltb a 0x80)
 
 -- the byte at an address of the label
 unfoldable pub labelByte : Label → ℕ → ℕ
-labelByte l a = getD (l .shadow) (a - 0x20) 0
+labelByte label a = getD (label .shadow) (a - 0x20) 0
 
 -- 6Ch: bytes written from the address a upward; those for 20h..2Fh, unless locked
 unfoldable pub labelWrittenOf : Label → Bool → ℕ → List ℕ → Label
-labelWrittenOf l locked a bytes =
-    pick locked l (record { shadow = laidOf 0x20 0x30 (l .shadow) a bytes; eeprom = l .eeprom })
+labelWrittenOf label locked a bytes =
+    pick locked label (record { shadow = laidOf 0x20 0x30 (label .shadow) a bytes; eeprom = label .eeprom })
 
 -- 48h at the address a: shadow to EEPROM if it is the label's, unless locked
 unfoldable pub labelCopiedOf : Label → Bool → ℕ → Label
-labelCopiedOf l locked a = pick (butNot (inLabel a) locked) (record { shadow = l .shadow; eeprom = l .shadow }) l
+labelCopiedOf label locked a = pick (butNot (inLabel a) locked) (record { shadow = label .shadow; eeprom = label .shadow }) label
 
 -- a power-on: the shadow takes the EEPROM bytes
 abbrev pub labelPoweredOf : Label → Label
-labelPoweredOf l = record { shadow = l .eeprom; eeprom = l .eeprom }
+labelPoweredOf label = record { shadow = label .eeprom; eeprom = label .eeprom }
 
 -- B8h at the address a: EEPROM to shadow if it is the label's, locked or not
 unfoldable pub labelRecalledOf : Label → ℕ → Label
-labelRecalledOf l a = pick (inLabel a) (labelPoweredOf l) l
+labelRecalledOf label a = pick (inLabel a) (labelPoweredOf label) label
 
 -- 6Ah at the address a: if LOCK is 1 and it is the label's. Its lock bit is common, LOCK the meter's
 unfoldable pub commonLockedOf : Common → Bool → ℕ → Common
-commonLockedOf k lock a = record { address = k .address; bl0 = either (k .bl0) (both lock (inLabel a)) }
+commonLockedOf common lock a = record { address = common .address; bl0 = either (common .bl0) (both lock (inLabel a)) }

@@ -8,20 +8,20 @@ use borrow.Author.Tests.{ne-eqb}
 use lib.ListN.{length, take, drop-of-length-le}
 use Rattle.streams.specs.declared.Said.{Said}
 use Rattle.streams.specs.declared.Stream.the-variants.{Output}
-use Rattle.streams.specs.Streams.{Front, Within, Saying, error, refusedText}
+use Rattle.streams.specs.Streams.{Front, CountWithin, Saying, error, refusedText}
 use Rattle.streams.proofs.Laws.{cut, seen}
 use Rattle.record.specs.Image.{imageSize}
-use Rattle.mending.specs.declared.Why.{Why}
-use Rattle.mending.specs.declared.Why.the-variants.{Size}
+use Rattle.mending.specs.declared.MendRefusal.{MendRefusal}
+use Rattle.mending.specs.declared.MendRefusal.the-variants.{Size}
 use Rattle.mending.specs.declared.Mended.{Mended}
 use Rattle.mending.specs.declared.Mended.the-variants.{Done, Refused}
 use Rattle.mending.specs.declared.Listed.the-variants as listed
-use Rattle.mending.specs.Mending.{mendedOf, changesSize, unmendedNumber, mendingAnswer, mendedRoom, listedBy, linesBy, Mending, Listing}
-use Rattle.mend.specs.Mend.{whyWords, speechBy, fileBy, mendSpeech, mendFile, Mends}
+use Rattle.mending.specs.Mending.{mendedOf, changesSize, mendRefusalNumber, mendingAnswer, mendedRoom, listedBy, linesBy, Mending, Listing}
+use Rattle.mend.specs.Mend.{mendRefusalWords, speechBy, fileBy, mendSpeech, mendFile, Mends}
 
 -- a refusal, by its number and its words
-pub why-said : {why x : Why} {number : ℕ} {room after : List ℕ} {r : Said} → why ≡ x → number ≡ unmendedNumber why
-    → Saying (error (refusedText number (whyWords x))) room r after → Saying (error (refusedText (unmendedNumber why) (whyWords why))) room r after
+pub why-said : {why x : MendRefusal} {number : ℕ} {room after : List ℕ} {r : Said} → why ≡ x → number ≡ mendRefusalNumber why
+    → Saying (error (refusedText number (mendRefusalWords x))) room r after → Saying (error (refusedText (mendRefusalNumber why) (mendRefusalWords why))) room r after
 why-said is told w = rw (← told, is) w
 
 -- with room for all the lines, and for the image, the answer is the same
@@ -44,8 +44,8 @@ module _ {image text after : List ℕ} (size : length text ≡ changesSize) wher
       by Done e written = record { stream = refl; counted = cc; written = written }
       by (Refused why) e written = let z : _≡_ {A = ℕ} 0 1 = cc in absurd (omega arith)
 
-  pub refusal-said : {why : Why} {r : Said} {last : List ℕ} → Listing image text (listed.Refused why) after
-      → Saying (error (refusedText (unmendedNumber why) (whyWords why))) after r last → Saying (mendSpeech image) text r last
+  pub refusal-said : {why : MendRefusal} {r : Said} {last : List ℕ} → Listing image text (listed.Refused why) after
+      → Saying (error (refusedText (mendRefusalNumber why) (mendRefusalWords why))) after r last → Saying (mendSpeech image) text r last
   unfolding mendSpeech
   refusal-said {why} {r} {last} w said = by (mendingAnswer imageSize image imageSize) (rw (answered image text size) at (w .answer)) (rw (answered image text size) at (w .written))
     where
@@ -80,7 +80,7 @@ module _ (s : List ℕ) (long : imageSize < length s) where
   long-filed file = rw refused refl
 
 -- what is said of what was read, and what the file gets of it, is that of the whole input
-pub read-seen : {failed : Bool} {input s file text file′ text′ : List ℕ} {count n : ℕ} {r : Said} → length input ≡ 61 → Within count input n → Front s input count
+pub read-seen : {failed : Bool} {input s file text file′ text′ : List ℕ} {count n : ℕ} {r : Said} → length input ≡ 61 → CountWithin count input n → Front s input count
     → Mends failed (take n input) file text r file′ text′ → Mends failed s file text r file′ text′
 read-seen {failed} {input} {s} {file} {text} {file′} {text′} {count} {n} {r} size within front m =
     let speech = ap mendSpeech (cut within) ∙ seen mendSpeech (speechBy (Refused Size) []) imageSize long-said size front in

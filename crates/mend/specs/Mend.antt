@@ -8,33 +8,33 @@ use Rattle.digits.specs.Ascii.{ascii}
 use Rattle.streams.specs.declared.Said.{Said}
 use Rattle.streams.specs.Streams.{Speech, output, error, unreadText, refusedText, Saying}
 use Rattle.record.specs.Image.{imageSize}
-use Rattle.mending.specs.declared.Why.{Why}
-use Rattle.mending.specs.declared.Why.the-variants.{Size, Family}
+use Rattle.mending.specs.declared.MendRefusal.{MendRefusal}
+use Rattle.mending.specs.declared.MendRefusal.the-variants.{Size, Family}
 use Rattle.mending.specs.declared.Mended.{Mended}
 use Rattle.mending.specs.declared.Mended.the-variants.{Done, Refused}
-use Rattle.mending.specs.Mending.{mendedOf, changesOf, unmendedNumber, mendingAnswer}
+use Rattle.mending.specs.Mending.{mendedOf, changesOf, mendRefusalNumber, mendingAnswer}
 
 abbrev pub mendName : List ℕ
 mendName = ascii "mend"
 
 -- ---- what the refusals mean
 
-abbrev pub sizeWords : List ℕ
-sizeWords = ascii "the image is not 60 bytes"
+abbrev pub mendSizeWords : List ℕ
+mendSizeWords = ascii "the image is not 60 bytes"
 
 abbrev pub familyWords : List ℕ
 familyWords = ascii "the image has another family code"
 
-abbrev pub whyWords : Why → List ℕ
-whyWords Size = sizeWords
-whyWords Family = familyWords
+abbrev pub mendRefusalWords : MendRefusal → List ℕ
+mendRefusalWords Size = mendSizeWords
+mendRefusalWords Family = familyWords
 
 -- ---- what is said, and what the file gets
 
 -- the lines go to standard output, a refusal to standard error
 abbrev pub speechBy : Mended → List ℕ → Speech
 speechBy Done image = output (changesOf image)
-speechBy (Refused why) image = error (refusedText (unmendedNumber why) (whyWords why))
+speechBy (Refused why) image = error (refusedText (mendRefusalNumber why) (mendRefusalWords why))
 
 -- the file's bytes; where nothing is written, what stood in the room for them
 abbrev pub fileBy : Mended → List ℕ → List ℕ → List ℕ

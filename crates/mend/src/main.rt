@@ -1,7 +1,7 @@
 // mend OUT: writes the pack image on standard input to the file OUT with its damage mended, and prints a line for each byte that is changed
 use mending::Listed;
+use mending::MendRefusal;
 use mending::Mended;
-use mending::Why;
 use streams::Input;
 use streams::Said;
 use streams::Stream;
@@ -10,17 +10,21 @@ ghost use mathlib.Core.List.{List};
 ghost use Prim.Native.Nat.{ℕ};
 ghost use lib.ListN.{length};
 ghost use Rattle.streams.specs.Streams.{Front, Saying, error, refusedText};
-ghost use Rattle.mending.specs.Mending.{unmendedNumber};
-ghost use Rattle.mend.specs.Mend.{whyWords, mendSpeech, Mends};
+ghost use Rattle.mending.specs.Mending.{mendRefusalNumber};
+ghost use Rattle.mend.specs.Mend.{mendRefusalWords, mendSpeech, Mends};
 
-fn put_why(why: Why, text: &mut [u8]) -> Said
+fn put_why(why: MendRefusal, text: &mut [u8]) -> Said
     requires { ⌜ length (now text) ≡ 540 ⌝ }
-    ensures { λ r. ⌜ Saying (error (refusedText (unmendedNumber why) (whyWords why))) (now (text .entry)) r (now (text .exit)) ⌝ }
+    ensures { λ r. ⌜ Saying (error (refusedText (mendRefusalNumber why) (mendRefusalWords why))) (now (text .entry)) r (now (text .exit)) ⌝ }
 {
-    let number = mending::number(Mended::Refused(why));
+    let number = mending::mended_number(Mended::Refused(why));
     match why {
-        Why::Size => streams::put_refused(number, b"the image is not 60 bytes", text),
-        Why::Family => streams::put_refused(number, b"the image has another family code", text),
+        MendRefusal::Size => streams::put_refused(number, b"the image is not 60 bytes", text),
+        MendRefusal::Family => streams::put_refused(
+            number,
+            b"the image has another family code",
+            text,
+        ),
     }
 }
 

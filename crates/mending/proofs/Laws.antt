@@ -18,7 +18,7 @@ use Rattle.digits.specs.Digits.{Writing}
 use Rattle.digits.proofs.Laws.{then, wider}
 use Rattle.params.specs.declared.Breaks.{Breaks}
 use Rattle.record.specs.Image.{imageSize}
-use Rattle.mending.specs.declared.Why.the-variants.{Size, Family}
+use Rattle.mending.specs.declared.MendRefusal.the-variants.{Size, Family}
 use Rattle.mending.specs.declared.Mended.the-variants.{Done, Refused}
 use Rattle.mending.specs.declared.Listed.the-variants.{Lines}
 use Rattle.mending.specs.Mending.{mendedCrc, mendedAging, mendedLocks, mendedBreaks, mendedOf, changeText, changesFrom, changesOf, changesSize, mendingAnswer, Listing}

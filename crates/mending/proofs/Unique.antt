@@ -1,12 +1,12 @@
 -- The contracts of this crate's public functions leave no choice.
 use mathlib.Core.Path.{refl, sym, _∙_}
 use Rattle.once.specs.Once.{Once}
-use Rattle.mending.proofs.number
+use Rattle.mending.proofs.mended_number
 use Rattle.mending.proofs.mend
 use Rattle.mending.proofs.changes
 
-pub number-once : Once number.ended number.Reads.Pre number.Reads.Learnt
-number-once κs a r r′ w w′ p h h′ = (h ∙ sym h′, refl)
+pub mended-number-once : Once «mended_number».ended «mended_number».Reads.Pre «mended_number».Reads.Learnt
+mended-number-once κs a r r′ w w′ p h h′ = (h ∙ sym h′, refl)
 
 pub mend-once : Once mend.ended mend.Reads.Pre mend.Reads.Learnt
 mend-once κs a r r′ w w′ p h h′ = (h .answer ∙ sym (h′ .answer), λ i. (tt, ((h .written ∙ sym (h′ .written)) i, tt)))

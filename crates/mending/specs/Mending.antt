@@ -13,8 +13,8 @@ use Rattle.digits.specs.Ascii.{ascii}
 use Rattle.digits.specs.Digits.{lower, pairText}
 use Rattle.params.specs.declared.Breaks.{Breaks}
 use Rattle.record.specs.Image.{imageSize, addressAt, agingAt, imageBreaks, imageAging, imageLocks}
-use Rattle.mending.specs.declared.Why.{Why}
-use Rattle.mending.specs.declared.Why.the-variants.{Size, Family}
+use Rattle.mending.specs.declared.MendRefusal.{MendRefusal}
+use Rattle.mending.specs.declared.MendRefusal.the-variants.{Size, Family}
 use Rattle.mending.specs.declared.Mended.{Mended}
 use Rattle.mending.specs.declared.Mended.the-variants.{Done, Refused}
 use Rattle.mending.specs.declared.Listed.{Listed}
@@ -44,20 +44,20 @@ abbrev pub capOf : ℕ → ℕ
 capOf x = min x (zeroAt 7 + 40)
 
 abbrev pub cappedOf : Breaks → Breaks
-cappedOf b = record { b34 = capOf (b .b34); b23 = capOf (b .b23); b12 = capOf (b .b12) }
+cappedOf breaks = record { b34 = capOf (breaks .b34); b23 = capOf (breaks .b23); b12 = capOf (breaks .b12) }
 
 abbrev pub smallestOf : Breaks → ℕ
-smallestOf b = min (min (b .b12) (b .b23)) (b .b34)
+smallestOf breaks = min (min (breaks .b12) (breaks .b23)) (breaks .b34)
 
 -- the larger of the first two, or the third, whichever is smaller; but not below the smaller of the first two
 abbrev pub middleOf : Breaks → ℕ
-middleOf b = max (min (b .b12) (b .b23)) (min (max (b .b12) (b .b23)) (b .b34))
+middleOf breaks = max (min (breaks .b12) (breaks .b23)) (min (max (breaks .b12) (breaks .b23)) (breaks .b34))
 
 abbrev pub largestOf : Breaks → ℕ
-largestOf b = max (max (b .b12) (b .b23)) (b .b34)
+largestOf breaks = max (max (breaks .b12) (breaks .b23)) (breaks .b34)
 
 unfoldable pub arrangedOf : Breaks → Breaks
-arrangedOf b = record { b34 = largestOf b; b23 = middleOf b; b12 = smallestOf b }
+arrangedOf breaks = record { b34 = largestOf breaks; b23 = middleOf breaks; b12 = smallestOf breaks }
 
 -- TBP34 stands first, at 34h
 abbrev pub breaksAt : ℕ
@@ -65,7 +65,7 @@ breaksAt = 0x34
 
 -- as bytes in two's complement again
 abbrev pub breakBytes : Breaks → List ℕ
-breakBytes b = offset8Of (b .b34) ∷ offset8Of (b .b23) ∷ offset8Of (b .b12) ∷ []
+breakBytes breaks = offset8Of (breaks .b34) ∷ offset8Of (breaks .b23) ∷ offset8Of (breaks .b12) ∷ []
 
 abbrev pub mendedBreaks : List ℕ → Breaks
 mendedBreaks image = arrangedOf (cappedOf (imageBreaks image))
@@ -78,12 +78,12 @@ mendedOf image =
 
 -- ---- "one line per changed byte by rising offset: offset, old, new, each two lower-case hex digits, one space between"
 
-abbrev pub lineText : ℕ → ℕ → ℕ → List ℕ
-lineText offset old new = pairText lower offset ++ (ascii " " ++ (pairText lower old ++ (ascii " " ++ (pairText lower new ++ ascii "\n"))))
+abbrev pub changeLine : ℕ → ℕ → ℕ → List ℕ
+changeLine offset old new = pairText lower offset ++ (ascii " " ++ (pairText lower old ++ (ascii " " ++ (pairText lower new ++ ascii "\n"))))
 
 -- nothing of a byte that is as it was
 unfoldable pub changeText : ℕ → ℕ → ℕ → List ℕ
-changeText offset old new = pick (eqb old new) [] (lineText offset old new)
+changeText offset old new = pick (eqb old new) [] (changeLine offset old new)
 
 -- of two lists of bytes, the first two at an offset
 abbrev pub changesFrom : ℕ → List ℕ → List ℕ → List ℕ
@@ -100,13 +100,13 @@ changesSize = 540
 
 -- ---- "Refusals: 30 not 60 bytes, or a result room under 60; then 31 wrong family"
 
-abbrev pub unmendedNumber : Why → ℕ
-unmendedNumber Size = 30
-unmendedNumber Family = 31
+abbrev pub mendRefusalNumber : MendRefusal → ℕ
+mendRefusalNumber Size = 30
+mendRefusalNumber Family = 31
 
 abbrev pub mendedNumber : Mended → ℕ
 mendedNumber Done = 0
-mendedNumber (Refused why) = unmendedNumber why
+mendedNumber (Refused why) = mendRefusalNumber why
 
 -- of an image and a room that is to have so many bytes at least
 unfoldable pub mendingAnswer : ℕ → List ℕ → ℕ → Mended
@@ -138,7 +138,7 @@ linesBy (Refused why) image room = room
 
 abbrev pub listedNumber : Listed → ℕ
 listedNumber (listed.Lines n) = 0
-listedNumber (listed.Refused why) = unmendedNumber why
+listedNumber (listed.Refused why) = mendRefusalNumber why
 
 pub record Listing (image room : List ℕ) (said : Listed) (after : List ℕ) : Type 0 where
   pub number : listedNumber said ≡ mendedNumber (mendingAnswer changesSize image (length room))

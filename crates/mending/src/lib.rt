@@ -10,23 +10,23 @@ ghost use Prim.Native.Nat.{_+_, _≤_, min, max};
 ghost use lib.ListN.{length, drop};
 ghost use Rattle.numbers.specs.Offset.{movedInto};
 ghost use Rattle.digits.specs.Digits.{lower, pairsOf, Writing};
-ghost use Rattle.mending.specs.Mending.{mendedNumber, mendingAnswer, cappedOf, arrangedOf, mendedBreaks, mendedOf, lineText, changeText, changesFrom, changesSize, Mending, Listing};
+ghost use Rattle.mending.specs.Mending.{mendedNumber, mendingAnswer, cappedOf, arrangedOf, mendedBreaks, mendedOf, changeLine, changeText, changesFrom, changesSize, Mending, Listing};
 
 // What keeps an image from being mended: its size or that of the room, or its family code.
-pub enum Why {
+pub enum MendRefusal {
     Size,
     Family,
 }
 
 pub enum Mended {
     Done,
-    Refused(Why),
+    Refused(MendRefusal),
 }
 
 // The lines, so many bytes, or why there are none.
 pub enum Listed {
     Lines(usize),
-    Refused(Why),
+    Refused(MendRefusal),
 }
 
 // Where the CRC of the address stands, and the breakpoints, TBP34 first.
@@ -38,14 +38,14 @@ const BREAKS_AT: usize = 52;
 pub const CHANGES_SIZE: usize = 540;
 
 // The answer's number.
-pub fn number(m: Mended) -> u8
-    ensures { λ r. ⌜ r ≡ mendedNumber m ⌝ }
+pub fn mended_number(mended: Mended) -> u8
+    ensures { λ r. ⌜ r ≡ mendedNumber mended ⌝ }
 {
-    match m {
+    match mended {
         Mended::Done => 0,
         Mended::Refused(why) => match why {
-            Why::Size => 30,
-            Why::Family => 31,
+            MendRefusal::Size => 30,
+            MendRefusal::Family => 31,
         },
     }
 }
@@ -55,13 +55,13 @@ fn answer(least: usize, image: &[u8], room: usize) -> Mended
     ensures { λ r. ⌜ r ≡ mendingAnswer least (now (image .entry)) room ⌝ }
 {
     if image.len() != IMAGE_SIZE {
-        return Mended::Refused(Why::Size);
+        return Mended::Refused(MendRefusal::Size);
     }
     if room < least {
-        return Mended::Refused(Why::Size);
+        return Mended::Refused(MendRefusal::Size);
     }
     if image[0] != 0x3d {
-        return Mended::Refused(Why::Family);
+        return Mended::Refused(MendRefusal::Family);
     }
     Mended::Done
 }
@@ -81,27 +81,27 @@ fn larger(a: u8, b: u8) -> u8
 }
 
 // None above 40 °C.
-fn capped(b: Breaks) -> Breaks
-    ensures { λ r. ⌜ r ≡ cappedOf b ⌝ }
+fn capped(breaks: Breaks) -> Breaks
+    ensures { λ r. ⌜ r ≡ cappedOf breaks ⌝ }
 {
     let top = numbers::ZERO7 + 40;
     Breaks {
-        b34: smaller(b.b34, top),
-        b23: smaller(b.b23, top),
-        b12: smaller(b.b12, top),
+        b34: smaller(breaks.b34, top),
+        b23: smaller(breaks.b23, top),
+        b12: smaller(breaks.b12, top),
     }
 }
 
 // The same three, TBP12 the smallest and TBP34 the largest.
-fn arranged(b: Breaks) -> Breaks
-    ensures { λ r. ⌜ r ≡ arrangedOf b ⌝ }
+fn arranged(breaks: Breaks) -> Breaks
+    ensures { λ r. ⌜ r ≡ arrangedOf breaks ⌝ }
 {
-    let low = smaller(b.b12, b.b23);
-    let high = larger(b.b12, b.b23);
+    let low = smaller(breaks.b12, breaks.b23);
+    let high = larger(breaks.b12, breaks.b23);
     Breaks {
-        b34: larger(high, b.b34),
-        b23: larger(low, smaller(high, b.b34)),
-        b12: smaller(low, b.b34),
+        b34: larger(high, breaks.b34),
+        b23: larger(low, smaller(high, breaks.b34)),
+        b12: smaller(low, breaks.b34),
     }
 }
 
@@ -129,16 +129,16 @@ fn mended_image(image: &[u8]) -> [u8; 60]
     requires { ⌜ length (now image) ≡ 60 ⌝ }
     ensures { λ r. ⌜ r ≡ mendedOf (now (image .entry)) ⌝ }
 {
-    let mut m = [0u8; 60];
-    slices::store(image, &mut m, 0);
-    m[CRC_AT] = crc::crc(&image[0..7]);
+    let mut mended = [0u8; 60];
+    slices::store(image, &mut mended, 0);
+    mended[CRC_AT] = crc::crc(&image[0..7]);
     let breaks = mended_breaks(image);
-    m[BREAKS_AT] = numbers::offset8(breaks.b34);
-    m[BREAKS_AT + 1] = numbers::offset8(breaks.b23);
-    m[BREAKS_AT + 2] = numbers::offset8(breaks.b12);
-    m[AGING_AT] = aged(image[AGING_AT]);
-    m[LOCKS_AT] = image[LOCKS_AT] % 4;
-    m
+    mended[BREAKS_AT] = numbers::offset8(breaks.b34);
+    mended[BREAKS_AT + 1] = numbers::offset8(breaks.b23);
+    mended[BREAKS_AT + 2] = numbers::offset8(breaks.b12);
+    mended[AGING_AT] = aged(image[AGING_AT]);
+    mended[LOCKS_AT] = image[LOCKS_AT] % 4;
+    mended
 }
 
 // The mended image at the front of the room, whose rest stays.
@@ -147,8 +147,8 @@ fn put_mended(image: &[u8], room: &mut [u8])
     requires { ⌜ 60 ≤ length (now room) ⌝ }
     ensures { λ _. ⌜ now (room .exit) ≡ mendedOf (now (image .entry)) ++ drop 60 (now (room .entry)) ⌝ }
 {
-    let m = mended_image(image);
-    slices::store(&m, room, 0);
+    let mended = mended_image(image);
+    slices::store(&mended, room, 0);
 }
 
 // Writes the mended image at the front of the room, or nothing.
@@ -171,7 +171,7 @@ pub fn mend(image: &[u8], room: &mut [u8]) -> Mended
 fn put_line(table: &[u8; 512], offset: u8, old: u8, new: u8, room: &mut [u8], at: usize) -> usize
     requires { ⌜ now table ≡ pairsOf lower ⌝ }
     requires { ⌜ at + 9 ≤ length (now room) ⌝ }
-    ensures { λ r. ⌜ Writing 9 (lineText offset old new) (now (room .entry)) at r (now (room .exit)) ⌝ }
+    ensures { λ r. ⌜ Writing 9 (changeLine offset old new) (now (room .entry)) at r (now (room .exit)) ⌝ }
 {
     let a = digits::put_entry(table, offset, room, at);
     let b = digits::put_byte(b' ', room, a);
@@ -217,8 +217,8 @@ pub fn changes(image: &[u8], room: &mut [u8]) -> Listed
     let found = answer(CHANGES_SIZE, image, room.len());
     match found {
         Mended::Done => {
-            let m = mended_image(image);
-            Listed::Lines(put_changes(image, &m, room))
+            let mended = mended_image(image);
+            Listed::Lines(put_changes(image, &mended, room))
         }
         Mended::Refused(why) => Listed::Refused(why),
     }

@@ -47,59 +47,59 @@ pub struct Curves {
     pub se: Slopes,
 }
 
-pub fn rnaop(b: &[u8; 32]) -> bool
-    ensures { λ r. ⌜ r ≡ rnaopOf (now (b .entry)) ⌝ }
+pub fn rnaop(shadow: &[u8; 32]) -> bool
+    ensures { λ r. ⌜ r ≡ rnaopOf (now (shadow .entry)) ⌝ }
 {
-    b[0] / 16 % 2 == 1
+    shadow[0] / 16 % 2 == 1
 }
 
 impl Counting {
-    pub fn of(b: &[u8; 32]) -> Counting
-        ensures { λ r. ⌜ r ≡ countingOf (now (b .entry)) ⌝ }
+    pub fn of(shadow: &[u8; 32]) -> Counting
+        ensures { λ r. ⌜ r ≡ countingOf (now (shadow .entry)) ⌝ }
     {
         // COB is taken with the three bytes before it: read alone, it is kept apart from them, and each transaction packs and unpacks the four.
-        let tail = slices::four(b, 24);
+        let tail = slices::four(shadow, 24);
         Counting {
-            nben: 128 <= b[0],
-            ab: numbers::offset8(b[1]),
-            ac: numbers::joined(b[2], b[3]),
+            nben: 128 <= shadow[0],
+            ab: numbers::offset8(shadow[1]),
+            ac: numbers::joined(shadow[2], shadow[3]),
             cob: numbers::offset8(tail[3]),
         }
     }
 }
 
 impl Limits {
-    pub fn of(b: &[u8; 32]) -> Limits
-        ensures { λ r. ⌜ r ≡ limitsOf (now (b .entry)) ⌝ }
+    pub fn of(shadow: &[u8; 32]) -> Limits
+        ensures { λ r. ⌜ r ≡ limitsOf (now (shadow .entry)) ⌝ }
     {
         Limits {
-            vchg: b[4],
-            imin: b[5],
-            vae: b[6],
-            iae: b[7],
+            vchg: shadow[4],
+            imin: shadow[5],
+            vae: shadow[6],
+            iae: shadow[7],
         }
     }
 }
 
 impl Capacity {
-    pub fn of(b: &[u8; 32]) -> Capacity
-        ensures { λ r. ⌜ r ≡ capacityOf (now (b .entry)) ⌝ }
+    pub fn of(shadow: &[u8; 32]) -> Capacity
+        ensures { λ r. ⌜ r ≡ capacityOf (now (shadow .entry)) ⌝ }
     {
         Capacity {
-            rsnsp: b[9],
-            full40: numbers::joined(b[10], b[11]),
+            rsnsp: shadow[9],
+            full40: numbers::joined(shadow[10], shadow[11]),
         }
     }
 }
 
 impl Breaks {
-    pub fn of(b: &[u8; 32]) -> Breaks
-        ensures { λ r. ⌜ r ≡ breaksOf (now (b .entry)) ⌝ }
+    pub fn of(shadow: &[u8; 32]) -> Breaks
+        ensures { λ r. ⌜ r ≡ breaksOf (now (shadow .entry)) ⌝ }
     {
         Breaks {
-            b34: numbers::offset8(b[28]),
-            b23: numbers::offset8(b[29]),
-            b12: numbers::offset8(b[30]),
+            b34: numbers::offset8(shadow[28]),
+            b23: numbers::offset8(shadow[29]),
+            b12: numbers::offset8(shadow[30]),
         }
     }
 }
@@ -112,30 +112,30 @@ fn word(x: u8) -> u32
 }
 
 impl Slopes {
-    fn of(b: &[u8; 32], at: usize) -> Slopes
+    fn of(shadow: &[u8; 32], at: usize) -> Slopes
         requires { ⌜ at ≤ 28 ⌝ }
-        ensures { λ r. ⌜ r ≡ slopesOf (now (b .entry)) (0x60 + at) ⌝ }
+        ensures { λ r. ⌜ r ≡ slopesOf (now (shadow .entry)) (0x60 + at) ⌝ }
     {
         Slopes {
-            s4: word(b[at]),
-            s3: word(b[at + 1]),
-            s2: word(b[at + 2]),
-            s1: word(b[at + 3]),
+            s4: word(shadow[at]),
+            s3: word(shadow[at + 1]),
+            s2: word(shadow[at + 2]),
+            s1: word(shadow[at + 3]),
         }
     }
 }
 
 impl Curves {
-    pub fn of(b: &[u8; 32]) -> Curves
-        ensures { λ r. ⌜ r ≡ curvesOf (now (b .entry)) ⌝ }
+    pub fn of(shadow: &[u8; 32]) -> Curves
+        ensures { λ r. ⌜ r ≡ curvesOf (now (shadow .entry)) ⌝ }
     {
-        let breaks = Breaks::of(b);
-        let full = Slopes::of(b, 12);
-        let ae = Slopes::of(b, 16);
-        let se = Slopes::of(b, 20);
+        let breaks = Breaks::of(shadow);
+        let full = Slopes::of(shadow, 12);
+        let ae = Slopes::of(shadow, 16);
+        let se = Slopes::of(shadow, 20);
         Curves {
             breaks: breaks,
-            start: b[8],
+            start: shadow[8],
             full: full,
             ae: ae,
             se: se,

@@ -8,7 +8,7 @@ use lib.ListN.{length, take, drop}
 use Rattle.slices.proofs.Laws.{put-front}
 use Rattle.streams.specs.declared.Said.{Said}
 use Rattle.streams.specs.declared.Stream.the-variants.{Output}
-use Rattle.streams.specs.Streams.{Front, Within, Saying, error, refusedText}
+use Rattle.streams.specs.Streams.{Front, CountWithin, Saying, error, refusedText}
 use Rattle.streams.proofs.Laws.{cut, seen}
 use Rattle.state.specs.declared.Profile.the-variants.{Ds2781}
 use Rattle.record.specs.declared.Refusal.the-variants.{Size}
@@ -17,24 +17,24 @@ use Rattle.record.specs.declared.Taken.the-variants as taken
 use Rattle.record.specs.Image.{imageSize}
 use Rattle.record.specs.Record.{judgedAmong, judgedOf}
 use Rattle.record.proofs.Fits.{judged-sized}
-use Rattle.preset_session.specs.declared.Why.{Why}
-use Rattle.preset_session.specs.declared.Why.the-variants.{Image}
+use Rattle.preset_session.specs.declared.PresetRefusal.{PresetRefusal}
+use Rattle.preset_session.specs.declared.PresetRefusal.the-variants.{Image}
 use Rattle.preset_session.specs.declared.Written.{Written}
 use Rattle.preset_session.specs.declared.Written.the-variants.{Done, Refused}
-use Rattle.preset_session.specs.PresetSession.{programmingOf, programmingSize, whyNumber, answerBy, answerOf, Programming}
+use Rattle.preset_session.specs.PresetSession.{programmingOf, programmingSize, presetRefusalNumber, presetAnswerBy, presetAnswer, Programming}
 use Rattle.preset_session.proofs.Laws.{granted, programming-length}
-use Rattle.preset.specs.Preset.{whyWords, presetBy, presetSpeech}
+use Rattle.preset.specs.Preset.{presetRefusalWords, presetBy, presetSpeech}
 
 -- a refusal, by its number and its words
-pub why-said : {why x : Why} {number : ℕ} {room after : List ℕ} {r : Said} → why ≡ x → number ≡ whyNumber why
-    → Saying (error (refusedText number (whyWords x))) room r after → Saying (error (refusedText (whyNumber why) (whyWords why))) room r after
+pub why-said : {why x : PresetRefusal} {number : ℕ} {room after : List ℕ} {r : Said} → why ≡ x → number ≡ presetRefusalNumber why
+    → Saying (error (refusedText number (presetRefusalWords x))) room r after → Saying (error (refusedText (presetRefusalNumber why) (presetRefusalWords why))) room r after
 why-said is told w = rw (← told, is) w
 
 -- ---- what is said of what `write` told, with room for the whole session
 
 module _ {image wanted room after : List ℕ} {answer : Written} (w : Programming image wanted room answer after) (size : length room ≡ programmingSize) where
-  answered : answerOf image wanted programmingSize ≡ answer
-  answered = ap (answerOf image wanted) (sym size) ∙ sym (w .answer)
+  answered : presetAnswer image wanted programmingSize ≡ answer
+  answered = ap (presetAnswer image wanted) (sym size) ∙ sym (w .answer)
 
   pub session-said : answer ≡ Done → length after ≡ length room → Saying (presetSpeech image wanted) room (record { stream = Output; count = length after }) after
   unfolding presetSpeech
@@ -49,7 +49,7 @@ module _ {image wanted room after : List ℕ} {answer : Written} (w : Programmin
         written = rw (sym (w .answer) ∙ is) at (w .written) ∙ sym front;
       })
 
-  pub refusal-said : {why : Why} {r : Said} {last : List ℕ} → answer ≡ Refused why → Saying (error (refusedText (whyNumber why) (whyWords why))) after r last
+  pub refusal-said : {why : PresetRefusal} {r : Said} {last : List ℕ} → answer ≡ Refused why → Saying (error (refusedText (presetRefusalNumber why) (presetRefusalWords why))) after r last
       → Saying (presetSpeech image wanted) room r last
   unfolding presetSpeech
   refusal-said is said = rw (answered ∙ is) (rw (rw (sym (w .answer) ∙ is) at (w .written)) at said)
@@ -57,19 +57,19 @@ module _ {image wanted room after : List ℕ} {answer : Written} (w : Programmin
 -- ---- of a file that is too long the bytes do not matter
 
 pub long-image : (wanted image : List ℕ) → imageSize < length image → presetSpeech image wanted ≡ presetBy (Refused (Image Size)) [] []
-unfolding presetSpeech answerOf judgedAmong
+unfolding presetSpeech presetAnswer judgedAmong
 long-image wanted image long = rw (ne-eqb (length image) imageSize (λ e. omega arith)) refl
 
 pub long-wanted : (image wanted : List ℕ) → 32 < length wanted → presetSpeech image wanted ≡ presetSpeech image []
-unfolding presetSpeech answerOf
+unfolding presetSpeech presetAnswer
 long-wanted image wanted long = by (judgedOf image)
   where
-    by : (t : Taken) → presetBy (answerBy t image wanted programmingSize) image wanted ≡ presetBy (answerBy t image [] programmingSize) image []
+    by : (t : Taken) → presetBy (presetAnswerBy t image wanted programmingSize) image wanted ≡ presetBy (presetAnswerBy t image [] programmingSize) image []
     by (taken.Run e) = rw (ne-eqb (length wanted) 32 (λ e. omega arith)) refl
     by (taken.Refused r) = refl
 
 -- what is said of what was read is what is said of the two files
-pub both-seen : {image wanted s t : List ℕ} {i j n m : ℕ} → length image ≡ 61 → length wanted ≡ 33 → Within i image n → Within j wanted m
+pub both-seen : {image wanted s t : List ℕ} {i j n m : ℕ} → length image ≡ 61 → length wanted ≡ 33 → CountWithin i image n → CountWithin j wanted m
     → Front s image i → Front t wanted j → presetSpeech (take n image) (take m wanted) ≡ presetSpeech s t
 both-seen {image} {wanted} {s} {t} {i} {j} {n} {m} one two first second front other =
     ap (λ (l : List ℕ). presetSpeech l (take m wanted)) (cut first)

@@ -1,5 +1,5 @@
 // preset IMAGE PARAMETERS: writes the session that sets block 1 of the pack image in one file to the 32 bytes in the other
-use preset_session::Why;
+use preset_session::PresetRefusal;
 use preset_session::Written;
 use record::Refusal;
 use streams::Input;
@@ -11,15 +11,15 @@ ghost use Prim.Native.Nat.{ℕ};
 ghost use lib.ListN.{length};
 ghost use Rattle.numbers.specs.Choice.{either};
 ghost use Rattle.streams.specs.Streams.{Front, Saying, error, refusedText};
-ghost use Rattle.preset_session.specs.PresetSession.{whyNumber};
-ghost use Rattle.preset.specs.Preset.{imageWords, whyWords, presetOf};
+ghost use Rattle.preset_session.specs.PresetSession.{presetRefusalNumber};
+ghost use Rattle.preset.specs.Preset.{presetImageWords, presetRefusalWords, presetOf};
 
 // The refusal of an image.
-fn put_judged(number: u8, r: Refusal, room: &mut [u8]) -> Said
+fn put_judged(number: u8, refusal: Refusal, room: &mut [u8]) -> Said
     requires { ⌜ length (now room) ≡ 120 ⌝ }
-    ensures { λ s. ⌜ Saying (error (refusedText number (imageWords r))) (now (room .entry)) s (now (room .exit)) ⌝ }
+    ensures { λ s. ⌜ Saying (error (refusedText number (presetImageWords refusal))) (now (room .entry)) s (now (room .exit)) ⌝ }
 {
-    match r {
+    match refusal {
         Refusal::Size => streams::put_refused(number, b"the image is not 60 bytes", room),
         Refusal::Address => streams::put_refused(
             number,
@@ -45,16 +45,24 @@ fn put_judged(number: u8, r: Refusal, room: &mut [u8]) -> Said
     }
 }
 
-fn put_why(why: Why, room: &mut [u8]) -> Said
+fn put_why(why: PresetRefusal, room: &mut [u8]) -> Said
     requires { ⌜ length (now room) ≡ 120 ⌝ }
-    ensures { λ r. ⌜ Saying (error (refusedText (whyNumber why) (whyWords why))) (now (room .entry)) r (now (room .exit)) ⌝ }
+    ensures { λ r. ⌜ Saying (error (refusedText (presetRefusalNumber why) (presetRefusalWords why))) (now (room .entry)) r (now (room .exit)) ⌝ }
 {
-    let number = preset_session::number(Written::Refused(why));
+    let number = preset_session::written_number(Written::Refused(why));
     match why {
-        Why::Image(r) => put_judged(number, r, room),
-        Why::Parameters => streams::put_refused(number, b"the parameters are not 32 bytes", room),
-        Why::Locked => streams::put_refused(number, b"block 1 is locked", room),
-        Why::Room => streams::put_refused(number, b"the room for the session is too small", room),
+        PresetRefusal::Image(refusal) => put_judged(number, refusal, room),
+        PresetRefusal::Parameters => streams::put_refused(
+            number,
+            b"the parameters are not 32 bytes",
+            room,
+        ),
+        PresetRefusal::Locked => streams::put_refused(number, b"block 1 is locked", room),
+        PresetRefusal::Room => streams::put_refused(
+            number,
+            b"the room for the session is too small",
+            room,
+        ),
     }
 }
 
@@ -70,7 +78,7 @@ fn put_preset(unread: bool, image: &[u8], wanted: &[u8], room: &mut [u8]) -> Sai
             count: 0,
         };
     }
-    let written = preset_session::write(image, wanted, room);
+    let written = preset_session::write_session(image, wanted, room);
     match written {
         Written::Done => {
             let count = room.len();

@@ -18,9 +18,9 @@ use Rattle.record.specs.Record.{judgedOf}
 use Rattle.record.proofs.Fits.{judged-image}
 use Rattle.runs.specs.Record.{recordOf, Recorded}
 use Rattle.runs.proofs.Records.{record-then}
-use Rattle.preset_session.specs.declared.Why.the-variants.{Parameters, Locked, Room}
+use Rattle.preset_session.specs.declared.PresetRefusal.the-variants.{Parameters, Locked, Room}
 use Rattle.preset_session.specs.declared.Written.the-variants.{Done, Refused}
-use Rattle.preset_session.specs.PresetSession.{writePayload, copyPayload, readPayload, programmingOf, programmingSize, answerBy, answerOf, Granted}
+use Rattle.preset_session.specs.PresetSession.{writePayload, copyPayload, readPayload, programmingOf, programmingSize, presetAnswerBy, presetAnswer, Granted}
 
 -- ---- the answer
 
@@ -31,7 +31,7 @@ module _ (image wanted : List ℕ) (room : ℕ) where
   tests true false false e = (refl, refl, refl)
   tests false b c e = let z : _≡_ {A = ℕ} 0 1 = cc in absurd (omega arith)
 
-  granted-by : (t : Taken) → judgedOf image ≡ t → answerBy t image wanted room ≡ Done → Granted image wanted room
+  granted-by : (t : Taken) → judgedOf image ≡ t → presetAnswerBy t image wanted room ≡ Done → Granted image wanted room
   granted-by (taken.Run e) judged done =
       let held = tests (eqb (length wanted) 32) (imageBl1 image) (ltb room programmingSize) done in
       record {
@@ -42,12 +42,12 @@ module _ (image wanted : List ℕ) (room : ℕ) where
       }
   granted-by (taken.Refused r) judged done = let z : _≡_ {A = ℕ} 0 1 = cc in absurd (omega arith)
 
-  pub granted : answerOf image wanted room ≡ Done → Granted image wanted room
-  unfolding answerOf
+  pub granted : presetAnswer image wanted room ≡ Done → Granted image wanted room
+  unfolding presetAnswer
   granted done = granted-by (judgedOf image) refl done
 
-  pub done : Granted image wanted room → answerOf image wanted room ≡ Done
-  unfolding answerOf
+  pub done : Granted image wanted room → presetAnswer image wanted room ≡ Done
+  unfolding presetAnswer
   done g = rw (g .accepted, eq-eqb (length wanted) 32 (g .all), g .unlocked, le-ltb room programmingSize (g .fits)) refl
 
 -- ---- the session

@@ -13,8 +13,8 @@ use Rattle.record.specs.declared.Taken.the-variants as taken
 use Rattle.record.specs.Image.{imageBl1}
 use Rattle.record.specs.Record.{refusalNumber, judgedOf}
 use Rattle.runs.specs.Record.{recordOf}
-use Rattle.preset_session.specs.declared.Why.{Why}
-use Rattle.preset_session.specs.declared.Why.the-variants.{Image, Parameters, Locked, Room}
+use Rattle.preset_session.specs.declared.PresetRefusal.{PresetRefusal}
+use Rattle.preset_session.specs.declared.PresetRefusal.the-variants.{Image, Parameters, Locked, Room}
 use Rattle.preset_session.specs.declared.Written.{Written}
 use Rattle.preset_session.specs.declared.Written.the-variants.{Done, Refused}
 
@@ -42,29 +42,29 @@ programmingSize = 120
 -- ---- "first what an image record would get (4, 6, 7, later 10), then 22 if the parameters are not 32 bytes, 20 if block 1 is locked, 21 if the
 -- room is under 120"
 
-abbrev pub whyNumber : Why → ℕ
-whyNumber (Image r) = refusalNumber r
-whyNumber Parameters = 22
-whyNumber Locked = 20
-whyNumber Room = 21
+abbrev pub presetRefusalNumber : PresetRefusal → ℕ
+presetRefusalNumber (Image r) = refusalNumber r
+presetRefusalNumber Parameters = 22
+presetRefusalNumber Locked = 20
+presetRefusalNumber Room = 21
 
 abbrev pub writtenNumber : Written → ℕ
 writtenNumber Done = 0
-writtenNumber (Refused why) = whyNumber why
+writtenNumber (Refused why) = presetRefusalNumber why
 
 -- of an image that is accepted
-abbrev pub acceptedOf : List ℕ → List ℕ → ℕ → Written
-acceptedOf image wanted room =
+abbrev pub acceptedAnswer : List ℕ → List ℕ → ℕ → Written
+acceptedAnswer image wanted room =
     pick (eqb (length wanted) 32)
     (pick (imageBl1 image) (Refused Locked) (pick (ltb room programmingSize) (Refused Room) Done))
     (Refused Parameters)
 
-abbrev pub answerBy : Taken → List ℕ → List ℕ → ℕ → Written
-answerBy (taken.Run e) image wanted room = acceptedOf image wanted room
-answerBy (taken.Refused r) image wanted room = Refused (Image r)
+abbrev pub presetAnswerBy : Taken → List ℕ → List ℕ → ℕ → Written
+presetAnswerBy (taken.Run e) image wanted room = acceptedAnswer image wanted room
+presetAnswerBy (taken.Refused r) image wanted room = Refused (Image r)
 
-unfoldable pub answerOf : List ℕ → List ℕ → ℕ → Written
-answerOf image wanted room = answerBy (judgedOf image) image wanted room
+unfoldable pub presetAnswer : List ℕ → List ℕ → ℕ → Written
+presetAnswer image wanted room = presetAnswerBy (judgedOf image) image wanted room
 
 -- a session is written where none of these applies
 pub record Granted (image wanted : List ℕ) (room : ℕ) : Type 0 where
@@ -80,6 +80,6 @@ roomBy Done image wanted room = programmingOf image wanted ++ drop programmingSi
 roomBy (Refused why) image wanted room = room
 
 pub record Programming (image wanted room : List ℕ) (said : Written) (after : List ℕ) : Type 0 where
-  pub number : writtenNumber said ≡ writtenNumber (answerOf image wanted (length room))
-  pub answer : said ≡ answerOf image wanted (length room)
-  pub written : after ≡ roomBy (answerOf image wanted (length room)) image wanted room
+  pub number : writtenNumber said ≡ writtenNumber (presetAnswer image wanted (length room))
+  pub answer : said ≡ presetAnswer image wanted (length room)
+  pub written : after ≡ roomBy (presetAnswer image wanted (length room)) image wanted room

@@ -5,11 +5,11 @@ ghost use mathlib.Core.Path.{_≡_};
 ghost use mathlib.Core.List.{_++_};
 ghost use Prim.Native.Nat.{_≤_};
 ghost use lib.ListN.{length, drop};
-ghost use Rattle.preset_session.specs.PresetSession.{writePayload, programmingOf, programmingSize, writtenNumber, acceptedOf, answerOf, Programming};
+ghost use Rattle.preset_session.specs.PresetSession.{writePayload, programmingOf, programmingSize, writtenNumber, acceptedAnswer, presetAnswer, Programming};
 
 // What keeps a session from being written: the image, for what a record of it would be refused; the length of the parameters; block 1, which is
 // locked; or the room.
-pub enum Why {
+pub enum PresetRefusal {
     Image(Refusal),
     Parameters,
     Locked,
@@ -18,48 +18,48 @@ pub enum Why {
 
 pub enum Written {
     Done,
-    Refused(Why),
+    Refused(PresetRefusal),
 }
 
 // The answer's number.
-pub fn number(w: Written) -> u8
-    ensures { λ r. ⌜ r ≡ writtenNumber w ⌝ }
+pub fn written_number(written: Written) -> u8
+    ensures { λ r. ⌜ r ≡ writtenNumber written ⌝ }
 {
-    match w {
+    match written {
         Written::Done => 0,
         Written::Refused(why) => match why {
-            Why::Image(r) => record::number(Taken::Refused(r)),
-            Why::Parameters => 22,
-            Why::Locked => 20,
-            Why::Room => 21,
+            PresetRefusal::Image(refusal) => record::taken_number(Taken::Refused(refusal)),
+            PresetRefusal::Parameters => 22,
+            PresetRefusal::Locked => 20,
+            PresetRefusal::Room => 21,
         },
     }
 }
 
 // The answer for an image that is accepted.
-fn accepted(image: &[u8], wanted: &[u8], room: usize) -> Written
+fn accepted_answer(image: &[u8], wanted: &[u8], room: usize) -> Written
     requires { ⌜ length (now image) ≡ 60 ⌝ }
-    ensures { λ r. ⌜ r ≡ acceptedOf (now (image .entry)) (now (wanted .entry)) room ⌝ }
+    ensures { λ r. ⌜ r ≡ acceptedAnswer (now (image .entry)) (now (wanted .entry)) room ⌝ }
 {
     if wanted.len() != 32 {
-        return Written::Refused(Why::Parameters);
+        return Written::Refused(PresetRefusal::Parameters);
     }
     if image[record::LOCKS_AT] / 2 % 2 == 1 {
-        return Written::Refused(Why::Locked);
+        return Written::Refused(PresetRefusal::Locked);
     }
     if room < 120 {
-        return Written::Refused(Why::Room);
+        return Written::Refused(PresetRefusal::Room);
     }
     Written::Done
 }
 
 fn answer(image: &[u8], wanted: &[u8], room: usize) -> Written
-    ensures { λ r. ⌜ r ≡ answerOf (now (image .entry)) (now (wanted .entry)) room ⌝ }
+    ensures { λ r. ⌜ r ≡ presetAnswer (now (image .entry)) (now (wanted .entry)) room ⌝ }
 {
     let judged = record::judged(image);
     match judged {
-        Taken::Run(_) => accepted(image, wanted, room),
-        Taken::Refused(r) => Written::Refused(Why::Image(r)),
+        Taken::Run(_) => accepted_answer(image, wanted, room),
+        Taken::Refused(refusal) => Written::Refused(PresetRefusal::Image(refusal)),
     }
 }
 
@@ -91,7 +91,7 @@ fn put_session(image: &[u8], wanted: &[u8], room: &mut [u8])
 }
 
 // Writes the session at the front of the room, or nothing.
-pub fn write(image: &[u8], wanted: &[u8], room: &mut [u8]) -> Written
+pub fn write_session(image: &[u8], wanted: &[u8], room: &mut [u8]) -> Written
     ensures { λ r. ⌜ Programming (now (image .entry)) (now (wanted .entry)) (now (room .entry)) r (now (room .exit)) ⌝ }
 {
     let found = answer(image, wanted, room.len());

@@ -6,7 +6,7 @@ use Rattle.numbers.specs.Choice.{pick, either, butNot}
 use Rattle.state.specs.declared.Charge.{Charge}
 use Rattle.state.specs.State.{acrOf}
 use Rattle.conversion.specs.Conversion.{setOf}
-use Rattle.reading.specs.Reading.{emptiedOf, drainedOf, shownOf, readOf, seenIn, emptyIn, pointIn, correctsEmpty, emptiedIn}
+use Rattle.reading.specs.Reading.{emptiedOf, drainedOf, resultsShown, readOf, seenIn, emptyIn, pointIn, correctsEmpty, emptiedIn}
 use Rattle.state.specs.declared.Meter.{Meter}
 
 -- ---- a reading
@@ -21,5 +21,5 @@ emptied-just g false false e = refl
 
 -- where it corrects, ACR is E; and else it leaves the charge
 pub read-charge : (m : Meter) (volt temp : ℕ) → readOf m volt temp .charge ≡ pick (correctsEmpty m volt temp) (emptiedIn m volt temp) (m .charge)
-unfolding readOf shownOf drainedOf
+unfolding readOf resultsShown drainedOf
 read-charge m volt temp = emptied-just (m .charge) (seenIn m volt temp .holds) (pointIn m) (emptyIn m volt temp)

@@ -12,7 +12,7 @@ use Rattle.state.specs.declared.Cycles.{Cycles}
 use Rattle.conversion.specs.Conversion.{cycledOf, countedOf, agedFullOf, shareOf, shareUpOf, averagedOf, renewedOf, foundOf, learntOf, filledOf, settledOf, withCharge, withCycles, flowedOf, convertOf}
 use Rattle.state.specs.declared.Charge.{Charge}
 use Rattle.state.specs.State.{acrOf, fractionOf, poweredOf}
-use Rattle.reading.specs.Reading.{loweredOf, slopesOver, linesOf, degreesOf, drainingOf, pointOf, emptiedOf, leftOf, usableOf, percentOf, amountOf, resultsOf, ratedOf, flaggedOf, keptOf, seenOf, drainedOf, shownOf, readOf}
+use Rattle.reading.specs.Reading.{loweredOf, slopesOver, modelLines, degreesOf, drainingOf, pointOf, emptiedOf, leftOf, usableOf, percentOf, amountOf, resultsOf, ratedOf, flaggedOf, keptOf, seenOf, drainedOf, resultsShown, readOf}
 use Rattle.state.specs.declared.Meter.{Meter}
 use Rattle.conversion.proofs.OffsetConversion.{converted}
 
@@ -216,5 +216,5 @@ figures =
     []
 
 pub figures-hold : Hold figures
-unfolding poweredOf countedOf cycledOf averagedOf renewedOf foundOf learntOf agedFullOf shareOf shareUpOf filledOf settledOf flowedOf convertOf slopesOver linesOf drainingOf pointOf emptiedOf leftOf usableOf percentOf amountOf resultsOf ratedOf flaggedOf keptOf loweredOf seenOf drainedOf shownOf readOf
+unfolding poweredOf countedOf cycledOf averagedOf renewedOf foundOf learntOf agedFullOf shareOf shareUpOf filledOf settledOf flowedOf convertOf slopesOver modelLines drainingOf pointOf emptiedOf leftOf usableOf percentOf amountOf resultsOf ratedOf flaggedOf keptOf loweredOf seenOf drainedOf resultsShown readOf
 figures-hold = (refl, (refl, (refl, (refl, (refl, (refl, (refl, (refl, (refl, (refl, (refl, (refl, (refl, (refl, (refl, (refl, (refl, (refl, (refl, (refl, (refl, (refl, (refl, (refl, (refl, (refl, tt))))))))))))))))))))))))))

@@ -16,7 +16,7 @@ use Rattle.conversion.proofs.FullLaws.{filled-acr}
 use Rattle.state.specs.declared.Model.{Model}
 use Rattle.reading.specs.declared.Seen.{Seen}
 use Rattle.reading.proofs.Laws.{percent-full, percent-none}
-use Rattle.reading.specs.Reading.{leftOf, usableOf, percentOf, resultsOf, ratedOf, flaggedOf, seenOf, drainedOf, shownOf, readOf}
+use Rattle.reading.specs.Reading.{leftOf, usableOf, percentOf, resultsOf, ratedOf, flaggedOf, seenOf, drainedOf, resultsShown, readOf}
 use Rattle.state.specs.declared.Meter.{Meter}
 
 -- ---- the numbers
@@ -106,7 +106,7 @@ module _ (m : Meter) (v t : ℕ) where
     pub full40 : capacity .full40 ≡ capacityOf (k .cells .block .shadow) .full40
 
   pub full-stays : (k : Meter) (raw : ℕ) → AfterFull k raw → 0 < usable → Says 100 (m .shown .flags .chgtf)
-  unfolding readOf shownOf flaggedOf
+  unfolding readOf resultsShown flaggedOf
   full-stays k raw a some =
       let e = fills k raw (a .found′) in
       let s : AsFull (before k raw) left (seen .lines) capacity (k .shown .model .full) (capacityOf (k .cells .block .shadow) .full40) =
@@ -115,7 +115,7 @@ module _ (m : Meter) (v t : ℕ) where
       record { rarc′ = r; chgtf′ = rw r refl }
 
   pub none-drops : usable ≡ 0 → Says 0 false
-  unfolding readOf shownOf flaggedOf
+  unfolding readOf resultsShown flaggedOf
   none-drops e =
       let r = none-says-0 left left (seen .lines) capacity 0 0 e in
       record { rarc′ = r; chgtf′ = rw r refl }

@@ -10,7 +10,7 @@ use Rattle.state.specs.State.{ChargeWF, MeterWF, acrOf}
 use Rattle.conversion.proofs.ChargeLaws.{share-high, set-wf}
 use Rattle.state.specs.declared.Results.{Results}
 use Rattle.reading.specs.declared.Seen.{Seen}
-use Rattle.reading.specs.Reading.{SeenWF, pointOf, drainedOf, shownOf, tempOf, degreesOf, emptiedOf, percentOf, seenOf}
+use Rattle.reading.specs.Reading.{SeenWF, pointOf, drainedOf, resultsShown, tempOf, degreesOf, emptiedOf, percentOf, seenOf}
 use Rattle.state.specs.declared.Meter.{Meter}
 use native.Mathlib.Nat.{le-div-iff-mul-le, div-lt-iff-lt-mul, div-zero}
 use lib.Dec.{ltb, eqb}
@@ -37,9 +37,9 @@ unfolding drainedOf
 drained-wf m p full40 s h seen w =
     emptied-wf (m .charge) (s .holds) (pointOf (m .shown .reading) (m .flow .trace) p) _ (share-high _ full40 (omega (arith, seen .ae)) h) w
 
-pub shown-wf : (m : Meter) (s : Seen) (g : Charge) (r : Results) → SeenWF s → ChargeWF g → MeterWF m → MeterWF (shownOf m s g r)
-unfolding shownOf
-shown-wf m s g r seen h w = record { charge = h; average = w .average; full = seen .full; volt = seen .volt; temp = seen .temp }
+pub results-shown-wf : (m : Meter) (s : Seen) (g : Charge) (r : Results) → SeenWF s → ChargeWF g → MeterWF m → MeterWF (resultsShown m s g r)
+unfolding resultsShown
+results-shown-wf m s g r seen h w = record { charge = h; average = w .average; full = seen .full; volt = seen .volt; temp = seen .temp }
 
 -- ---- per cents: below 100 where N < D, else 100, or 0 where D is 0
 

@@ -7,7 +7,7 @@ use Rattle.numbers.proofs.Bounds.{picked}
 use Rattle.state.specs.declared.Charge.{Charge}
 use Rattle.state.specs.State.{acrOf}
 use Rattle.conversion.specs.Conversion.{setOf}
-use Rattle.reading.specs.Reading.{emptiedOf, drainedOf, shownOf, readOf}
+use Rattle.reading.specs.Reading.{emptiedOf, drainedOf, resultsShown, readOf}
 use Rattle.state.specs.declared.Meter.{Meter}
 use Rattle.conversion.proofs.OffsetConversion.{made}
 
@@ -21,9 +21,9 @@ emptied-mark g holds point e =
 
 -- a reading leaves it, at the empty point too, and counts no conversion
 pub read-mark : (m : Meter) (v t : ℕ) → readOf m v t .charge .mark ≡ m .charge .mark
-unfolding readOf shownOf drainedOf
+unfolding readOf resultsShown drainedOf
 read-mark m v t = emptied-mark (m .charge) _ _ _
 
 pub read-made : (m : Meter) (v t : ℕ) → made (readOf m v t) ≡ made m
-unfolding readOf shownOf
+unfolding readOf resultsShown
 read-made m v t = refl

@@ -8,7 +8,7 @@ use Rattle.numbers.proofs.Bounds.{picked}
 use Rattle.params.specs.declared.Breaks.{Breaks}
 use Rattle.params.specs.declared.Slopes.{Slopes}
 use Rattle.params.specs.declared.Curves.{Curves}
-use Rattle.reading.specs.Reading.{slopeOf, forty, slopesOver, slopesTo, linesOf}
+use Rattle.reading.specs.Reading.{slopeOf, forty, slopesOver, slopesTo, modelLines}
 use Rattle.reading.specs.Product.{between, segmentsOf, slopesBy, productOf}
 
 -- one degree further down, at t, there is one more of those at least low and below high if t is one of them, and else as many as before
@@ -62,6 +62,6 @@ module _ (b : Breaks) (s : Slopes) where
   pub product-slopes : (t : ℕ) → slopesBy b s t ≡ slopesTo b s t
   product-slopes t = product-over (forty - t) t refl
 
-pub product-lines : (p : Curves) (t : ℕ) → productOf p t ≡ linesOf p t
-unfolding productOf linesOf
+pub product-lines : (p : Curves) (t : ℕ) → productOf p t ≡ modelLines p t
+unfolding productOf modelLines
 product-lines p t = simp product-slopes

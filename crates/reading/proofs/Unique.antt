@@ -3,7 +3,7 @@ use mathlib.Core.Path.{refl, sym, _∙_}
 use Rattle.once.specs.Once.{Once}
 use Rattle.reading.proofs.lowered
 use Rattle.reading.proofs.read
-use Rattle.reading.proofs.lines
+use Rattle.reading.proofs.model_lines
 use Rattle.reading.proofs.Seen.of as seen
 use Rattle.reading.proofs.point
 use Rattle.reading.proofs.emptied
@@ -17,8 +17,8 @@ lowered-once κs a r r′ w w′ p h h′ = (h ∙ sym h′, refl)
 pub read-once : Once read.ended read.Reads.Pre read.Reads.Learnt
 read-once κs a r r′ w w′ p h h′ = (h .0 ∙ sym (h′ .0), refl)
 
-pub lines-once : Once lines.ended lines.Reads.Pre lines.Reads.Learnt
-lines-once κs a r r′ w w′ p h h′ = (h .0 ∙ sym (h′ .0), refl)
+pub model-lines-once : Once «model_lines».ended «model_lines».Reads.Pre «model_lines».Reads.Learnt
+model-lines-once κs a r r′ w w′ p h h′ = (h .0 ∙ sym (h′ .0), refl)
 
 pub seen-once : Once seen.ended seen.Reads.Pre seen.Reads.Learnt
 seen-once κs a r r′ w w′ p h h′ = (h .0 ∙ sym (h′ .0), refl)

@@ -1,4 +1,4 @@
--- The three lines by the number of degrees in each segment and a product, as the code works them out. The definition is the walk of `linesOf`;
+-- The three lines by the number of degrees in each segment and a product, as the code works them out. The definition is the walk of `modelLines`;
 -- `product-lines` says that both come to the same. Degrees are kept as z + 2^7.
 use Prim.Native.Nat.{ℕ, _+_, _-_, _*_, min, max}
 use Rattle.params.specs.declared.Breaks.{Breaks}
@@ -15,24 +15,24 @@ between low high t = min high forty - max low t
 -- of the degrees from t up to 39 segment 4 has those at least TBP34; 3 those below TBP34 and at least TBP23; 2 those below both and at least
 -- TBP12; 1 the rest, which are below all three. The breakpoints stand in any order; from t = 40 on each segment has none
 unfoldable pub segmentsOf : Breaks → ℕ → Degrees
-segmentsOf b t = record {
-  s4 = between (b .b34) forty t;
-  s3 = between (b .b23) (b .b34) t;
-  s2 = between (b .b12) (min (b .b34) (b .b23)) t;
-  s1 = between 0 (min (min (b .b34) (b .b23)) (b .b12)) t;
+segmentsOf breaks t = record {
+  s4 = between (breaks .b34) forty t;
+  s3 = between (breaks .b23) (breaks .b34) t;
+  s2 = between (breaks .b12) (min (breaks .b34) (breaks .b23)) t;
+  s1 = between 0 (min (min (breaks .b34) (breaks .b23)) (breaks .b12)) t;
 }
 
 -- each slope as often as its segment has degrees
 abbrev pub weighedOf : Degrees → Slopes → ℕ
-weighedOf n s = n .s4 * s .s4 + n .s3 * s .s3 + n .s2 * s .s2 + n .s1 * s .s1
+weighedOf degrees slopes = degrees .s4 * slopes .s4 + degrees .s3 * slopes .s3 + degrees .s2 * slopes .s2 + degrees .s1 * slopes .s1
 
 -- the slopes going down from 40 to t, by product
 abbrev pub slopesBy : Breaks → Slopes → ℕ → ℕ
-slopesBy b s t = weighedOf (segmentsOf b t) s
+slopesBy breaks slopes t = weighedOf (segmentsOf breaks t) slopes
 
 unfoldable pub productOf : Curves → ℕ → Model
-productOf p t = record {
-  full = fullLineOf (slopesBy (p .breaks) (p .full) t);
-  ae = emptyLineOf (p .start) (slopesBy (p .breaks) (p .ae) t);
-  se = emptyLineOf 0 (slopesBy (p .breaks) (p .se) t);
+productOf curves t = record {
+  full = fullLineOf (slopesBy (curves .breaks) (curves .full) t);
+  ae = emptyLineOf (curves .start) (slopesBy (curves .breaks) (curves .ae) t);
+  se = emptyLineOf 0 (slopesBy (curves .breaks) (curves .se) t);
 }

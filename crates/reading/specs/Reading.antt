@@ -56,31 +56,32 @@ degreesZ temp = divZ (temp +ℤ pos 4) 8
 
 -- the step from t + 1 to t takes segment 4 if t ≥ TBP34, else 3 if t ≥ TBP23, else 2 if t ≥ TBP12, else 1
 abbrev pub slopeOf : Breaks → Slopes → ℕ → ℕ
-slopeOf b s t = pick (leb (b .b34) t) (s .s4) (pick (leb (b .b23) t) (s .s3) (pick (leb (b .b12) t) (s .s2) (s .s1)))
+slopeOf breaks slopes t =
+    pick (leb (breaks .b34) t) (slopes .s4) (pick (leb (breaks .b23) t) (slopes .s3) (pick (leb (breaks .b12) t) (slopes .s2) (slopes .s1)))
 
 abbrev pub slopeZ : Breaks → Slopes → ℤ → ℕ
-slopeZ b s t =
-    pick (leZ (value 7 (b .b34)) t) (s .s4)
-    (pick (leZ (value 7 (b .b23)) t) (s .s3) (pick (leZ (value 7 (b .b12)) t) (s .s2) (s .s1)))
+slopeZ breaks slopes t =
+    pick (leZ (value 7 (breaks .b34)) t) (slopes .s4)
+    (pick (leZ (value 7 (breaks .b23)) t) (slopes .s3) (pick (leZ (value 7 (breaks .b12)) t) (slopes .s2) (slopes .s1)))
 
 abbrev pub forty : ℕ
 forty = zeroAt 7 + 40
 
 -- the slopes of the first n steps going down from 40: the step number n + 1 leads to 39 - n
 unfoldable pub slopesOver : Breaks → Slopes → ℕ → ℕ
-slopesOver b s zero = 0
-slopesOver b s (suc n) = slopesOver b s n + slopeOf b s (forty - 1 - n)
+slopesOver breaks slopes zero = 0
+slopesOver breaks slopes (suc n) = slopesOver breaks slopes n + slopeOf breaks slopes (forty - 1 - n)
 
 unfoldable pub slopesOverZ : Breaks → Slopes → ℕ → ℕ
-slopesOverZ b s zero = 0
-slopesOverZ b s (suc n) = slopesOverZ b s n + slopeZ b s (pos 39 -ℤ pos n)
+slopesOverZ breaks slopes zero = 0
+slopesOverZ breaks slopes (suc n) = slopesOverZ breaks slopes n + slopeZ breaks slopes (pos 39 -ℤ pos n)
 
 -- the slopes going down from 40 to t: 40 - t steps, none where t ≥ 40
 abbrev pub slopesTo : Breaks → Slopes → ℕ → ℕ
-slopesTo b s t = slopesOver b s (forty - t)
+slopesTo breaks slopes t = slopesOver breaks slopes (forty - t)
 
 abbrev pub slopesZ : Breaks → Slopes → ℤ → ℕ
-slopesZ b s t = slopesOverZ b s (orZero (pos 40 -ℤ t))
+slopesZ breaks slopes t = slopesOverZ breaks slopes (orZero (pos 40 -ℤ t))
 
 -- FULL = 16,384 less the Full slopes, at least 8,192
 abbrev pub fullLineOf : ℕ → ℕ
@@ -94,11 +95,11 @@ abbrev pub emptyLineOf : ℕ → ℕ → ℕ
 emptyLineOf start slopes = min (16 * start + slopes) 8191
 
 -- the three lines at t
-unfoldable pub linesOf : Curves → ℕ → Model
-linesOf p t = record {
-  full = fullLineOf (slopesTo (p .breaks) (p .full) t);
-  ae = emptyLineOf (p .start) (slopesTo (p .breaks) (p .ae) t);
-  se = emptyLineOf 0 (slopesTo (p .breaks) (p .se) t);
+unfoldable pub modelLines : Curves → ℕ → Model
+modelLines curves t = record {
+  full = fullLineOf (slopesTo (curves .breaks) (curves .full) t);
+  ae = emptyLineOf (curves .start) (slopesTo (curves .breaks) (curves .ae) t);
+  se = emptyLineOf 0 (slopesTo (curves .breaks) (curves .se) t);
 }
 
 -- ---- step 3
@@ -109,11 +110,11 @@ holdsOf volt vae = leb (4 * vae) volt
 
 -- what a reading sees: steps 1 and 2, with this test
 unfoldable pub seenOf : Limits → Curves → ℕ → ℕ → Seen
-seenOf p curves v t = record {
+seenOf limits curves v t = record {
   volt = voltOf v;
   temp = tempOf t;
-  holds = holdsOf (voltOf v) (p .vae);
-  lines = linesOf curves (degreesOf (tempOf t));
+  holds = holdsOf (voltOf v) (limits .vae);
+  lines = modelLines curves (degreesOf (tempOf t));
 }
 
 -- what holds of it
@@ -132,24 +133,24 @@ drainsZ c iae = ltZ c (minus (128 * iae))
 
 -- the last two CURRENTs exist and are both < -128 × IAE
 unfoldable pub drainingOf : Trace → ℕ → Bool
-drainingOf t iae = both (both (t .any) (t .two)) (both (drainsOf (t .last) iae) (drainsOf (t .before) iae))
+drainingOf trace iae = both (both (trace .any) (trace .two)) (both (drainsOf (trace .last) iae) (drainsOf (trace .before) iae))
 
 -- the empty point: the previous reading exists and was ≥ 4 × VAE, and the currents are such
 unfoldable pub pointOf : Reading → Trace → Limits → Bool
-pointOf previous t p = both (both (previous .known) (holdsOf (previous .volt) (p .vae))) (drainingOf t (p .iae))
+pointOf previous trace limits = both (both (previous .known) (holdsOf (previous .volt) (limits .vae))) (drainingOf trace (limits .iae))
 
 -- at VOLT ≥ 4 × VAE this whole step is skipped. At the empty point ACR = E, fraction 0, LEARNF = (E > 0). Otherwise, with LEARNF 0 and ACR > E:
 -- ACR = E, fraction 0
 unfoldable pub emptiedOf : Charge → Bool → Bool → ℕ → Charge
-emptiedOf g holds point e =
-    pick holds g
-    (pick point (setOf g e (ltb 0 e))
-    (pick (butNot (ltb e (acrOf (g .count))) (g .learnf)) (setOf g e (g .learnf)) g))
+emptiedOf charge holds point e =
+    pick holds charge
+    (pick point (setOf charge e (ltb 0 e))
+    (pick (butNot (ltb e (acrOf (charge .count))) (charge .learnf)) (setOf charge e (charge .learnf)) charge))
 
 -- with E = AE × Full40 / 16,384 rounded down
 unfoldable pub drainedOf : Meter → Limits → ℕ → Seen → Charge
-drainedOf m p full40 s =
-    emptiedOf (m .charge) (s .holds) (pointOf (m .shown .reading) (m .flow .trace) p) (shareOf (s .lines .ae) full40)
+drainedOf meter limits full40 seen =
+    emptiedOf (meter .charge) (seen .holds) (pointOf (meter .shown .reading) (meter .flow .trace) limits) (shareOf (seen .lines .ae) full40)
 
 -- ---- step 4. With N ≤ 0 or D ≤ 0 the truncating difference is 0, and so is what is divided, or divided by 0
 
@@ -183,25 +184,25 @@ amountZ n rsnsp = pick (leZ n (pos 0)) (pos 0) (divZ (n *ℤ pos rsnsp) (2 ^ 22)
 
 -- RSRC, RSAC likewise with SE
 unfoldable pub resultsOf : Model → ℕ → ℕ → Capacity → Results
-resultsOf l acr agedFull p = record {
-  rarc = percentOf (leftOf acr (l .ae) (p .full40)) (usableOf agedFull (l .ae) (p .full40));
-  rsrc = percentOf (leftOf acr (l .se) (p .full40)) (usableOf agedFull (l .se) (p .full40));
-  raac = amountOf (leftOf acr (l .ae) (p .full40)) (p .rsnsp);
-  rsac = amountOf (leftOf acr (l .se) (p .full40)) (p .rsnsp);
+resultsOf lines acr agedFull capacity = record {
+  rarc = percentOf (leftOf acr (lines .ae) (capacity .full40)) (usableOf agedFull (lines .ae) (capacity .full40));
+  rsrc = percentOf (leftOf acr (lines .se) (capacity .full40)) (usableOf agedFull (lines .se) (capacity .full40));
+  raac = amountOf (leftOf acr (lines .ae) (capacity .full40)) (capacity .rsnsp);
+  rsac = amountOf (leftOf acr (lines .se) (capacity .full40)) (capacity .rsnsp);
 }
 
 -- AF of the lines, and ACR as step 3 left it
 unfoldable pub ratedOf : Charge → Model → Capacity → Results
-ratedOf g l p = resultsOf l (acrOf (g .count)) (agedFullOf (l .full) (g .aging)) p
+ratedOf charge lines capacity = resultsOf lines (acrOf (charge .count)) (agedFullOf (lines .full) (charge .aging)) capacity
 
 -- ---- step 5, and AEF of step 3
 
 unfoldable pub flaggedOf : Flags → Bool → Results → Flags
-flaggedOf f holds r = record {
-  porf = f .porf;
-  chgtf = butNot (f .chgtf) (ltb (r .rarc) 90);
-  aef = pick holds (butNot (f .aef) (ltb 5 (r .rarc))) true;
-  sef = either (ltb (r .rsrc) 10) (butNot (f .sef) (ltb 15 (r .rsrc)));
+flaggedOf flags holds results = record {
+  porf = flags .porf;
+  chgtf = butNot (flags .chgtf) (ltb (results .rarc) 90);
+  aef = pick holds (butNot (flags .aef) (ltb 5 (results .rarc))) true;
+  sef = either (ltb (results .rsrc) 10) (butNot (flags .sef) (ltb 15 (results .rsrc)));
 }
 
 -- ---- step 6
@@ -212,68 +213,70 @@ savesOf known before rarc = butNot known (eqb (before / 4) (rarc / 4))
 
 -- ACR and AS go to the saved cells, and the cycle counter "together with ACR and AS"
 unfoldable pub keptOf : Saved → Bool → Charge → ℕ → Saved
-keptOf s save g cycles = record {
-  acr = pick save (acrOf (g .count)) (s .acr);
-  aging = pick save (g .aging) (s .aging);
-  cycles = pick save cycles (s .cycles);
+keptOf saved save charge cycles = record {
+  acr = pick save (acrOf (charge .count)) (saved .acr);
+  aging = pick save (charge .aging) (saved .aging);
+  cycles = pick save cycles (saved .cycles);
 }
 
 -- ---- what full detection asks of readings: the lowest VOLT since the previous IAVG
 
 unfoldable pub loweredOf : Since → ℕ → Since
-loweredOf s volt = record { any = true; lowest = pick (s .any) (min (s .lowest) volt) volt }
+loweredOf since volt = record { any = true; lowest = pick (since .any) (min (since .lowest) volt) volt }
 
 -- ---- all six
 
 abbrev pub withSaved : Cells → Saved → Cells
-withSaved c saved = record { profile = c .profile; block = c .block; locks = c .locks; saved = saved }
+withSaved cells saved = record { profile = cells .profile; block = cells .block; locks = cells .locks; saved = saved }
 
 abbrev pub withSince : Flow → Since → Flow
-withSince f since = record { trace = f .trace; average = f .average; since = since; tick = f .tick }
+withSince flow since = record { trace = flow .trace; average = flow .average; since = since; tick = flow .tick }
 
 -- steps 5 and 6
-unfoldable pub shownOf : Meter → Seen → Charge → Results → Meter
-shownOf m s g r = record {
-  cells = withSaved (m .cells) (keptOf (m .cells .saved) (savesOf (m .shown .reading .known) (m .shown .results .rarc) (r .rarc)) g (m .cycles .count));
-  charge = g;
-  cycles = m .cycles;
-  flow = withSince (m .flow) (loweredOf (m .flow .since) (s .volt));
+unfoldable pub resultsShown : Meter → Seen → Charge → Results → Meter
+resultsShown meter seen charge results = record {
+  cells =
+      withSaved (meter .cells)
+      (keptOf (meter .cells .saved) (savesOf (meter .shown .reading .known) (meter .shown .results .rarc) (results .rarc)) charge (meter .cycles .count));
+  charge = charge;
+  cycles = meter .cycles;
+  flow = withSince (meter .flow) (loweredOf (meter .flow .since) (seen .volt));
   shown = record {
-    model = s .lines;
-    results = r;
-    reading = record { volt = s .volt; temp = s .temp; known = true };
-    flags = flaggedOf (m .shown .flags) (s .holds) r;
+    model = seen .lines;
+    results = results;
+    reading = record { volt = seen .volt; temp = seen .temp; known = true };
+    flags = flaggedOf (meter .shown .flags) (seen .holds) results;
   };
 }
 
 unfoldable pub readOf : Meter → ℕ → ℕ → Meter
-readOf m v t =
-    let block = m .cells .block .shadow in
+readOf meter v t =
+    let block = meter .cells .block .shadow in
     let p = limitsOf block in
     let full = capacityOf block in
     let s = seenOf p (curvesOf block) v t in
-    let g = drainedOf m p (full .full40) s in
-    shownOf m s g (ratedOf g (s .lines) full)
+    let g = drainedOf meter p (full .full40) s in
+    resultsShown meter s g (ratedOf g (s .lines) full)
 
 -- ---- what a reading of a voltage and a temperature finds in a meter
 
 abbrev pub seenIn : Meter → ℕ → ℕ → Seen
-seenIn m volt temp = let block = m .cells .block .shadow in seenOf (limitsOf block) (curvesOf block) volt temp
+seenIn meter volt temp = let block = meter .cells .block .shadow in seenOf (limitsOf block) (curvesOf block) volt temp
 
 -- E
 abbrev pub emptyIn : Meter → ℕ → ℕ → ℕ
-emptyIn m volt temp = shareOf (seenIn m volt temp .lines .ae) (capacityOf (m .cells .block .shadow) .full40)
+emptyIn meter volt temp = shareOf (seenIn meter volt temp .lines .ae) (capacityOf (meter .cells .block .shadow) .full40)
 
 -- the empty point
 abbrev pub pointIn : Meter → Bool
-pointIn m = pointOf (m .shown .reading) (m .flow .trace) (limitsOf (m .cells .block .shadow))
+pointIn meter = pointOf (meter .shown .reading) (meter .flow .trace) (limitsOf (meter .cells .block .shadow))
 
 -- step 3 sets ACR outright: below 4 × VAE, at the empty point, or where ACR is above E with LEARNF 0
 abbrev pub correctsEmpty : Meter → ℕ → ℕ → Bool
-correctsEmpty m volt temp =
-    let above = ltb (emptyIn m volt temp) (acrOf (m .charge .count)) in
-    butNot (either (pointIn m) (butNot above (m .charge .learnf))) (seenIn m volt temp .holds)
+correctsEmpty meter volt temp =
+    let above = ltb (emptyIn meter volt temp) (acrOf (meter .charge .count)) in
+    butNot (either (pointIn meter) (butNot above (meter .charge .learnf))) (seenIn meter volt temp .holds)
 
 -- ACR = E, fraction 0; at the empty point LEARNF = (E > 0)
 abbrev pub emptiedIn : Meter → ℕ → ℕ → Charge
-emptiedIn m volt temp = let e = emptyIn m volt temp in setOf (m .charge) e (pick (pointIn m) (ltb 0 e) (m .charge .learnf))
+emptiedIn meter volt temp = let e = emptyIn meter volt temp in setOf (meter .charge) e (pick (pointIn meter) (ltb 0 e) (meter .charge .learnf))

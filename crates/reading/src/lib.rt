@@ -17,7 +17,7 @@ use state::Trace;
 ghost use mathlib.Core.Path.{_≡_};
 ghost use Prim.Native.Nat.{_≤_, _*_, _^_, _<_};
 ghost use Rattle.state.specs.State.{ChargeWF, MeterWF};
-ghost use Rattle.reading.specs.Reading.{loweredOf, SeenWF, drainedOf, shownOf, readOf, fullLineOf, emptyLineOf, linesOf, voltOf, tempOf, seenOf, drainingOf, pointOf, emptiedOf, leftOf, usableOf, percentOf, amountOf, resultsOf, ratedOf, flaggedOf, keptOf};
+ghost use Rattle.reading.specs.Reading.{loweredOf, SeenWF, drainedOf, resultsShown, readOf, fullLineOf, emptyLineOf, modelLines, voltOf, tempOf, seenOf, drainingOf, pointOf, emptiedOf, leftOf, usableOf, percentOf, amountOf, resultsOf, ratedOf, flaggedOf, keptOf};
 ghost use Rattle.numbers.specs.Offset.{movedInto};
 ghost use Rattle.reading.specs.Product.{segmentsOf, weighedOf};
 
@@ -61,13 +61,13 @@ fn end(lowest: u64, top: u64, b: u8) -> u64
 }
 
 // Step 2: from 40 degrees, which stand as 168, down to t each segment starts where the one before it ends.
-fn segments(b: Breaks, t: u16) -> Degrees
-    ensures { λ r. ⌜ r ≡ segmentsOf b t ⌝ }
+fn segments(breaks: Breaks, t: u16) -> Degrees
+    ensures { λ r. ⌜ r ≡ segmentsOf breaks t ⌝ }
 {
     let end1 = numbers::at_most(168, t as u64);
-    let end4 = end(end1, 168, b.b34);
-    let end3 = end(end1, end4, b.b23);
-    let end2 = end(end1, end3, b.b12);
+    let end4 = end(end1, 168, breaks.b34);
+    let end3 = end(end1, end4, breaks.b23);
+    let end2 = end(end1, end3, breaks.b12);
     Degrees {
         s4: (168 - end4) as u8,
         s3: (end4 - end3) as u8,
@@ -85,11 +85,14 @@ fn stretch(degrees: u8, slope: u32) -> u64
 }
 
 // Step 2: the slopes of a line going down, each as often as its segment has degrees.
-fn weighed(n: Degrees, s: Slopes) -> u64
-    ensures { λ r. ⌜ r ≡ weighedOf n s ⌝ }
+fn weighed(degrees: Degrees, slopes: Slopes) -> u64
+    ensures { λ r. ⌜ r ≡ weighedOf degrees slopes ⌝ }
     ensures small { λ r. ⌜ r < 2 ^ 42 ⌝ }
 {
-    stretch(n.s4, s.s4) + stretch(n.s3, s.s3) + stretch(n.s2, s.s2) + stretch(n.s1, s.s1)
+    stretch(degrees.s4, slopes.s4)
+        + stretch(degrees.s3, slopes.s3)
+        + stretch(degrees.s2, slopes.s2)
+        + stretch(degrees.s1, slopes.s1)
 }
 
 fn full_line(slopes: u64) -> u16
@@ -107,35 +110,35 @@ fn empty_line(start: u8, slopes: u64) -> u16
 }
 
 // Step 2: the three lines at t degrees.
-pub fn lines(curves: Curves, t: u16) -> Model
-    ensures { λ r. ⌜ r ≡ linesOf curves t ⌝ }
+pub fn model_lines(curves: Curves, t: u16) -> Model
+    ensures { λ r. ⌜ r ≡ modelLines curves t ⌝ }
     ensures small { λ r. ⌜ (r .full ≤ 16384) × (r .ae ≤ 8191) ⌝ }
 {
-    let b = curves.breaks;
+    let breaks = curves.breaks;
     let full = curves.full;
     let ae = curves.ae;
     let se = curves.se;
-    let n = segments(b, t);
+    let degrees = segments(breaks, t);
     Model {
-        full: full_line(weighed(n, full)),
-        ae: empty_line(curves.start, weighed(n, ae)),
-        se: empty_line(0, weighed(n, se)),
+        full: full_line(weighed(degrees, full)),
+        ae: empty_line(curves.start, weighed(degrees, ae)),
+        se: empty_line(0, weighed(degrees, se)),
     }
 }
 
 impl Seen {
     // Steps 1 and 2, and the test of step 3.
-    pub fn of(p: Limits, curves: Curves, v: u32, t: u32) -> Seen
-        ensures { λ r. ⌜ r ≡ seenOf p curves v t ⌝ }
+    pub fn of(limits: Limits, curves: Curves, v: u32, t: u32) -> Seen
+        ensures { λ r. ⌜ r ≡ seenOf limits curves v t ⌝ }
         ensures kept { λ r. ⌜ SeenWF r ⌝ }
     {
         let volt = volt(v);
         let temp = temp(t);
-        let lines = lines(curves, (temp + 4) / 8);
+        let lines = model_lines(curves, (temp + 4) / 8);
         Seen {
             volt: volt,
             temp: temp,
-            holds: 4 * (p.vae as u16) <= volt,
+            holds: 4 * (limits.vae as u16) <= volt,
             lines: lines,
         }
     }
@@ -151,39 +154,39 @@ fn draining(trace: Trace, iae: u8) -> bool
 }
 
 // Step 3: the empty point is found.
-pub fn point(reading: Reading, trace: Trace, p: Limits) -> bool
-    ensures { λ r. ⌜ r ≡ pointOf reading trace p ⌝ }
+pub fn point(reading: Reading, trace: Trace, limits: Limits) -> bool
+    ensures { λ r. ⌜ r ≡ pointOf reading trace limits ⌝ }
 {
-    let held = numbers::and(reading.known, 4 * (p.vae as u16) <= reading.volt);
-    numbers::and(held, draining(trace, p.iae))
+    let held = numbers::and(reading.known, 4 * (limits.vae as u16) <= reading.volt);
+    numbers::and(held, draining(trace, limits.iae))
 }
 
 // Step 3: holds says that VOLT ≥ 4 × VAE, point that the empty point is found, and e is E.
-pub fn emptied(mut g: Charge, holds: bool, point: bool, e: u16) -> Charge
-    ensures { λ r. ⌜ r ≡ emptiedOf g holds point e ⌝ }
+pub fn emptied(mut charge: Charge, holds: bool, point: bool, e: u16) -> Charge
+    ensures { λ r. ⌜ r ≡ emptiedOf charge holds point e ⌝ }
 {
     if holds {
-        return g;
+        return charge;
     }
     if point {
-        return conversion::set(g, e, 0 < e);
+        return conversion::set(charge, e, 0 < e);
     }
-    if numbers::and_not((e as u32) < g.count / 4096, g.learnf) {
-        g.count = (e as u32) * 4096;
+    if numbers::and_not((e as u32) < charge.count / 4096, charge.learnf) {
+        charge.count = (e as u32) * 4096;
     }
-    g
+    charge
 }
 
 // Step 3.
-fn drained(meter: Meter, p: Limits, full40: u16, s: Seen) -> Charge
+fn drained(meter: Meter, limits: Limits, full40: u16, seen: Seen) -> Charge
     requires { ⌜ ChargeWF (meter .charge) ⌝ }
-    requires { ⌜ SeenWF s ⌝ }
-    ensures { λ r. ⌜ r ≡ drainedOf meter p full40 s ⌝ }
+    requires { ⌜ SeenWF seen ⌝ }
+    ensures { λ r. ⌜ r ≡ drainedOf meter limits full40 seen ⌝ }
     ensures kept { λ r. ⌜ ChargeWF r ⌝ }
 {
-    let e = conversion::share(s.lines.ae as u32, full40) as u16;
-    let point = point(meter.shown.reading, meter.flow.trace, p);
-    emptied(meter.charge, s.holds, point, e)
+    let e = conversion::share(seen.lines.ae as u32, full40) as u16;
+    let point = point(meter.shown.reading, meter.flow.trace, limits);
+    emptied(meter.charge, seen.holds, point, e)
 }
 
 // Step 4: N, or 0 where it is not above 0.
@@ -220,53 +223,53 @@ fn amount(n: u32, rsnsp: u8) -> u16
 }
 
 // Step 4: the four results, of the lines, ACR and AF.
-fn results_of(lines: Model, acr: u16, af: u16, p: Capacity) -> Results
-    ensures { λ r. ⌜ r ≡ resultsOf lines acr af p ⌝ }
+fn results_of(lines: Model, acr: u16, af: u16, capacity: Capacity) -> Results
+    ensures { λ r. ⌜ r ≡ resultsOf lines acr af capacity ⌝ }
 {
-    let active = left(acr, lines.ae, p.full40);
-    let standby = left(acr, lines.se, p.full40);
+    let active = left(acr, lines.ae, capacity.full40);
+    let standby = left(acr, lines.se, capacity.full40);
     Results {
-        rarc: percent(active, usable(af, lines.ae, p.full40)),
-        rsrc: percent(standby, usable(af, lines.se, p.full40)),
-        raac: amount(active, p.rsnsp),
-        rsac: amount(standby, p.rsnsp),
+        rarc: percent(active, usable(af, lines.ae, capacity.full40)),
+        rsrc: percent(standby, usable(af, lines.se, capacity.full40)),
+        raac: amount(active, capacity.rsnsp),
+        rsac: amount(standby, capacity.rsnsp),
     }
 }
 
 // Step 4: AF comes of FULL and AS.
-pub fn rated(g: Charge, lines: Model, p: Capacity) -> Results
-    requires { ⌜ ChargeWF g ⌝ }
+pub fn rated(charge: Charge, lines: Model, capacity: Capacity) -> Results
+    requires { ⌜ ChargeWF charge ⌝ }
     requires { ⌜ lines .full ≤ 16384 ⌝ }
-    ensures { λ r. ⌜ r ≡ ratedOf g lines p ⌝ }
+    ensures { λ r. ⌜ r ≡ ratedOf charge lines capacity ⌝ }
 {
-    let acr = (g.count / 4096) as u16;
-    let af = conversion::aged_full(lines.full, g.aging) as u16;
-    results_of(lines, acr, af, p)
+    let acr = (charge.count / 4096) as u16;
+    let af = conversion::aged_full(lines.full, charge.aging) as u16;
+    results_of(lines, acr, af, capacity)
 }
 
 // Step 5, and AEF of step 3.
-pub fn flagged(flags: Flags, holds: bool, r: Results) -> Flags
-    ensures { λ f. ⌜ f ≡ flaggedOf flags holds r ⌝ }
+pub fn flagged(flags: Flags, holds: bool, results: Results) -> Flags
+    ensures { λ f. ⌜ f ≡ flaggedOf flags holds results ⌝ }
 {
-    let aef = numbers::and_not(flags.aef, 5 < r.rarc);
-    let sef = numbers::and_not(flags.sef, 15 < r.rsrc);
+    let aef = numbers::and_not(flags.aef, 5 < results.rarc);
+    let sef = numbers::and_not(flags.sef, 15 < results.rsrc);
     Flags {
         porf: flags.porf,
-        chgtf: numbers::and_not(flags.chgtf, r.rarc < 90),
+        chgtf: numbers::and_not(flags.chgtf, results.rarc < 90),
         aef: numbers::choose_bool(holds, aef, true),
-        sef: numbers::or(r.rsrc < 10, sef),
+        sef: numbers::or(results.rsrc < 10, sef),
     }
 }
 
 // Step 6.
-pub fn kept(saved: Saved, save: bool, g: Charge, cycles: u8) -> Saved
-    requires { ⌜ ChargeWF g ⌝ }
-    ensures { λ r. ⌜ r ≡ keptOf saved save g cycles ⌝ }
+pub fn kept(saved: Saved, save: bool, charge: Charge, cycles: u8) -> Saved
+    requires { ⌜ ChargeWF charge ⌝ }
+    ensures { λ r. ⌜ r ≡ keptOf saved save charge cycles ⌝ }
 {
-    let acr = (g.count / 4096) as u16;
+    let acr = (charge.count / 4096) as u16;
     Saved {
         acr: numbers::choose16(save, acr, saved.acr),
-        aging: numbers::choose8(save, g.aging, saved.aging),
+        aging: numbers::choose8(save, charge.aging, saved.aging),
         cycles: numbers::choose8(save, cycles, saved.cycles),
     }
 }
@@ -283,33 +286,33 @@ pub fn lowered(since: Since, volt: u16) -> Since
 }
 
 // Steps 5 and 6.
-fn shown(mut meter: Meter, s: Seen, g: Charge, r: Results) -> Meter
+fn results_shown(mut meter: Meter, seen: Seen, charge: Charge, results: Results) -> Meter
     requires { ⌜ MeterWF meter ⌝ }
-    requires { ⌜ SeenWF s ⌝ }
-    requires { ⌜ ChargeWF g ⌝ }
-    ensures { λ m. ⌜ m ≡ shownOf meter s g r ⌝ }
+    requires { ⌜ SeenWF seen ⌝ }
+    requires { ⌜ ChargeWF charge ⌝ }
+    ensures { λ m. ⌜ m ≡ resultsShown meter seen charge results ⌝ }
     ensures kept { λ m. ⌜ MeterWF m ⌝ }
 {
-    let same = meter.shown.results.rarc / 4 == r.rarc / 4;
+    let same = meter.shown.results.rarc / 4 == results.rarc / 4;
     let save = numbers::and_not(meter.shown.reading.known, same);
-    let saved = kept(meter.cells.saved, save, g, meter.cycles.count);
+    let saved = kept(meter.cells.saved, save, charge, meter.cycles.count);
     meter.cells.saved.acr = saved.acr;
     meter.cells.saved.aging = saved.aging;
     meter.cells.saved.cycles = saved.cycles;
-    meter.charge = g;
-    let since = lowered(meter.flow.since, s.volt);
+    meter.charge = charge;
+    let since = lowered(meter.flow.since, seen.volt);
     meter.flow.since.any = since.any;
     meter.flow.since.lowest = since.lowest;
-    let lines = s.lines;
+    let lines = seen.lines;
     let shown = Shown {
         model: lines,
-        results: r,
+        results: results,
         reading: Reading {
-            volt: s.volt,
-            temp: s.temp,
+            volt: seen.volt,
+            temp: seen.temp,
             known: true,
         },
-        flags: flagged(meter.shown.flags, s.holds, r),
+        flags: flagged(meter.shown.flags, seen.holds, results),
     };
     meter.shown = shown;
     meter
@@ -321,11 +324,11 @@ pub fn read(mut meter: Meter, v: u32, t: u32) -> Meter
     ensures { λ r. ⌜ r ≡ readOf meter v t ⌝ }
     ensures kept { λ r. ⌜ MeterWF r ⌝ }
 {
-    let p = Limits::of(&meter.cells.block.shadow);
-    let full = Capacity::of(&meter.cells.block.shadow);
+    let limits = Limits::of(&meter.cells.block.shadow);
+    let capacity = Capacity::of(&meter.cells.block.shadow);
     let curves = Curves::of(&meter.cells.block.shadow);
-    let s = Seen::of(p, curves, v, t);
-    let g = drained(meter, p, full.full40, s);
-    let r = rated(g, s.lines, full);
-    shown(meter, s, g, r)
+    let seen = Seen::of(limits, curves, v, t);
+    let charge = drained(meter, limits, capacity.full40, seen);
+    let results = rated(charge, seen.lines, capacity);
+    results_shown(meter, seen, charge, results)
 }

@@ -1,13 +1,13 @@
 -- The contracts of this crate's public functions leave no choice.
 use mathlib.Core.Path.{refl, sym, _∙_}
 use Rattle.once.specs.Once.{Once}
-use Rattle.record.proofs.number
+use Rattle.record.proofs.taken_number
 use Rattle.record.proofs.judged
 use Rattle.record.proofs.«fitted_by»
 use Rattle.record.proofs.fitted
 
-pub number-once : Once number.ended number.Reads.Pre number.Reads.Learnt
-number-once κs a r r′ w w′ p h h′ = (h ∙ sym h′, refl)
+pub taken-number-once : Once «taken_number».ended «taken_number».Reads.Pre «taken_number».Reads.Learnt
+taken-number-once κs a r r′ w w′ p h h′ = (h ∙ sym h′, refl)
 
 pub judged-once : Once judged.ended judged.Reads.Pre judged.Reads.Learnt
 judged-once κs a r r′ w w′ p h h′ = (h ∙ sym h′, refl)

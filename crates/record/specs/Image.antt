@@ -59,7 +59,7 @@ imageAging p = getD p agingAt 0
 
 -- 0 where the profile saves none
 abbrev pub imageCycles : Profile → List ℕ → ℕ
-imageCycles f p = pick (countsCycles f) (getD p cyclesAt 0) 0
+imageCycles profile p = pick (countsCycles profile) (getD p cyclesAt 0) 0
 
 -- the lock byte: bit 0 is BL0, bit 1 BL1
 abbrev pub imageLocks : List ℕ → ℕ

@@ -44,9 +44,9 @@ refusalNumber refusal.Breaks = 10
 refusalNumber refusal.Interval = 11
 refusalNumber refusal.Repeated = 12
 
-abbrev pub numberOf : Taken → ℕ
-numberOf (Run e) = 0
-numberOf (Refused r) = refusalNumber r
+abbrev pub takenNumber : Taken → ℕ
+takenNumber (Run e) = 0
+takenNumber (Refused r) = refusalNumber r
 
 -- ---- the kinds
 
@@ -113,7 +113,7 @@ dueOf kind.Unknown loaded = false
 
 -- first address byte 3Dh, of kind 8 32h ("6 asks the profile's family"), and the eighth the CRC of the first seven
 unfoldable pub addressedOf : Profile → List ℕ → Bool
-addressedOf f address = both (eqb (getD address 0 0) (familyOf f)) (eqb (getD address 7 0) (crcOf (part 7 address 0)))
+addressedOf profile address = both (eqb (getD address 0 0) (familyOf profile)) (eqb (getD address 7 0) (crcOf (part 7 address 0)))
 
 -- lock byte not above 3
 abbrev pub lockableOf : List ℕ → Bool
@@ -121,17 +121,17 @@ lockableOf p = leb (imageLocks p) 3
 
 -- "TBP12 ≤ TBP23 ≤ TBP34 ≤ 40 as signed bytes"
 unfoldable pub orderedOf : Breaks → Bool
-orderedOf b = both (leb (b .b12) (b .b23)) (both (leb (b .b23) (b .b34)) (leb (b .b34) (zeroAt 7 + 40)))
+orderedOf breaks = both (leb (breaks .b12) (breaks .b23)) (both (leb (breaks .b23) (breaks .b34)) (leb (breaks .b34) (zeroAt 7 + 40)))
 
 -- 4, 6, 7, 12, 10: the first refusal that applies, in the order of checking. 12, "after 7 and before 10, for a repeated address": where another
 -- pack of the tray has the image's address
 unfoldable pub judgedAmong : Profile → Bool → List ℕ → Taken
-judgedAmong f again p =
-    pick (eqb (length p) (imageSizeOf f))
-    (pick (addressedOf f (imageAddress p))
+judgedAmong profile again p =
+    pick (eqb (length p) (imageSizeOf profile))
+    (pick (addressedOf profile (imageAddress p))
     (pick (lockableOf p)
     (pick (not again)
-    (pick (orderedOf (imageBreaks p)) (Run (Image f)) (Refused refusal.Breaks))
+    (pick (orderedOf (imageBreaks p)) (Run (Image profile)) (Refused refusal.Breaks))
     (Refused refusal.Repeated))
     (Refused refusal.Locks))
     (Refused refusal.Address))
@@ -139,7 +139,7 @@ judgedAmong f again p =
 
 -- by itself
 abbrev pub judgedBy : Profile → List ℕ → Taken
-judgedBy f p = judgedAmong f false p
+judgedBy profile p = judgedAmong profile false p
 
 -- an image of kind 1
 abbrev pub judgedOf : List ℕ → Taken
@@ -153,15 +153,15 @@ countAt p at = offset32Of (quadAt p at)
 
 -- the master bytes of a transaction
 abbrev pub masterOf : Transaction → List ℕ → List ℕ
-masterOf t p = drop (t .start) p
+masterOf transaction p = drop (transaction .start) p
 
 -- a read count, and then the master bytes
 abbrev pub transactionIn : Form → List ℕ → Transaction
-transactionIn f p = askedOf (headOf f) (readCount f p) (drop (headOf f) p)
+transactionIn form p = askedOf (headOf form) (readCount form p) (drop (headOf form) p)
 
 -- 8: read count above 64, in kind 7 above 256
 abbrev pub transactionOf : Form → List ℕ → Taken
-transactionOf f p = pick (leb (readCount f p) (limitOf f)) (Run (Transact (transactionIn f p))) (Refused refusal.Count)
+transactionOf form p = pick (leb (readCount form p) (limitOf form)) (Run (Transact (transactionIn form p))) (Refused refusal.Count)
 
 -- the event of a record of its kind's size, at its time; of an image by whether another pack has its address
 abbrev pub eventOf : Bool → Kind → List ℕ → Taken
@@ -176,10 +176,10 @@ eventOf again kind.Unknown p = Refused refusal.Kind
 -- ---- the first refusal that applies, or the event
 
 abbrev pub takenBy : Bool → Kind → Bool → List ℕ → Taken
-takenBy again k loaded p =
-    pick (knownOf k)
-    (pick (sizedOf k (length p))
-    (pick (dueOf k loaded) (eventOf again k p) (Refused refusal.Order))
+takenBy again which loaded p =
+    pick (knownOf which)
+    (pick (sizedOf which (length p))
+    (pick (dueOf which loaded) (eventOf again which p) (Refused refusal.Order))
     (Refused refusal.Size))
     (Refused refusal.Kind)
 

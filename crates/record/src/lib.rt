@@ -7,7 +7,7 @@ ghost use mathlib.Core.Bool.{false};
 ghost use mathlib.Core.Path.{_≡_};
 ghost use Prim.Native.Nat.{_≤_};
 ghost use lib.ListN.{length};
-ghost use Rattle.record.specs.Record.{numberOf, kindOf, headOf, limitOf, readCount, addressedOf, orderedOf, judgedAmong, judgedOf, takenBy, takenOf, timedOf, fittedOf};
+ghost use Rattle.record.specs.Record.{takenNumber, kindOf, headOf, limitOf, readCount, addressedOf, orderedOf, judgedAmong, judgedOf, takenBy, takenOf, timedOf, fittedOf};
 
 // The pack image: its size, of kind 1, and where its parts stand.
 pub const IMAGE_SIZE: usize = 60;
@@ -79,12 +79,12 @@ pub enum Taken {
 }
 
 // The answer's number.
-pub fn number(t: Taken) -> u8
-    ensures { λ r. ⌜ r ≡ numberOf t ⌝ }
+pub fn taken_number(taken: Taken) -> u8
+    ensures { λ r. ⌜ r ≡ takenNumber taken ⌝ }
 {
-    match t {
+    match taken {
         Taken::Run(_) => 0,
-        Taken::Refused(r) => match r {
+        Taken::Refused(refusal) => match refusal {
             Refusal::Kind => 3,
             Refusal::Size => 4,
             Refusal::Order => 5,
@@ -119,38 +119,38 @@ fn kind_of(n: u16) -> Kind
 }
 
 // The address of eight bytes has the profile's family code and its own CRC.
-fn addressed(f: Profile, address: &[u8]) -> bool
+fn addressed(profile: Profile, address: &[u8]) -> bool
     requires { ⌜ length (now address) ≡ 8 ⌝ }
-    ensures { λ r. ⌜ r ≡ addressedOf f (now (address .entry)) ⌝ }
+    ensures { λ r. ⌜ r ≡ addressedOf profile (now (address .entry)) ⌝ }
 {
     let c = crc::crc(&address[0..7]);
-    numbers::and(address[0] == state::family(f), address[7] == c)
+    numbers::and(address[0] == state::family(profile), address[7] == c)
 }
 
 // The breakpoints follow one another, and none is above 40 °C.
-fn ordered(b: Breaks) -> bool
-    ensures { λ r. ⌜ r ≡ orderedOf b ⌝ }
+fn ordered(breaks: Breaks) -> bool
+    ensures { λ r. ⌜ r ≡ orderedOf breaks ⌝ }
 {
-    let upper = numbers::and(b.b23 <= b.b34, b.b34 <= numbers::ZERO7 + 40);
-    numbers::and(b.b12 <= b.b23, upper)
+    let upper = numbers::and(breaks.b23 <= breaks.b34, breaks.b34 <= numbers::ZERO7 + 40);
+    numbers::and(breaks.b12 <= breaks.b23, upper)
 }
 
 // An image, judged by itself and by whether another pack has its address: whether it comes in its time is not asked here.
-fn judged_among(f: Profile, again: bool, p: &[u8]) -> Taken
-    ensures { λ r. ⌜ r ≡ judgedAmong f again (now (p .entry)) ⌝ }
+fn judged_among(profile: Profile, again: bool, image: &[u8]) -> Taken
+    ensures { λ r. ⌜ r ≡ judgedAmong profile again (now (image .entry)) ⌝ }
 {
     let mut taken = Taken::Refused(Refusal::Size);
-    if p.len() == state::size(f) {
+    if image.len() == state::image_size(profile) {
         taken = Taken::Refused(Refusal::Address);
-        if addressed(f, &p[ADDRESS_AT..LABEL_AT]) {
+        if addressed(profile, &image[ADDRESS_AT..LABEL_AT]) {
             taken = Taken::Refused(Refusal::Locks);
-            if p[LOCKS_AT] <= 3 {
+            if image[LOCKS_AT] <= 3 {
                 taken = Taken::Refused(Refusal::Repeated);
                 if !again {
                     taken = Taken::Refused(Refusal::Breaks);
-                    let block = slices::thirty_two(p, BLOCK_AT);
+                    let block = slices::thirty_two(image, BLOCK_AT);
                     if ordered(Breaks::of(&block)) {
-                        taken = Taken::Run(Event::Image(f));
+                        taken = Taken::Run(Event::Image(profile));
                     }
                 }
             }
@@ -160,99 +160,99 @@ fn judged_among(f: Profile, again: bool, p: &[u8]) -> Taken
 }
 
 // An image of kind 1, judged by itself.
-pub fn judged(p: &[u8]) -> Taken
-    ensures { λ r. ⌜ r ≡ judgedOf (now (p .entry)) ⌝ }
+pub fn judged(image: &[u8]) -> Taken
+    ensures { λ r. ⌜ r ≡ judgedOf (now (image .entry)) ⌝ }
 {
-    judged_among(Profile::Ds2781, false, p)
+    judged_among(Profile::Ds2781, false, image)
 }
 
 // ---- a reader for each kind
 
-fn image_taken(f: Profile, again: bool, loaded: bool, p: &[u8]) -> Taken
-    ensures { λ r. ⌜ r ≡ takenBy again (Kind.Image f) loaded (now (p .entry)) ⌝ }
+fn image_taken(profile: Profile, again: bool, loaded: bool, image: &[u8]) -> Taken
+    ensures { λ r. ⌜ r ≡ takenBy again (Kind.Image profile) loaded (now (image .entry)) ⌝ }
 {
-    if p.len() != state::size(f) {
+    if image.len() != state::image_size(profile) {
         return Taken::Refused(Refusal::Size);
     }
     if !loaded {
-        return judged_among(f, again, p);
+        return judged_among(profile, again, image);
     }
     Taken::Refused(Refusal::Order)
 }
 
-fn reading_taken(loaded: bool, p: &[u8]) -> Taken
-    ensures { λ r. ⌜ r ≡ takenBy false Kind.Reading loaded (now (p .entry)) ⌝ }
+fn reading_taken(loaded: bool, payload: &[u8]) -> Taken
+    ensures { λ r. ⌜ r ≡ takenBy false Kind.Reading loaded (now (payload .entry)) ⌝ }
 {
-    if p.len() != 8 {
+    if payload.len() != 8 {
         return Taken::Refused(Refusal::Size);
     }
     if loaded {
-        let volt = numbers::offset32(slices::quad(p, 0));
-        let temp = numbers::offset32(slices::quad(p, 4));
+        let volt = numbers::offset32(slices::quad(payload, 0));
+        let temp = numbers::offset32(slices::quad(payload, 4));
         return Taken::Run(Event::Change(Change::Reading(volt, temp)));
     }
     Taken::Refused(Refusal::Order)
 }
 
-fn conversion_taken(loaded: bool, p: &[u8]) -> Taken
-    ensures { λ r. ⌜ r ≡ takenBy false Kind.Conversion loaded (now (p .entry)) ⌝ }
+fn conversion_taken(loaded: bool, payload: &[u8]) -> Taken
+    ensures { λ r. ⌜ r ≡ takenBy false Kind.Conversion loaded (now (payload .entry)) ⌝ }
 {
-    if p.len() != 4 {
+    if payload.len() != 4 {
         return Taken::Refused(Refusal::Size);
     }
     if loaded {
-        let raw = numbers::offset32(slices::quad(p, 0));
+        let raw = numbers::offset32(slices::quad(payload, 0));
         return Taken::Run(Event::Change(Change::Conversion(raw)));
     }
     Taken::Refused(Refusal::Order)
 }
 
 // How many bytes the read count of a form has.
-fn head(f: Form) -> usize
-    ensures { λ r. ⌜ r ≡ headOf f ⌝ }
+fn head(form: Form) -> usize
+    ensures { λ r. ⌜ r ≡ headOf form ⌝ }
     ensures small { λ r. ⌜ r ≤ 2 ⌝ }
 {
-    match f {
+    match form {
         Form::Short => 1,
         Form::Long => 2,
     }
 }
 
 // How many bytes are read in a form at most, and how many the master sends.
-fn limit(f: Form) -> usize
-    ensures { λ r. ⌜ r ≡ limitOf f ⌝ }
+fn limit(form: Form) -> usize
+    ensures { λ r. ⌜ r ≡ limitOf form ⌝ }
     ensures small { λ r. ⌜ r ≤ 256 ⌝ }
 {
-    match f {
+    match form {
         Form::Short => 64,
         Form::Long => 256,
     }
 }
 
-fn read_count(f: Form, p: &[u8]) -> u16
-    requires { ⌜ headOf f ≤ length (now p) ⌝ }
-    ensures { λ r. ⌜ r ≡ readCount f (now (p .entry)) ⌝ }
+fn read_count(form: Form, payload: &[u8]) -> u16
+    requires { ⌜ headOf form ≤ length (now payload) ⌝ }
+    ensures { λ r. ⌜ r ≡ readCount form (now (payload .entry)) ⌝ }
 {
-    match f {
-        Form::Short => slices::wide(p[0]) as u16,
-        Form::Long => slices::pair(p, 0),
+    match form {
+        Form::Short => slices::wide(payload[0]) as u16,
+        Form::Long => slices::pair(payload, 0),
     }
 }
 
 // The read count, which the room that is left must hold, and what the master bytes after it ask.
-fn transaction_taken(f: Form, loaded: bool, room: usize, p: &[u8]) -> Taken
-    ensures { λ r. ⌜ r ≡ fittedOf room (takenBy false (Kind.Transaction f) loaded (now (p .entry))) ⌝ }
+fn transaction_taken(form: Form, loaded: bool, room: usize, payload: &[u8]) -> Taken
+    ensures { λ r. ⌜ r ≡ fittedOf room (takenBy false (Kind.Transaction form) loaded (now (payload .entry))) ⌝ }
 {
-    let start = head(f);
-    let most = limit(f);
-    if p.len() < start {
+    let start = head(form);
+    let most = limit(form);
+    if payload.len() < start {
         return Taken::Refused(Refusal::Size);
     }
-    if start + most < p.len() {
+    if start + most < payload.len() {
         return Taken::Refused(Refusal::Size);
     }
     if loaded {
-        let count = read_count(f, p);
+        let count = read_count(form, payload);
         let n = count as usize;
         if most < n {
             return Taken::Refused(Refusal::Count);
@@ -260,17 +260,17 @@ fn transaction_taken(f: Form, loaded: bool, room: usize, p: &[u8]) -> Taken
         if room < n {
             return Taken::Refused(Refusal::Room);
         }
-        let t = bus::asked(start as u32, count, &p[start..]);
-        return Taken::Run(Event::Transact(t));
+        let transaction = bus::asked(start as u32, count, &payload[start..]);
+        return Taken::Run(Event::Transact(transaction));
     }
     Taken::Refused(Refusal::Order)
 }
 
-fn power_on_taken(loaded: bool, p: &[u8]) -> Taken
-    ensures { λ r. ⌜ r ≡ takenBy false Kind.PowerOn loaded (now (p .entry)) ⌝ }
+fn power_on_taken(loaded: bool, payload: &[u8]) -> Taken
+    ensures { λ r. ⌜ r ≡ takenBy false Kind.PowerOn loaded (now (payload .entry)) ⌝ }
 {
     let mut taken = Taken::Refused(Refusal::Size);
-    if p.len() == 0 {
+    if payload.len() == 0 {
         taken = Taken::Refused(Refusal::Order);
         if loaded {
             taken = Taken::Run(Event::Change(Change::PowerOn));
@@ -280,15 +280,15 @@ fn power_on_taken(loaded: bool, p: &[u8]) -> Taken
 }
 
 // A sample, which comes 1 to 64 ticks after the one remembered.
-fn sample_taken(loaded: bool, last: Tick, p: &[u8]) -> Taken
-    ensures { λ r. ⌜ r ≡ timedOf last (takenBy false Kind.Sample loaded (now (p .entry))) ⌝ }
+fn sample_taken(loaded: bool, last: Tick, payload: &[u8]) -> Taken
+    ensures { λ r. ⌜ r ≡ timedOf last (takenBy false Kind.Sample loaded (now (payload .entry))) ⌝ }
 {
-    if p.len() != 6 {
+    if payload.len() != 6 {
         return Taken::Refused(Refusal::Size);
     }
     if loaded {
-        let current = numbers::offset32(slices::quad(p, 0));
-        let tick = slices::pair(p, 4);
+        let current = numbers::offset32(slices::quad(payload, 0));
+        let tick = slices::pair(payload, 4);
         if state::timely(last, tick) {
             return Taken::Run(Event::Change(Change::Sample(current, tick)));
         }
@@ -299,24 +299,31 @@ fn sample_taken(loaded: bool, last: Tick, p: &[u8]) -> Taken
 
 // The event of a record of a kind, or the first refusal that applies, with a tick that is remembered and so many bytes of reply room left; an
 // image by whether another pack has its address.
-pub fn fitted_by(k: Kind, again: bool, loaded: bool, last: Tick, room: usize, p: &[u8]) -> Taken
-    ensures { λ r. ⌜ r ≡ fittedOf room (timedOf last (takenBy again k loaded (now (p .entry)))) ⌝ }
+pub fn fitted_by(
+    kind: Kind,
+    again: bool,
+    loaded: bool,
+    last: Tick,
+    room: usize,
+    payload: &[u8],
+) -> Taken
+    ensures { λ r. ⌜ r ≡ fittedOf room (timedOf last (takenBy again kind loaded (now (payload .entry)))) ⌝ }
 {
-    match k {
-        Kind::Image(f) => image_taken(f, again, loaded, p),
-        Kind::Reading => reading_taken(loaded, p),
-        Kind::Conversion => conversion_taken(loaded, p),
-        Kind::Transaction(f) => transaction_taken(f, loaded, room, p),
-        Kind::PowerOn => power_on_taken(loaded, p),
-        Kind::Sample => sample_taken(loaded, last, p),
+    match kind {
+        Kind::Image(profile) => image_taken(profile, again, loaded, payload),
+        Kind::Reading => reading_taken(loaded, payload),
+        Kind::Conversion => conversion_taken(loaded, payload),
+        Kind::Transaction(form) => transaction_taken(form, loaded, room, payload),
+        Kind::PowerOn => power_on_taken(loaded, payload),
+        Kind::Sample => sample_taken(loaded, last, payload),
         Kind::Unknown => Taken::Refused(Refusal::Kind),
     }
 }
 
 // The same of a record of a plain session.
-pub fn fitted(kind: u16, loaded: bool, last: Tick, room: usize, p: &[u8]) -> Taken
-    ensures { λ r. ⌜ r ≡ fittedOf room (timedOf last (takenOf kind loaded (now (p .entry)))) ⌝ }
+pub fn fitted(kind: u16, loaded: bool, last: Tick, room: usize, payload: &[u8]) -> Taken
+    ensures { λ r. ⌜ r ≡ fittedOf room (timedOf last (takenOf kind loaded (now (payload .entry)))) ⌝ }
 {
-    let k = kind_of(kind);
-    fitted_by(k, false, loaded, last, room, p)
+    let decoded = kind_of(kind);
+    fitted_by(decoded, false, loaded, last, room, payload)
 }

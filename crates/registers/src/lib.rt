@@ -31,23 +31,27 @@ fn flag(on: bool, weight: u8) -> u8
     if on { weight } else { 0 }
 }
 
-fn status(f: Flags, learnf: bool) -> u8
-    ensures { λ r. ⌜ r ≡ statusOf f learnf ⌝ }
+fn status(flags: Flags, learnf: bool) -> u8
+    ensures { λ r. ⌜ r ≡ statusOf flags learnf ⌝ }
 {
-    flag(f.chgtf, 128) + flag(f.aef, 64) + flag(f.sef, 32) + flag(learnf, 16) + flag(f.porf, 2)
+    flag(flags.chgtf, 128)
+        + flag(flags.aef, 64)
+        + flag(flags.sef, 32)
+        + flag(learnf, 16)
+        + flag(flags.porf, 2)
 }
 
-fn cycle_byte(c: Cells, y: Cycles) -> u8
-    ensures { λ r. ⌜ r ≡ cycleByte c y ⌝ }
+fn cycle_byte(cells: Cells, cycles: Cycles) -> u8
+    ensures { λ r. ⌜ r ≡ cycleByte cells cycles ⌝ }
 {
-    let f = c.profile;
-    numbers::choose8(state::counts(f), y.count, 0xff)
+    let profile = cells.profile;
+    numbers::choose8(state::counts_cycles(profile), cycles.count, 0xff)
 }
 
-fn eeprom(k: Common, l: Locks) -> u8
-    ensures { λ r. ⌜ r ≡ eepromOf k l ⌝ }
+fn eeprom(common: Common, locks: Locks) -> u8
+    ensures { λ r. ⌜ r ≡ eepromOf common locks ⌝ }
 {
-    flag(l.lock, 64) + flag(l.bl1, 2) + flag(k.bl0, 1)
+    flag(locks.lock, 64) + flag(locks.bl1, 2) + flag(common.bl0, 1)
 }
 
 // The two bytes from an even address on: a register, or one register each.
@@ -79,60 +83,63 @@ fn two(high: u8, low: u8) -> Pair
 }
 
 // What stands at an even address of 00h to 1Fh and behind it: FFh where nothing stands.
-pub fn register(k: Common, m: Meter, at: usize) -> Pair
-    requires { ⌜ MeterWF m ⌝ }
+pub fn register(common: Common, meter: Meter, at: usize) -> Pair
+    requires { ⌜ MeterWF meter ⌝ }
     requires { ⌜ (at < 32) × (at % 2 ≡ 0) ⌝ }
-    ensures { λ r. ⌜ r ≡ registerOf k m at ⌝ }
+    ensures { λ r. ⌜ r ≡ registerOf common meter at ⌝ }
 {
     match at {
-        0x00 => two(0xff, status(m.shown.flags, m.charge.learnf)),
-        0x02 => Pair::of(m.shown.results.raac),
-        0x04 => Pair::of(m.shown.results.rsac),
-        0x06 => two(m.shown.results.rarc, m.shown.results.rsrc),
-        0x08 => Pair::of(word(m.flow.average.iavg)),
-        0x0a => Pair::of(temp_word(m.shown.reading.temp)),
-        0x0c => Pair::of(m.shown.reading.volt * 32),
-        0x0e => Pair::of(word(m.flow.trace.last)),
-        0x10 => Pair::of((m.charge.count / 4096) as u16),
-        0x12 => Pair::of((m.charge.count % 4096 * 16) as u16),
-        0x14 => two(m.charge.aging, 0x00),
-        0x16 => Pair::of(m.shown.model.full),
-        0x18 => Pair::of(m.shown.model.ae),
-        0x1a => Pair::of(m.shown.model.se),
+        0x00 => two(0xff, status(meter.shown.flags, meter.charge.learnf)),
+        0x02 => Pair::of(meter.shown.results.raac),
+        0x04 => Pair::of(meter.shown.results.rsac),
+        0x06 => two(meter.shown.results.rarc, meter.shown.results.rsrc),
+        0x08 => Pair::of(word(meter.flow.average.iavg)),
+        0x0a => Pair::of(temp_word(meter.shown.reading.temp)),
+        0x0c => Pair::of(meter.shown.reading.volt * 32),
+        0x0e => Pair::of(word(meter.flow.trace.last)),
+        0x10 => Pair::of((meter.charge.count / 4096) as u16),
+        0x12 => Pair::of((meter.charge.count % 4096 * 16) as u16),
+        0x14 => two(meter.charge.aging, 0x00),
+        0x16 => Pair::of(meter.shown.model.full),
+        0x18 => Pair::of(meter.shown.model.ae),
+        0x1a => Pair::of(meter.shown.model.se),
         0x1c => two(0xff, 0xff),
-        _ => two(cycle_byte(m.cells, m.cycles), eeprom(k, m.cells.locks)),
+        _ => two(
+            cycle_byte(meter.cells, meter.cycles),
+            eeprom(common, meter.cells.locks),
+        ),
     }
 }
 
-fn put(r: &mut [u8; 32], at: usize, p: Pair)
+fn put(bytes: &mut [u8; 32], at: usize, pair: Pair)
     requires { ⌜ at < 31 ⌝ }
-    ensures { λ _. ⌜ now (r .exit) ≡ putOf (now (r .entry)) at p ⌝ }
+    ensures { λ _. ⌜ now (bytes .exit) ≡ putOf (now (bytes .entry)) at pair ⌝ }
 {
-    r[at] = p.high;
-    r[at + 1] = p.low;
+    bytes[at] = pair.high;
+    bytes[at + 1] = pair.low;
 }
 
 // All of 00h to 1Fh.
-pub fn registers(k: Common, m: Meter) -> [u8; 32]
-    requires { ⌜ MeterWF m ⌝ }
-    ensures { λ r. ⌜ r ≡ registersOf k m ⌝ }
+pub fn registers(common: Common, meter: Meter) -> [u8; 32]
+    requires { ⌜ MeterWF meter ⌝ }
+    ensures { λ r. ⌜ r ≡ registersOf common meter ⌝ }
 {
-    let mut r = [0u8; 32];
-    put(&mut r, 0x00, register(k, m, 0x00));
-    put(&mut r, 0x02, register(k, m, 0x02));
-    put(&mut r, 0x04, register(k, m, 0x04));
-    put(&mut r, 0x06, register(k, m, 0x06));
-    put(&mut r, 0x08, register(k, m, 0x08));
-    put(&mut r, 0x0a, register(k, m, 0x0a));
-    put(&mut r, 0x0c, register(k, m, 0x0c));
-    put(&mut r, 0x0e, register(k, m, 0x0e));
-    put(&mut r, 0x10, register(k, m, 0x10));
-    put(&mut r, 0x12, register(k, m, 0x12));
-    put(&mut r, 0x14, register(k, m, 0x14));
-    put(&mut r, 0x16, register(k, m, 0x16));
-    put(&mut r, 0x18, register(k, m, 0x18));
-    put(&mut r, 0x1a, register(k, m, 0x1a));
-    put(&mut r, 0x1c, register(k, m, 0x1c));
-    put(&mut r, 0x1e, register(k, m, 0x1e));
-    r
+    let mut bytes = [0u8; 32];
+    put(&mut bytes, 0x00, register(common, meter, 0x00));
+    put(&mut bytes, 0x02, register(common, meter, 0x02));
+    put(&mut bytes, 0x04, register(common, meter, 0x04));
+    put(&mut bytes, 0x06, register(common, meter, 0x06));
+    put(&mut bytes, 0x08, register(common, meter, 0x08));
+    put(&mut bytes, 0x0a, register(common, meter, 0x0a));
+    put(&mut bytes, 0x0c, register(common, meter, 0x0c));
+    put(&mut bytes, 0x0e, register(common, meter, 0x0e));
+    put(&mut bytes, 0x10, register(common, meter, 0x10));
+    put(&mut bytes, 0x12, register(common, meter, 0x12));
+    put(&mut bytes, 0x14, register(common, meter, 0x14));
+    put(&mut bytes, 0x16, register(common, meter, 0x16));
+    put(&mut bytes, 0x18, register(common, meter, 0x18));
+    put(&mut bytes, 0x1a, register(common, meter, 0x1a));
+    put(&mut bytes, 0x1c, register(common, meter, 0x1c));
+    put(&mut bytes, 0x1e, register(common, meter, 0x1e));
+    bytes
 }

@@ -32,7 +32,7 @@ selectedBy Quiet address master = false
 
 -- selection looks at the address alone
 unfoldable pub selectedOf : List ℕ → Transaction → List ℕ → Bool
-selectedOf address t master = selectedBy (t .rom) address master
+selectedOf address transaction master = selectedBy (transaction .rom) address master
 
 -- ---- where a reply comes from
 
@@ -55,13 +55,14 @@ netSourceOf Quiet rnaop = Idle
 
 -- by whether the gauge is selected; RNAOP is in the shadow bytes of block 1
 abbrev pub replySourceOf : Bool → List ℕ → Transaction → Source
-replySourceOf chosen shadow t = pick chosen (readSourceOf (t .command) (t .address)) (netSourceOf (t .rom) (rnaopOf shadow))
+replySourceOf chosen shadow transaction =
+    pick chosen (readSourceOf (transaction .command) (transaction .address)) (netSourceOf (transaction .rom) (rnaopOf shadow))
 
 -- ---- the reply
 
 -- 69h: the byte that a read of the address a gives
 unfoldable pub readByte : Common → Label → Meter → ℕ → ℕ
-readByte k l m a = pick (inLabel a) (labelByte l a) (meterByte k m a)
+readByte common label meter a = pick (inLabel a) (labelByte label a) (meterByte common meter a)
 
 -- a net address read: the 8 address bytes, then FFh
 abbrev pub netByte : List ℕ → ℕ → ℕ
@@ -69,9 +70,9 @@ netByte address i = pick (ltb i 8) (getD address i 0) 0xff
 
 -- the reply's byte i: of the address; of the map from a upward; or FFh
 unfoldable pub sourceByte : Common → Label → Meter → Source → ℕ → ℕ
-sourceByte k l m Address i = netByte (k .address) i
-sourceByte k l m (Bytes a) i = readByte k l m (a + i)
-sourceByte k l m Idle i = 0xff
+sourceByte common label meter Address i = netByte (common .address) i
+sourceByte common label meter (Bytes a) i = readByte common label meter (a + i)
+sourceByte common label meter Idle i = 0xff
 
 -- bytes that stand from the address base on, laid over a room that stands from the address a on
 abbrev pub overOf : ℕ → List ℕ → ℕ → List ℕ → List ℕ
@@ -84,4 +85,5 @@ listed f i (suc n) = f i ∷ listed f (i + 1) n
 
 -- by whether the gauge is selected: exactly the read count of bytes
 abbrev pub repliedOf : Bool → Common → Label → Meter → Transaction → List ℕ
-repliedOf chosen k l m t = listed (sourceByte k l m (replySourceOf chosen (m .cells .block .shadow) t)) 0 (t .count)
+repliedOf chosen common label meter transaction =
+    listed (sourceByte common label meter (replySourceOf chosen (meter .cells .block .shadow) transaction)) 0 (transaction .count)

@@ -25,10 +25,10 @@ pub enum Source {
 // ---- whom it selects
 
 // Whether the gauge with this address is selected: by CCh, or by 55h and its own address.
-pub fn selected(address: [u8; 8], t: Transaction, master: &[u8]) -> bool
-    ensures { λ r. ⌜ r ≡ selectedOf address t (now (master .entry)) ⌝ }
+pub fn selected(address: [u8; 8], transaction: Transaction, master: &[u8]) -> bool
+    ensures { λ r. ⌜ r ≡ selectedOf address transaction (now (master .entry)) ⌝ }
 {
-    let rom = t.rom;
+    let rom = transaction.rom;
     match rom {
         Rom::Skip => true,
         Rom::Match => bus::own(address, master),
@@ -76,21 +76,21 @@ fn net_source(rom: Rom, rnaop: bool) -> Source
 }
 
 // Where the reply of a gauge that is chosen or not comes from; RNAOP is in the shadow bytes of block 1.
-fn reply_source(shadow: &[u8; 32], t: Transaction, chosen: bool) -> Source
-    ensures { λ r. ⌜ r ≡ replySourceOf chosen (now (shadow .entry)) t ⌝ }
+fn reply_source(shadow: &[u8; 32], transaction: Transaction, chosen: bool) -> Source
+    ensures { λ r. ⌜ r ≡ replySourceOf chosen (now (shadow .entry)) transaction ⌝ }
 {
     if chosen {
-        let command = t.command;
-        return read_source(command, t.address);
+        let command = transaction.command;
+        return read_source(command, transaction.address);
     }
-    let rom = t.rom;
+    let rom = transaction.rom;
     net_source(rom, params::rnaop(shadow))
 }
 
 // ---- the reply, which fills a room
 
 // FFh alone.
-pub fn idle(room: &mut [u8])
+pub fn fill_ones(room: &mut [u8])
     ensures { λ _. ⌜ now (room .exit) ≡ listed (λ i. 0xff) 0 (length (now (room .entry))) ⌝ }
 {
     let mut i = 0;
@@ -105,103 +105,110 @@ fn net_reply(address: [u8; 8], room: &mut [u8])
     ensures { λ _. ⌜ now (room .exit) ≡ listed (netByte address) 0 (length (now (room .entry))) ⌝ }
 {
     if 8 < room.len() {
-        idle(room);
+        fill_ones(room);
     }
     slices::laid(room, 0, 0, &address);
 }
 
 // What stands from 60h on, laid over a room that stands from the address a upward, where that ends above it.
-fn block_laid(b: Block, a: usize, room: &mut [u8])
+fn block_laid(block: Block, a: usize, room: &mut [u8])
     requires { ⌜ a < 256 ⌝ }
-    ensures { λ _. ⌜ now (room .exit) ≡ overOf 0x60 (b .shadow) a (now (room .entry)) ⌝ }
-    ensures sized { λ _. ⌜ length (b .shadow) ≡ 32 ⌝ }
+    ensures { λ _. ⌜ now (room .exit) ≡ overOf 0x60 (block .shadow) a (now (room .entry)) ⌝ }
+    ensures sized { λ _. ⌜ length (block .shadow) ≡ 32 ⌝ }
 {
     if 0x60 < a + room.len() {
-        let block = b.shadow;
-        slices::laid(room, a, 0x60, &block);
+        let shadow = block.shadow;
+        slices::laid(room, a, 0x60, &shadow);
     }
 }
 
 // What stands from 20h on.
-fn label_laid(l: Label, a: usize, room: &mut [u8])
+fn label_laid(label: Label, a: usize, room: &mut [u8])
     requires { ⌜ a < 256 ⌝ }
-    ensures { λ _. ⌜ now (room .exit) ≡ overOf 0x20 (l .shadow) a (now (room .entry)) ⌝ }
-    ensures sized { λ _. ⌜ length (l .shadow) ≡ 16 ⌝ }
+    ensures { λ _. ⌜ now (room .exit) ≡ overOf 0x20 (label .shadow) a (now (room .entry)) ⌝ }
+    ensures sized { λ _. ⌜ length (label .shadow) ≡ 16 ⌝ }
 {
-    let label = l.shadow;
-    slices::laid(room, a, 0x20, &label);
+    let shadow = label.shadow;
+    slices::laid(room, a, 0x20, &shadow);
 }
 
 // What stands from 00h on: the registers, which are worked out only where the room starts among them.
-fn registers_laid(k: Common, m: Meter, a: usize, room: &mut [u8])
-    requires { ⌜ MeterWF m ⌝ }
+fn registers_laid(common: Common, meter: Meter, a: usize, room: &mut [u8])
+    requires { ⌜ MeterWF meter ⌝ }
     requires { ⌜ a < 256 ⌝ }
-    ensures { λ _. ⌜ now (room .exit) ≡ overOf 0x00 (registersOf k m) a (now (room .entry)) ⌝ }
+    ensures { λ _. ⌜ now (room .exit) ≡ overOf 0x00 (registersOf common meter) a (now (room .entry)) ⌝ }
 {
     if a < 0x20 {
-        let registers = registers::registers(k, m);
+        let registers = registers::registers(common, meter);
         slices::laid(room, a, 0x00, &registers);
     }
 }
 
 // A register, or a byte of one, the usual read: no other is worked out.
-fn register_reply(k: Common, m: Meter, a: usize, room: &mut [u8])
-    requires { ⌜ MeterWF m ⌝ }
+fn register_reply(common: Common, meter: Meter, a: usize, room: &mut [u8])
+    requires { ⌜ MeterWF meter ⌝ }
     requires { ⌜ (a < 0x20) × (a % 2 + length (now room) ≤ 2) ⌝ }
-    ensures { λ _. ⌜ now (room .exit) ≡ listed (λ i. getD (registersOf k m) (a + i) 0) 0 (length (now (room .entry))) ⌝ }
+    ensures { λ _. ⌜ now (room .exit) ≡ listed (λ i. getD (registersOf common meter) (a + i) 0) 0 (length (now (room .entry))) ⌝ }
 {
-    let p = registers::register(k, m, a - a % 2);
+    let pair = registers::register(common, meter, a - a % 2);
     if room.len() == 2 {
-        room[0] = p.high;
-        room[1] = p.low;
+        room[0] = pair.high;
+        room[1] = pair.low;
     } else {
         if room.len() == 1 {
-            room[0] = numbers::choose8(a % 2 == 0, p.high, p.low);
+            room[0] = numbers::choose8(a % 2 == 0, pair.high, pair.low);
         }
     }
 }
 
 // The map from the address a upward: a room that ends among the registers is filled by these alone.
-fn read_reply(k: Common, l: Label, m: Meter, a: usize, room: &mut [u8])
-    requires { ⌜ MeterWF m ⌝ }
+fn read_reply(common: Common, label: Label, meter: Meter, a: usize, room: &mut [u8])
+    requires { ⌜ MeterWF meter ⌝ }
     requires { ⌜ a < 256 ⌝ }
-    ensures { λ _. ⌜ now (room .exit) ≡ listed (λ i. readByte k l m (a + i)) 0 (length (now (room .entry))) ⌝ }
+    ensures { λ _. ⌜ now (room .exit) ≡ listed (λ i. readByte common label meter (a + i)) 0 (length (now (room .entry))) ⌝ }
 {
     if a < 0x20 {
         if a % 2 + room.len() <= 2 {
-            register_reply(k, m, a, room);
+            register_reply(common, meter, a, room);
             return;
         }
     }
     if 0x20 < a + room.len() {
-        idle(room);
-        block_laid(m.cells.block, a, room);
-        label_laid(l, a, room);
+        fill_ones(room);
+        block_laid(meter.cells.block, a, room);
+        label_laid(label, a, room);
     }
-    registers_laid(k, m, a, room);
+    registers_laid(common, meter, a, room);
 }
 
-fn filled(k: Common, l: Label, m: Meter, source: Source, room: &mut [u8])
-    requires { ⌜ MeterWF m ⌝ }
-    ensures { λ _. ⌜ now (room .exit) ≡ listed (sourceByte k l m source) 0 (length (now (room .entry))) ⌝ }
+fn filled(common: Common, label: Label, meter: Meter, source: Source, room: &mut [u8])
+    requires { ⌜ MeterWF meter ⌝ }
+    ensures { λ _. ⌜ now (room .exit) ≡ listed (sourceByte common label meter source) 0 (length (now (room .entry))) ⌝ }
 {
     match source {
         Source::Address => {
-            let address = k.address;
+            let address = common.address;
             net_reply(address, room)
         }
-        Source::Bytes(a) => read_reply(k, l, m, slices::wide(a), room),
-        Source::Idle => idle(room),
+        Source::Bytes(a) => read_reply(common, label, meter, slices::wide(a), room),
+        Source::Idle => fill_ones(room),
     }
 }
 
 // The reply of a gauge that is chosen or not goes to the front of the room, exactly the read count of bytes.
-pub fn replied(k: Common, l: Label, m: Meter, t: Transaction, chosen: bool, room: &mut [u8])
-    requires { ⌜ MeterWF m ⌝ }
-    requires { ⌜ t .count ≤ length (now room) ⌝ }
-    ensures { λ _. ⌜ now (room .exit) ≡ repliedOf chosen k l m t ++ drop (t .count) (now (room .entry)) ⌝ }
+pub fn replied(
+    common: Common,
+    label: Label,
+    meter: Meter,
+    transaction: Transaction,
+    chosen: bool,
+    room: &mut [u8],
+)
+    requires { ⌜ MeterWF meter ⌝ }
+    requires { ⌜ transaction .count ≤ length (now room) ⌝ }
+    ensures { λ _. ⌜ now (room .exit) ≡ repliedOf chosen common label meter transaction ++ drop (transaction .count) (now (room .entry)) ⌝ }
 {
-    let n = t.count as usize;
-    let source = reply_source(&m.cells.block.shadow, t, chosen);
-    filled(k, l, m, source, &mut room[..n]);
+    let n = transaction.count as usize;
+    let source = reply_source(&meter.cells.block.shadow, transaction, chosen);
+    filled(common, label, meter, source, &mut room[..n]);
 }

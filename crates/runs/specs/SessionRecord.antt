@@ -20,14 +20,14 @@ use Rattle.runs.specs.AnyRecord.{Steps, answeredBy, recordBy}
 -- ---- the state
 
 abbrev pub loadedWith : Gauge → Session
-loadedWith g = record { loaded = true; gauge = g }
+loadedWith gauge = record { loaded = true; gauge = gauge }
 
 pub record SessionWF (σ : Session) : Type 0 where
   pub gauge : GaugeWF (σ .gauge)
 
 -- the tick that is remembered
 abbrev pub lastTick : Session → Tick
-lastTick σ = σ .gauge .meter .flow .tick
+lastTick session = session .gauge .meter .flow .tick
 
 -- ---- what a record does
 
@@ -37,12 +37,12 @@ toldOf loaded last kind p = timedOf last (takenOf kind loaded p)
 
 -- an event
 abbrev pub eventDid : Session → List ℕ → Event → Did Session
-eventDid σ p (Image f) = silently (loadedWith (imageOf f p)) 0
-eventDid σ p (Change c) = silently (loadedWith (changedOf (σ .gauge) c)) 0
-eventDid σ p (Transact t) = record {
-  state = loadedWith (actOf (σ .gauge) t (masterOf t p));
+eventDid session p (Image f) = silently (loadedWith (imageOf f p)) 0
+eventDid session p (Change c) = silently (loadedWith (changedOf (session .gauge) c)) 0
+eventDid session p (Transact t) = record {
+  state = loadedWith (actOf (session .gauge) t (masterOf t p));
   answer = 0;
-  reply = replyOf (σ .gauge) t (masterOf t p);
+  reply = replyOf (session .gauge) t (masterOf t p);
 }
 
 abbrev pub ofSession : Steps Session
@@ -54,4 +54,4 @@ takenDid = answeredBy ofSession
 
 -- with so many bytes of reply room left
 unfoldable pub didOf : Session → ℕ → Rec → Did Session
-didOf σ room r = recordBy ofSession σ room r
+didOf session room r = recordBy ofSession session room r

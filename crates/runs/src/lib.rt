@@ -20,10 +20,10 @@ pub enum Outcome {
 }
 
 // The answer number of a whole session.
-pub fn outcome_number(o: Outcome) -> u8
-    ensures { λ r. ⌜ r ≡ outcomeNumber o ⌝ }
+pub fn outcome_number(outcome: Outcome) -> u8
+    ensures { λ r. ⌜ r ≡ outcomeNumber outcome ⌝ }
 {
-    match o {
+    match outcome {
         Outcome::Done => 0,
         Outcome::Over => 1,
         Outcome::Short => 9,
@@ -51,14 +51,14 @@ pub struct Ended {
 }
 
 // Whether a whole record stands at the front.
-pub fn whole(l: &[u8]) -> bool
-    ensures { λ r. ⌜ r ≡ wholeOf (now (l .entry)) ⌝ }
+pub fn whole(rest: &[u8]) -> bool
+    ensures { λ r. ⌜ r ≡ wholeOf (now (rest .entry)) ⌝ }
 {
-    if l.len() < 4 {
+    if rest.len() < 4 {
         return false;
     }
-    let n = slices::pair(l, 0) as usize;
-    4 + n <= l.len()
+    let n = slices::pair(rest, 0) as usize;
+    4 + n <= rest.len()
 }
 
 // Writes a record at a place of a lent room, and says where the next one goes.
@@ -119,36 +119,36 @@ pub fn refused(kind: u16, answer: u8, used: usize) -> Record
 }
 
 // What was taken of a record, or refused.
-pub fn read_off(kind: u16, used: usize, t: Taken) -> Record
-    ensures { λ r. ⌜ r ≡ takenRead kind used t ⌝ }
+pub fn read_off(kind: u16, used: usize, taken: Taken) -> Record
+    ensures { λ r. ⌜ r ≡ takenRead kind used taken ⌝ }
 {
-    let answer = record::number(t);
-    let Taken::Run(e) = t else {
+    let answer = record::taken_number(taken);
+    let Taken::Run(event) = taken else {
         return refused(kind, answer, used);
     };
     Record {
-        event: Asked::Run(e),
+        event: Asked::Run(event),
         used: used,
         kind: kind,
         answer: answer,
     }
 }
 
-// The record at the front of l, with a tick that is remembered and so many bytes of reply room left. Of a kind that is above all others nothing
+// The record at the front of the rest, with a tick that is remembered and so many bytes of reply room left. Of a kind that is above all others nothing
 // more is asked.
-pub fn front(l: &[u8], loaded: bool, last: Tick, room: usize) -> Record
-    ensures { λ r. ⌜ r ≡ frontBy (toldOf loaded last) room (now (l .entry)) ⌝ }
+pub fn front(rest: &[u8], loaded: bool, last: Tick, room: usize) -> Record
+    ensures { λ r. ⌜ r ≡ frontBy (toldOf loaded last) room (now (rest .entry)) ⌝ }
 {
-    if whole(l) {
-        let n = slices::pair(l, 0) as usize;
-        let kind = slices::pair(l, 2);
+    if whole(rest) {
+        let n = slices::pair(rest, 0) as usize;
+        let kind = slices::pair(rest, 2);
         let end = 4 + n;
         if record::LAST_KIND < kind {
-            let answer = record::number(Taken::Refused(Refusal::Kind));
+            let answer = record::taken_number(Taken::Refused(Refusal::Kind));
             return refused(kind, answer, end);
         }
-        let t = record::fitted(kind, loaded, last, room, &l[4..end]);
-        return read_off(kind, end, t);
+        let taken = record::fitted(kind, loaded, last, room, &rest[4..end]);
+        return read_off(kind, end, taken);
     }
-    refused(0, 2, l.len())
+    refused(0, 2, rest.len())
 }

@@ -8,16 +8,16 @@ use Rattle.conversion.specs.Conversion.{withFlow, convertOf}
 
 -- n conversions
 unfoldable pub sampledOf : Meter → ℕ → ℕ → Meter
-sampledOf m raw zero = m
-sampledOf m raw (suc n) = convertOf (sampledOf m raw n) raw
+sampledOf meter raw zero = meter
+sampledOf meter raw (suc n) = convertOf (sampledOf meter raw n) raw
 
 abbrev pub withTick : Flow → Tick → Flow
-withTick f tick = record { trace = f .trace; average = f .average; since = f .since; tick = tick }
+withTick flow tick = record { trace = flow .trace; average = flow .average; since = flow .since; tick = tick }
 
 -- the sample's tick is remembered
 abbrev pub tickedOf : Meter → ℕ → Meter
-tickedOf m tick = withFlow m (withTick (m .flow) (tickOf tick))
+tickedOf meter tick = withFlow meter (withTick (meter .flow) (tickOf tick))
 
 -- a sample that is taken: as many conversions as ticks have elapsed
 unfoldable pub sampleOf : Meter → ℕ → ℕ → Meter
-sampleOf m raw tick = tickedOf (sampledOf m raw (elapsedOf (m .flow .tick) tick)) tick
+sampleOf meter raw tick = tickedOf (sampledOf meter raw (elapsedOf (meter .flow .tick) tick)) tick

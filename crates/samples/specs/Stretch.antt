@@ -48,82 +48,82 @@ unfoldable pub addsOver : Bool → ℕ → ℕ
 addsOver mark k = pick mark (k - 1) k
 
 abbrev pub countOver : Profile → Counting → Charge → ℕ → ℕ → ℕ
-countOver f p g c k = grownOver (g .count) (blankedOf f (p .nben) c) (p .ab) (addsOver (g .mark) k)
+countOver profile counting charge c k = grownOver (charge .count) (blankedOf profile (counting .nben) c) (counting .ab) (addsOver (charge .mark) k)
 
 -- the age counter with all that ACR fell, before anything is taken off
 abbrev pub fallenOver : Profile → Counting → Charge → ℕ → ℕ → ℕ
-fallenOver f p g c k = g .age + fallOf (g .count) (countOver f p g c k)
+fallenOver profile counting charge c k = charge .age + fallOf (charge .count) (countOver profile counting charge c k)
 
 -- step 5: ACR is 0 after some conversion where it is after the first or the last, since it goes one way
 abbrev pub emptyOver : Profile → Counting → Charge → ℕ → ℕ → Bool
-emptyOver f p g c count = either (eqb (acrOf (countOver f p g c 1)) 0) (eqb (acrOf count) 0)
+emptyOver profile counting charge c count = either (eqb (acrOf (countOver profile counting charge c 1)) 0) (eqb (acrOf count) 0)
 
 -- LEARNF, which steps 1 and 5 clear; count is that after the last
 unfoldable pub learnfOver : Profile → Counting → Charge → ℕ → ℕ → ℕ → Bool
-learnfOver f p g last c count =
-    butNot (butNot (g .learnf) (turnedOf last c)) (emptyOver f p g c count)
+learnfOver profile counting charge last c count =
+    butNot (butNot (charge .learnf) (turnedOf last c)) (emptyOver profile counting charge c count)
 
 unfoldable pub chargeOver : Profile → Counting → Charge → ℕ → ℕ → ℕ → Charge
-chargeOver f p g last c k =
-    let worn = wornOver (p .ac) (fallenOver f p g c k) (g .aging) k in
+chargeOver profile counting charge last c k =
+    let worn = wornOver (counting .ac) (fallenOver profile counting charge c k) (charge .aging) k in
     record {
-      count = countOver f p g c k;
+      count = countOver profile counting charge c k;
       age = worn .age;
       aging = worn .aging;
-      learnf = learnfOver f p g last c (countOver f p g c k);
+      learnf = learnfOver profile counting charge last c (countOver profile counting charge c k);
       mark = false;
     }
 
 -- ---- CURRENT, and the c before it
 
 unfoldable pub traceOver : Trace → ℕ → ℕ → Trace
-traceOver t c k = record { last = c; before = pick (eqb k 1) (t .last) c; any = true; two = either (ltb 1 k) (t .any) }
+traceOver trace c k = record { last = c; before = pick (eqb k 1) (trace .last) c; any = true; two = either (ltb 1 k) (trace .any) }
 
 -- ---- step 6
 
 -- a run of eight ends in the stretch
 abbrev pub endsOver : Average → ℕ → Bool
-endsOver a k = leb 8 (runOf a + k)
+endsOver average k = leb 8 (runOf average + k)
 
 -- the run as its eighth conversion finds it
 abbrev pub seventhOf : Average → ℕ → Average
-seventhOf a c = record {
-  made = (a .made + (7 - runOf a)) % 1024;
-  sum = a .sum + (7 - runOf a) * c;
-  iavg = a .iavg;
-  known = a .known;
+seventhOf average c = record {
+  made = (average .made + (7 - runOf average)) % 1024;
+  sum = average .sum + (7 - runOf average) * c;
+  iavg = average .iavg;
+  known = average .known;
 }
 
 -- the average of the run that ends first, of which the stretch has the last; any that ends later has c alone, and c is its average
 abbrev pub meanOver : Average → ℕ → ℕ → ℕ
-meanOver a c k = pick (ltb (runOf a + k) 16) ((a .sum + (8 - runOf a) * c) / 8) c
+meanOver average c k = pick (ltb (runOf average + k) 16) ((average .sum + (8 - runOf average) * c) / 8) c
 
 unfoldable pub averageOver : Average → ℕ → ℕ → Average
-averageOver a c k =
-    pick (endsOver a k) (record { made = (a .made + k) % 1024; sum = (a .made + k) % 8 * c; iavg = meanOver a c k; known = true })
-    (record { made = (a .made + k) % 1024; sum = a .sum + k * c; iavg = a .iavg; known = a .known })
+averageOver average c k =
+    pick (endsOver average k) (record { made = (average .made + k) % 1024; sum = (average .made + k) % 8 * c; iavg = meanOver average c k; known = true })
+    (record { made = (average .made + k) % 1024; sum = average .sum + k * c; iavg = average .iavg; known = average .known })
 
 -- full is found, where a run ends first
 abbrev pub foundOver : Flow → Limits → ℕ → ℕ → Bool
-foundOver f p c k = both (endsOver (f .average) k) (foundOf (seventhOf (f .average) c) (f .since) p c)
+foundOver flow limits c k = both (endsOver (flow .average) k) (foundOf (seventhOf (flow .average) c) (flow .since) limits c)
 
 unfoldable pub flowOver : Flow → ℕ → ℕ → Flow
-flowOver f c k = record {
-  trace = traceOver (f .trace) c k;
-  average = averageOver (f .average) c k;
-  since = renewedOf (f .since) (endsOver (f .average) k);
-  tick = f .tick;
+flowOver flow c k = record {
+  trace = traceOver (flow .trace) c k;
+  average = averageOver (flow .average) c k;
+  since = renewedOf (flow .since) (endsOver (flow .average) k);
+  tick = flow .tick;
 }
 
 unfoldable pub flowedOver : Meter → Limits → ℕ → ℕ → ℕ → Meter
-flowedOver m p full40 c k =
-    let found = foundOver (m .flow) p c k in
+flowedOver meter limits full40 c k =
+    let found = foundOver (meter .flow) limits c k in
     record {
-      cells = m .cells;
-      charge = settledOf (m .charge) found (m .shown .model .full) full40;
-      cycles = m .cycles;
-      flow = flowOver (m .flow) c k;
-      shown = withFlags (m .shown) (filledFlags (m .shown .flags) found);
+      cells = meter .cells;
+      charge = settledOf (meter .charge) found (meter .shown .model .full) full40;
+      cycles = meter .cycles;
+      flow = flowOver (meter .flow) c k;
+      shown = withFlags (meter .shown) (filledFlags (meter .shown .flags) found);
     }
 
 -- ---- the meter, as after k times `convertOf`
@@ -131,19 +131,19 @@ flowedOver m p full40 c k =
 -- c is that of the first. Each later one has the same: a 1024th among them takes the c before it. What ACR fell in all is what the cycle
 -- counter counts
 unfoldable pub stretchedOf : Meter → ℕ → ℕ → Meter
-stretchedOf m raw k =
-    let block = m .cells .block .shadow in
+stretchedOf meter raw k =
+    let block = meter .cells .block .shadow in
     let p = countingOf block in
     let full40 = capacityOf block .full40 in
-    let c = convertedOf (m .flow) raw (p .cob) in
-    let counted = chargeOver (m .cells .profile) p (m .charge) (m .flow .trace .last) c k in
-    flowedOver (chargedOf m full40 counted) (limitsOf block) full40 c k
+    let c = convertedOf (meter .flow) raw (p .cob) in
+    let counted = chargeOver (meter .cells .profile) p (meter .charge) (meter .flow .trace .last) c k in
+    flowedOver (chargedOf meter full40 counted) (limitsOf block) full40 c k
 
 -- it is that where no run of eight ends before the last conversion; or where no reading came since the last average, so that no full is found,
 -- and the first is not a 1024th, which ends a run and has a c of its own
 abbrev pub Quiet : Flow → ℕ → Type 0
-Quiet f k = (runOf (f .average) + k ≤ 8) ⊎ ((f .since .any ≡ false) × (offsetTurn (f .average) ≡ false))
+Quiet flow k = (runOf (flow .average) + k ≤ 8) ⊎ ((flow .since .any ≡ false) × (offsetTurn (flow .average) ≡ false))
 
 -- how many of those that are left a stretch takes
 unfoldable pub reachOf : Average → Bool → ℕ → ℕ
-reachOf a any left = pick (either any (offsetTurn a)) (min (8 - runOf a) left) left
+reachOf average any left = pick (either any (offsetTurn average)) (min (8 - runOf average) left) left

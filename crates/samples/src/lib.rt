@@ -59,14 +59,14 @@ fn adds_over(mark: bool, k: u16) -> u16
 }
 
 // Steps 2 and 3.
-fn count_over(f: Profile, p: Counting, g: Charge, c: u16, k: u16) -> u32
-    ensures { λ r. ⌜ r ≡ countOver f p g c k ⌝ }
+fn count_over(profile: Profile, counting: Counting, charge: Charge, c: u16, k: u16) -> u32
+    ensures { λ r. ⌜ r ≡ countOver profile counting charge c k ⌝ }
 {
     grown_over(
-        g.count,
-        conversion::blanked(f, p.nben, c),
-        p.ab,
-        adds_over(g.mark, k),
+        charge.count,
+        conversion::blanked(profile, counting.nben, c),
+        counting.ab,
+        adds_over(charge.mark, k),
     )
 }
 
@@ -96,11 +96,18 @@ fn worn_over(ac: u16, age: u32, aging: u8, k: u16) -> Worn
 }
 
 // Steps 1 and 5: LEARNF, by the count after the last. One that is clear stays so, and is spared the count after the first.
-fn learnf_over(f: Profile, p: Counting, g: Charge, last: u16, c: u16, count: u32) -> bool
-    ensures { λ r. ⌜ r ≡ learnfOver f p g last c count ⌝ }
+fn learnf_over(
+    profile: Profile,
+    counting: Counting,
+    charge: Charge,
+    last: u16,
+    c: u16,
+    count: u32,
+) -> bool
+    ensures { λ r. ⌜ r ≡ learnfOver profile counting charge last c count ⌝ }
 {
-    if g.learnf {
-        let first = count_over(f, p, g, c, 1);
+    if charge.learnf {
+        let first = count_over(profile, counting, charge, c, 1);
         let was = last < numbers::ZERO15;
         let turned = numbers::and(c < numbers::ZERO15, !was);
         let emptied = numbers::or(first / 4096 == 0, count / 4096 == 0);
@@ -111,13 +118,25 @@ fn learnf_over(f: Profile, p: Counting, g: Charge, last: u16, c: u16, count: u32
 }
 
 // Steps 1 to 5.
-fn charge_over(f: Profile, p: Counting, g: Charge, last: u16, c: u16, k: u16) -> Charge
-    requires { ⌜ ChargeWF g ⌝ }
-    ensures { λ r. ⌜ r ≡ chargeOver f p g last c k ⌝ }
+fn charge_over(
+    profile: Profile,
+    counting: Counting,
+    charge: Charge,
+    last: u16,
+    c: u16,
+    k: u16,
+) -> Charge
+    requires { ⌜ ChargeWF charge ⌝ }
+    ensures { λ r. ⌜ r ≡ chargeOver profile counting charge last c k ⌝ }
 {
-    let count = count_over(f, p, g, c, k);
-    let learnf = learnf_over(f, p, g, last, c, count);
-    let worn = worn_over(p.ac, g.age + conversion::fall(g.count, count), g.aging, k);
+    let count = count_over(profile, counting, charge, c, k);
+    let learnf = learnf_over(profile, counting, charge, last, c, count);
+    let worn = worn_over(
+        counting.ac,
+        charge.age + conversion::fall(charge.count, count),
+        charge.aging,
+        k,
+    );
     Charge {
         count: count,
         age: worn.age,
@@ -128,41 +147,41 @@ fn charge_over(f: Profile, p: Counting, g: Charge, last: u16, c: u16, k: u16) ->
 }
 
 // Step 1: CURRENT, and the c before it.
-fn trace_over(t: Trace, c: u16, k: u16) -> Trace
-    ensures { λ r. ⌜ r ≡ traceOver t c k ⌝ }
+fn trace_over(trace: Trace, c: u16, k: u16) -> Trace
+    ensures { λ r. ⌜ r ≡ traceOver trace c k ⌝ }
 {
     Trace {
         last: c,
-        before: numbers::choose16(k == 1, t.last, c),
+        before: numbers::choose16(k == 1, trace.last, c),
         any: true,
-        two: numbers::or(1 < k, t.any),
+        two: numbers::or(1 < k, trace.any),
     }
 }
 
 // Step 6: the run as its eighth conversion finds it.
-fn seventh(a: Average, c: u16) -> Average
-    requires { ⌜ AverageWF a ⌝ }
-    ensures { λ r. ⌜ r ≡ seventhOf a c ⌝ }
+fn seventh(average: Average, c: u16) -> Average
+    requires { ⌜ AverageWF average ⌝ }
+    ensures { λ r. ⌜ r ≡ seventhOf average c ⌝ }
     ensures kept { λ r. ⌜ AverageWF r ⌝ }
 {
-    let rest = 7 - a.made % 8;
+    let rest = 7 - average.made % 8;
     Average {
-        made: (a.made + rest) % 1024,
-        sum: a.sum + (rest as u32) * (c as u32),
-        iavg: a.iavg,
-        known: a.known,
+        made: (average.made + rest) % 1024,
+        sum: average.sum + (rest as u32) * (c as u32),
+        iavg: average.iavg,
+        known: average.known,
     }
 }
 
 // Step 6: the run of eight goes on, or ends with IAVG.
-fn average_over(a: Average, c: u16, k: u16) -> Average
-    requires { ⌜ AverageWF a ⌝ }
-    ensures { λ r. ⌜ r ≡ averageOver a c k ⌝ }
+fn average_over(average: Average, c: u16, k: u16) -> Average
+    requires { ⌜ AverageWF average ⌝ }
+    ensures { λ r. ⌜ r ≡ averageOver average c k ⌝ }
 {
-    let begun = (a.made % 8) as u32;
-    let made = (a.made as u32) + (k as u32);
+    let begun = (average.made % 8) as u32;
+    let made = (average.made as u32) + (k as u32);
     if 8 <= begun + (k as u32) {
-        let mean = ((a.sum + (8 - begun) * (c as u32)) / 8) as u16;
+        let mean = ((average.sum + (8 - begun) * (c as u32)) / 8) as u16;
         Average {
             made: (made % 1024) as u16,
             sum: made % 8 * (c as u32),
@@ -172,112 +191,118 @@ fn average_over(a: Average, c: u16, k: u16) -> Average
     } else {
         Average {
             made: (made % 1024) as u16,
-            sum: a.sum + (k as u32) * (c as u32),
-            iavg: a.iavg,
-            known: a.known,
+            sum: average.sum + (k as u32) * (c as u32),
+            iavg: average.iavg,
+            known: average.known,
         }
     }
 }
 
 // Step 6, and CURRENT.
-fn flowed_over(mut m: Meter, p: Limits, full40: u16, c: u16, k: u16) -> Meter
-    requires { ⌜ MeterWF m ⌝ }
-    ensures { λ r. ⌜ r ≡ flowedOver m p full40 c k ⌝ }
+fn flowed_over(mut meter: Meter, limits: Limits, full40: u16, c: u16, k: u16) -> Meter
+    requires { ⌜ MeterWF meter ⌝ }
+    ensures { λ r. ⌜ r ≡ flowedOver meter limits full40 c k ⌝ }
     ensures kept { λ r. ⌜ MeterWF r ⌝ }
 {
-    let mut flow = m.flow;
+    let mut flow = meter.flow;
     flow.trace = trace_over(flow.trace, c, k);
     let average = average_over(flow.average, c, k);
     if 8 <= (flow.average.made % 8) as u32 + (k as u32) {
         let seven = seventh(flow.average, c);
-        if conversion::found(seven, flow.since, p, c) {
-            m.charge = conversion::filled(m.charge, m.shown.model.full, full40);
-            m.shown.flags.chgtf = true;
+        if conversion::found(seven, flow.since, limits, c) {
+            meter.charge = conversion::filled(meter.charge, meter.shown.model.full, full40);
+            meter.shown.flags.chgtf = true;
         }
         flow.since.any = false;
         flow.since.lowest = 0;
     }
     flow.average = average;
-    m.flow = flow;
-    m
+    meter.flow = flow;
+    meter
 }
 
-fn stretch(m: Meter, raw: u32, k: u16) -> Meter
-    requires { ⌜ MeterWF m ⌝ }
+fn stretch(meter: Meter, raw: u32, k: u16) -> Meter
+    requires { ⌜ MeterWF meter ⌝ }
     requires { ⌜ 1 ≤ k ⌝ }
-    ensures { λ r. ⌜ r ≡ stretchedOf m raw k ⌝ }
+    ensures { λ r. ⌜ r ≡ stretchedOf meter raw k ⌝ }
     ensures kept { λ r. ⌜ MeterWF r ⌝ }
 {
-    let p = Counting::of(&m.cells.block.shadow);
-    let limits = Limits::of(&m.cells.block.shadow);
-    let full = Capacity::of(&m.cells.block.shadow);
+    let counting = Counting::of(&meter.cells.block.shadow);
+    let limits = Limits::of(&meter.cells.block.shadow);
+    let capacity = Capacity::of(&meter.cells.block.shadow);
     let c = numbers::choose16(
-        m.flow.average.made == 1023,
-        m.flow.trace.last,
-        conversion::current(raw, p.cob),
+        meter.flow.average.made == 1023,
+        meter.flow.trace.last,
+        conversion::current(raw, counting.cob),
     );
-    let cells = m.cells;
-    let f = cells.profile;
-    let charge = charge_over(f, p, m.charge, m.flow.trace.last, c, k);
+    let cells = meter.cells;
+    let profile = cells.profile;
+    let charge = charge_over(profile, counting, meter.charge, meter.flow.trace.last, c, k);
     let stepped = Stepped {
         charge: charge,
-        fall: conversion::fall(m.charge.count, charge.count),
+        fall: conversion::fall(meter.charge.count, charge.count),
     };
-    flowed_over(conversion::charged(m, stepped), limits, full.full40, c, k)
+    flowed_over(
+        conversion::charged(meter, stepped),
+        limits,
+        capacity.full40,
+        c,
+        k,
+    )
 }
 
 // How many of the conversions that are left a stretch takes: up to the end of the run of eight, where full may be found or a 1024th is made,
 // or all.
-fn reach(a: Average, any: bool, left: u16) -> u16
+fn reach(average: Average, any: bool, left: u16) -> u16
     requires { ⌜ 1 ≤ left ⌝ }
-    ensures { λ r. ⌜ r ≡ reachOf a any left ⌝ }
+    ensures { λ r. ⌜ r ≡ reachOf average any left ⌝ }
     ensures fits { λ r. ⌜ r ≤ left ⌝ }
     ensures some { λ r. ⌜ 1 ≤ r ⌝ }
 {
-    let gap = numbers::at_most(left as u64, 8 - (a.made % 8) as u64) as u16;
-    numbers::choose16(numbers::or(any, a.made == 1023), gap, left)
+    let gap = numbers::at_most(left as u64, 8 - (average.made % 8) as u64) as u16;
+    numbers::choose16(numbers::or(any, average.made == 1023), gap, left)
 }
 
 // ---- the two engines
 
 // The plain engine: one conversion after the other.
-pub fn plain(mut m: Meter, raw: u32, n: u16) -> Meter
-    requires { ⌜ MeterWF m ⌝ }
-    ensures { λ r. ⌜ r ≡ sampledOf m raw n ⌝ }
+pub fn plain(mut meter: Meter, raw: u32, n: u16) -> Meter
+    requires { ⌜ MeterWF meter ⌝ }
+    ensures { λ r. ⌜ r ≡ sampledOf meter raw n ⌝ }
     ensures kept { λ r. ⌜ MeterWF r ⌝ }
 {
     let mut i: u16 = 0;
     while i < n {
-        m = conversion::convert(m, raw);
+        meter = conversion::convert(meter, raw);
         i += 1;
     }
-    m
+    meter
 }
 
 // The quick engine: stretches. Full may be found at the end of the run of eight that stands, and at none after it, since no reading comes
 // within a sample; a 1024th that comes first ends a run too. For 64 conversions there are two stretches at most.
-pub fn quick(mut m: Meter, raw: u32, mut left: u16) -> Meter
-    requires { ⌜ MeterWF m ⌝ }
-    ensures { λ r. ⌜ r ≡ sampledOf m raw left ⌝ }
+pub fn quick(mut meter: Meter, raw: u32, mut left: u16) -> Meter
+    requires { ⌜ MeterWF meter ⌝ }
+    ensures { λ r. ⌜ r ≡ sampledOf meter raw left ⌝ }
     ensures kept { λ r. ⌜ MeterWF r ⌝ }
 {
     while 0 < left {
-        let k = reach(m.flow.average, m.flow.since.any, left);
-        m = stretch(m, raw, k);
+        let k = reach(meter.flow.average, meter.flow.since.any, left);
+        meter = stretch(meter, raw, k);
         left = left - k;
     }
-    m
+    meter
 }
 
 // A sample of any signed 32-bit raw current, which comes as z + 2^31, with its tick: as many conversions as ticks have elapsed.
-pub fn sample(mut m: Meter, raw: u32, tick: u16) -> Meter
-    requires { ⌜ MeterWF m ⌝ }
-    ensures { λ r. ⌜ r ≡ sampleOf m raw tick ⌝ }
+pub fn sample(mut meter: Meter, raw: u32, tick: u16) -> Meter
+    requires { ⌜ MeterWF meter ⌝ }
+    ensures { λ r. ⌜ r ≡ sampleOf meter raw tick ⌝ }
     ensures kept { λ r. ⌜ MeterWF r ⌝ }
 {
-    let n = state::elapsed(m.flow.tick, tick);
-    m = quick(m, raw, n);
-    m.flow.tick.any = true;
-    m.flow.tick.last = tick;
-    m
+    let n = state::elapsed(meter.flow.tick, tick);
+    meter = quick(meter, raw, n);
+    meter.flow.tick.any = true;
+    meter.flow.tick.last = tick;
+    meter
 }

@@ -15,5 +15,5 @@ abbrev pub sessionText : List ℕ → List ℕ
 sessionText s = runText sessionOf s
 
 -- what is said of standard input s, or where a read of it failed
-abbrev pub printedOf : Bool → List ℕ → Speech
-printedOf failed s = pick failed (error (unreadText sessionName)) (output (sessionText s))
+abbrev pub sessionPrintedOf : Bool → List ℕ → Speech
+sessionPrintedOf failed s = pick failed (error (unreadText sessionName)) (output (sessionText s))

@@ -28,21 +28,21 @@ sessionOf s room = linesAfter didOf emptyOf room (recsOf s)
 
 -- what `run` hands back, as every run does
 abbrev pub resultOf : Ran → Result Session
-resultOf r = record { outcome = r .ended .outcome; state = r .session; lines = r .ended .lines; replied = r .ended .replied }
+resultOf ran = record { outcome = ran .ended .outcome; state = ran .session; lines = ran .ended .lines; replied = ran .ended .replied }
 
 -- a session that is not run, as the code hands it back
 abbrev pub idleOf : Outcome → Ran
-idleOf o = record { session = emptyOf; ended = record { outcome = o; lines = 0; replied = 0 } }
+idleOf outcome = record { session = emptyOf; ended = record { outcome = outcome; lines = 0; replied = 0 } }
 
 -- ---- the image taken out: 5 before an image was accepted, then 9 for a room under 60, or under 61
 
 abbrev pub takeOutNumber : Session → List ℕ → ℕ
-takeOutNumber σ room =
-    pick (σ .loaded) (pick (leb (sizeFor (σ .gauge)) (length room)) 0 (refusalNumber Room)) (refusalNumber Order)
+takeOutNumber session room =
+    pick (session .loaded) (pick (leb (sizeFor (session .gauge)) (length room)) 0 (refusalNumber Room)) (refusalNumber Order)
 
 -- nothing is written on a refusal
 abbrev pub takeOutRoom : Session → List ℕ → List ℕ
-takeOutRoom σ room = pick (σ .loaded) (roomAfter (leb (sizeFor (σ .gauge)) (length room)) (σ .gauge) room) room
+takeOutRoom session room = pick (session .loaded) (roomAfter (leb (sizeFor (session .gauge)) (length room)) (session .gauge) room) room
 
 pub record TakenOut (σ : Session) (room : List ℕ) (answer : ℕ) (after : List ℕ) : Type 0 where
   pub number : answer ≡ takeOutNumber σ room

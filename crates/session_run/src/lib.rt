@@ -29,18 +29,18 @@ pub fn empty() -> Session
     ensures kept { λ r. ⌜ SessionWF r ⌝ }
 {
     let zeros = [0u8; IMAGE_SIZE];
-    let g = gauge::image_in(Profile::Ds2781, &zeros);
+    let gauge = gauge::image_in(Profile::Ds2781, &zeros);
     Session {
         loaded: false,
-        gauge: g,
+        gauge: gauge,
     }
 }
 
 // The match on the event stands in the loop itself, so that no state goes through a result. A record that is cut ends the loop, and is answered behind it.
-fn run_all(s: &[u8], room: &mut [u8], answers: &mut [u64]) -> Ran
-    requires { ⌜ length (now s) ≤ 32768 ⌝ }
-    requires { ⌜ (length (now s) + 3) / 4 ≤ length (now answers) ⌝ }
-    ensures { λ r. ⌜ Running didOf emptyOf (now (s .entry)) (now (room .entry)) (now (answers .entry)) (resultOf r) (now (room .exit)) (now (answers .exit)) ⌝ }
+fn run_all(bytes: &[u8], room: &mut [u8], answers: &mut [u64]) -> Ran
+    requires { ⌜ length (now bytes) ≤ 32768 ⌝ }
+    requires { ⌜ (length (now bytes) + 3) / 4 ≤ length (now answers) ⌝ }
+    ensures { λ r. ⌜ Running didOf emptyOf (now (bytes .entry)) (now (room .entry)) (now (answers .entry)) (resultOf r) (now (room .exit)) (now (answers .exit)) ⌝ }
 {
     let start = empty();
     let mut loaded = start.loaded;
@@ -48,22 +48,22 @@ fn run_all(s: &[u8], room: &mut [u8], answers: &mut [u64]) -> Ran
     let mut at = 0;
     let mut used = 0;
     let mut lines = 0;
-    while runs::whole(&s[at..]) {
-        let l = &s[at..];
-        let r = runs::front(l, loaded, gauge.meter.flow.tick, room.len() - used);
-        let end = r.used;
-        let mut line = runs::code(r.kind, r.answer, 0);
+    while runs::whole(&bytes[at..]) {
+        let rest = &bytes[at..];
+        let first = runs::front(rest, loaded, gauge.meter.flow.tick, room.len() - used);
+        let end = first.used;
+        let mut line = runs::code(first.kind, first.answer, 0);
         at = at + end;
-        let asked = r.event;
+        let asked = first.event;
         match asked {
             Asked::Nothing => {}
-            Asked::Run(e) => {
+            Asked::Run(event) => {
                 loaded = true;
-                match e {
-                    Event::Image(f) => {
-                        gauge = gauge::image_in(f, &l[4..end]);
+                match event {
+                    Event::Image(profile) => {
+                        gauge = gauge::image_in(profile, &rest[4..end]);
                     }
-                    Event::Change(c) => match c {
+                    Event::Change(change) => match change {
                         Change::Reading(volt, temp) => {
                             gauge = gauge.read(volt, temp);
                         }
@@ -77,11 +77,11 @@ fn run_all(s: &[u8], room: &mut [u8], answers: &mut [u64]) -> Ran
                             gauge = gauge.power_on();
                         }
                     },
-                    Event::Transact(t) => {
-                        let from = 4 + t.start as usize;
-                        gauge = gauge.transact(t, &l[from..end], &mut room[used..]);
-                        used = used + (t.count as usize);
-                        line = runs::code(r.kind, r.answer, t.count);
+                    Event::Transact(transaction) => {
+                        let from = 4 + transaction.start as usize;
+                        gauge = gauge.transact(transaction, &rest[from..end], &mut room[used..]);
+                        used = used + (transaction.count as usize);
+                        line = runs::code(first.kind, first.answer, transaction.count);
                     }
                 }
             }
@@ -89,7 +89,7 @@ fn run_all(s: &[u8], room: &mut [u8], answers: &mut [u64]) -> Ran
         answers[lines] = line;
         lines = lines + 1;
     }
-    if at < s.len() {
+    if at < bytes.len() {
         answers[lines] = runs::code(0, 2, 0);
         lines = lines + 1;
     }
@@ -123,37 +123,37 @@ fn idle(outcome: Outcome) -> Ran
 
 // A whole session: an answer for each record, the replies one after the other at the front of the room, the state at the end. Nothing
 // is run and nothing written where it is over 32,768 bytes, or where fewer answers are lent than it may have records.
-pub fn run(s: &[u8], room: &mut [u8], answers: &mut [u64]) -> Ran
-    ensures { λ r. ⌜ Runs didOf emptyOf (now (s .entry)) (now (room .entry)) (now (answers .entry)) (resultOf r) (now (room .exit)) (now (answers .exit)) ⌝ }
+pub fn run(bytes: &[u8], room: &mut [u8], answers: &mut [u64]) -> Ran
+    ensures { λ r. ⌜ Runs didOf emptyOf (now (bytes .entry)) (now (room .entry)) (now (answers .entry)) (resultOf r) (now (room .exit)) (now (answers .exit)) ⌝ }
 {
-    match runs::outcome_of(s.len(), answers.len()) {
-        Outcome::Done => run_all(s, room, answers),
+    match runs::outcome_of(bytes.len(), answers.len()) {
+        Outcome::Done => run_all(bytes, room, answers),
         Outcome::Over => idle(Outcome::Over),
         Outcome::Short => idle(Outcome::Short),
     }
 }
 
 // How many bytes the image of a session's pack has.
-pub fn image_size(s: Session) -> usize
-    ensures { λ r. ⌜ r ≡ sizeFor (s .gauge) ⌝ }
+pub fn image_size(session: Session) -> usize
+    ensures { λ r. ⌜ r ≡ sizeFor (session .gauge) ⌝ }
 {
-    let gauge = s.gauge;
+    let gauge = session.gauge;
     let meter = gauge.meter;
     let cells = meter.cells;
-    let f = cells.profile;
-    state::size(f)
+    let profile = cells.profile;
+    state::image_size(profile)
 }
 
 // The image taken out of a session's state: its answer number, and the first bytes of the room.
-pub fn take_out(s: Session, room: &mut [u8]) -> u8
-    ensures { λ r. ⌜ TakenOut s (now (room .entry)) r (now (room .exit)) ⌝ }
+pub fn take_out(session: Session, room: &mut [u8]) -> u8
+    ensures { λ r. ⌜ TakenOut session (now (room .entry)) r (now (room .exit)) ⌝ }
 {
-    if s.loaded {
-        let g = s.gauge;
-        if gauge::image_out(g, room) {
+    if session.loaded {
+        let gauge = session.gauge;
+        if gauge::image_out(gauge, room) {
             return 0;
         }
-        return record::number(Taken::Refused(Refusal::Room));
+        return record::taken_number(Taken::Refused(Refusal::Room));
     }
-    record::number(Taken::Refused(Refusal::Order))
+    record::taken_number(Taken::Refused(Refusal::Order))
 }

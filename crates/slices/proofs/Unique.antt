@@ -2,8 +2,8 @@
 use mathlib.Core.Path.{refl, sym, _∙_}
 use Rattle.once.specs.Once.{Once}
 use Rattle.slices.proofs.store
-use Rattle.slices.proofs.higher
-use Rattle.slices.proofs.lower
+use Rattle.slices.proofs.greater
+use Rattle.slices.proofs.lesser
 use Rattle.slices.proofs.laid
 use Rattle.slices.proofs.four
 use Rattle.slices.proofs.eight
@@ -20,11 +20,11 @@ use Rattle.slices.proofs.quad
 pub store-once : Once store.ended store.Reads.Pre store.Reads.Learnt
 store-once κs a r r′ w w′ p h h′ = (refl, λ i. (tt, ((h ∙ sym h′) i, (tt, tt))))
 
-pub higher-once : Once higher.ended higher.Reads.Pre higher.Reads.Learnt
-higher-once κs a r r′ w w′ p h h′ = (h ∙ sym h′, refl)
+pub greater-once : Once greater.ended greater.Reads.Pre greater.Reads.Learnt
+greater-once κs a r r′ w w′ p h h′ = (h ∙ sym h′, refl)
 
-pub lower-once : Once lower.ended lower.Reads.Pre lower.Reads.Learnt
-lower-once κs a r r′ w w′ p h h′ = (h ∙ sym h′, refl)
+pub lesser-once : Once lesser.ended lesser.Reads.Pre lesser.Reads.Learnt
+lesser-once κs a r r′ w w′ p h h′ = (h ∙ sym h′, refl)
 
 pub laid-once : Once laid.ended laid.Reads.Pre laid.Reads.Learnt
 laid-once κs a r r′ w w′ p h h′ = (refl, λ i. ((h ∙ sym h′) i, (tt, (tt, (tt, tt)))))

@@ -16,13 +16,13 @@ pub fn store(src: &[u8], dst: &mut [u8], at: usize)
     }
 }
 
-pub fn higher(a: usize, b: usize) -> usize
+pub fn greater(a: usize, b: usize) -> usize
     ensures { λ r. ⌜ r ≡ max a b ⌝ }
 {
     if a < b { b } else { a }
 }
 
-pub fn lower(a: usize, b: usize) -> usize
+pub fn lesser(a: usize, b: usize) -> usize
     ensures { λ r. ⌜ r ≡ min a b ⌝ }
 {
     if a < b { a } else { b }
@@ -33,8 +33,8 @@ pub fn laid(array: &mut [u8], low: usize, a: usize, bytes: &[u8])
     requires { ⌜ (low < 256) × (a < 256) ⌝ }
     ensures { λ _. ⌜ now (array .exit) ≡ laidOf low (low + length (now (array .entry))) (now (array .entry)) a (now (bytes .entry)) ⌝ }
 {
-    let first = higher(a, low);
-    let past = lower(a + bytes.len(), low + array.len());
+    let first = greater(a, low);
+    let past = lesser(a + bytes.len(), low + array.len());
     if first < past {
         let from = first - a;
         let to = past - a;
@@ -42,88 +42,88 @@ pub fn laid(array: &mut [u8], low: usize, a: usize, bytes: &[u8])
     }
 }
 
-// Fills all of dst with the bytes of s from the index at on.
-fn fill(s: &[u8], at: usize, dst: &mut [u8])
-    requires { ⌜ at + length (now dst) ≤ length (now s) ⌝ }
-    ensures { λ _. ⌜ now (dst .exit) ≡ part (length (now (dst .entry))) (now (s .entry)) at ⌝ }
+// Fills all of dst with the bytes from the index at on.
+fn fill(bytes: &[u8], at: usize, dst: &mut [u8])
+    requires { ⌜ at + length (now dst) ≤ length (now bytes) ⌝ }
+    ensures { λ _. ⌜ now (dst .exit) ≡ part (length (now (dst .entry))) (now (bytes .entry)) at ⌝ }
 {
     let end = at + dst.len();
-    store(&s[at..end], dst, 0);
+    store(&bytes[at..end], dst, 0);
 }
 
-// The four bytes of s from the index at on.
-pub fn four(s: &[u8], at: usize) -> [u8; 4]
-    requires { ⌜ at + 4 ≤ length (now s) ⌝ }
-    ensures { λ r. ⌜ r ≡ part 4 (now (s .entry)) at ⌝ }
+// The four bytes from the index at on.
+pub fn four(bytes: &[u8], at: usize) -> [u8; 4]
+    requires { ⌜ at + 4 ≤ length (now bytes) ⌝ }
+    ensures { λ r. ⌜ r ≡ part 4 (now (bytes .entry)) at ⌝ }
 {
-    let mut a = [0u8; 4];
-    fill(s, at, &mut a);
-    a
+    let mut taken = [0u8; 4];
+    fill(bytes, at, &mut taken);
+    taken
 }
 
-// The eight bytes of s from the index at on.
-pub fn eight(s: &[u8], at: usize) -> [u8; 8]
-    requires { ⌜ at + 8 ≤ length (now s) ⌝ }
-    ensures { λ r. ⌜ r ≡ part 8 (now (s .entry)) at ⌝ }
+// The eight bytes from the index at on.
+pub fn eight(bytes: &[u8], at: usize) -> [u8; 8]
+    requires { ⌜ at + 8 ≤ length (now bytes) ⌝ }
+    ensures { λ r. ⌜ r ≡ part 8 (now (bytes .entry)) at ⌝ }
 {
-    let mut a = [0u8; 8];
-    fill(s, at, &mut a);
-    a
+    let mut taken = [0u8; 8];
+    fill(bytes, at, &mut taken);
+    taken
 }
 
-// The sixteen bytes of s from the index at on, by halves: what is stored by eights the compiler need not keep in memory.
-pub fn sixteen(s: &[u8], at: usize) -> [u8; 16]
-    requires { ⌜ at + 16 ≤ length (now s) ⌝ }
-    ensures { λ r. ⌜ r ≡ part 16 (now (s .entry)) at ⌝ }
+// The sixteen bytes from the index at on, by halves: what is stored by eights the compiler need not keep in memory.
+pub fn sixteen(bytes: &[u8], at: usize) -> [u8; 16]
+    requires { ⌜ at + 16 ≤ length (now bytes) ⌝ }
+    ensures { λ r. ⌜ r ≡ part 16 (now (bytes .entry)) at ⌝ }
 {
-    let low = eight(s, at);
-    let high = eight(s, at + 8);
-    let mut a = [0u8; 16];
-    store8(low, &mut a, 0);
-    store8(high, &mut a, 8);
-    a
+    let low = eight(bytes, at);
+    let high = eight(bytes, at + 8);
+    let mut taken = [0u8; 16];
+    store8(low, &mut taken, 0);
+    store8(high, &mut taken, 8);
+    taken
 }
 
-// The thirty-two bytes of s from the index at on.
-pub fn thirty_two(s: &[u8], at: usize) -> [u8; 32]
-    requires { ⌜ at + 32 ≤ length (now s) ⌝ }
-    ensures { λ r. ⌜ r ≡ part 32 (now (s .entry)) at ⌝ }
+// The thirty-two bytes from the index at on.
+pub fn thirty_two(bytes: &[u8], at: usize) -> [u8; 32]
+    requires { ⌜ at + 32 ≤ length (now bytes) ⌝ }
+    ensures { λ r. ⌜ r ≡ part 32 (now (bytes .entry)) at ⌝ }
 {
-    let mut a = [0u8; 32];
-    fill(s, at, &mut a);
-    a
+    let mut taken = [0u8; 32];
+    fill(bytes, at, &mut taken);
+    taken
 }
 
-// Writes the array a into dst from the index at on; the rest of dst stays.
-pub fn store4(a: [u8; 4], dst: &mut [u8], at: usize)
+// Writes the bytes into dst from the index at on; the rest of dst stays.
+pub fn store4(bytes: [u8; 4], dst: &mut [u8], at: usize)
     requires { ⌜ at + 4 ≤ length (now dst) ⌝ }
-    ensures { λ _. ⌜ Stored 4 a (now (dst .entry)) at (now (dst .exit)) ⌝ }
+    ensures { λ _. ⌜ Stored 4 bytes (now (dst .entry)) at (now (dst .exit)) ⌝ }
 {
-    store(&a, dst, at);
+    store(&bytes, dst, at);
 }
 
-// Writes the array a into dst from the index at on; the rest of dst stays.
-pub fn store8(a: [u8; 8], dst: &mut [u8], at: usize)
+// Writes the bytes into dst from the index at on; the rest of dst stays.
+pub fn store8(bytes: [u8; 8], dst: &mut [u8], at: usize)
     requires { ⌜ at + 8 ≤ length (now dst) ⌝ }
-    ensures { λ _. ⌜ Stored 8 a (now (dst .entry)) at (now (dst .exit)) ⌝ }
+    ensures { λ _. ⌜ Stored 8 bytes (now (dst .entry)) at (now (dst .exit)) ⌝ }
 {
-    store(&a, dst, at);
+    store(&bytes, dst, at);
 }
 
-// Writes the array a into dst from the index at on; the rest of dst stays.
-pub fn store16(a: [u8; 16], dst: &mut [u8], at: usize)
+// Writes the bytes into dst from the index at on; the rest of dst stays.
+pub fn store16(bytes: [u8; 16], dst: &mut [u8], at: usize)
     requires { ⌜ at + 16 ≤ length (now dst) ⌝ }
-    ensures { λ _. ⌜ Stored 16 a (now (dst .entry)) at (now (dst .exit)) ⌝ }
+    ensures { λ _. ⌜ Stored 16 bytes (now (dst .entry)) at (now (dst .exit)) ⌝ }
 {
-    store(&a, dst, at);
+    store(&bytes, dst, at);
 }
 
-// Writes the array a into dst from the index at on; the rest of dst stays.
-pub fn store32(a: [u8; 32], dst: &mut [u8], at: usize)
+// Writes the bytes into dst from the index at on; the rest of dst stays.
+pub fn store32(bytes: [u8; 32], dst: &mut [u8], at: usize)
     requires { ⌜ at + 32 ≤ length (now dst) ⌝ }
-    ensures { λ _. ⌜ Stored 32 a (now (dst .entry)) at (now (dst .exit)) ⌝ }
+    ensures { λ _. ⌜ Stored 32 bytes (now (dst .entry)) at (now (dst .exit)) ⌝ }
 {
-    store(&a, dst, at);
+    store(&bytes, dst, at);
 }
 
 // A byte as a length or an index. That it is below 256 is said too, for the sums that callers make of it.
@@ -134,17 +134,17 @@ pub fn wide(x: u8) -> usize
 }
 
 // The number of two bytes at the index at, the low byte first.
-pub fn pair(s: &[u8], at: usize) -> u16
-    requires { ⌜ at + 2 ≤ length (now s) ⌝ }
-    ensures { λ r. ⌜ r ≡ pairAt (now (s .entry)) at ⌝ }
+pub fn pair(bytes: &[u8], at: usize) -> u16
+    requires { ⌜ at + 2 ≤ length (now bytes) ⌝ }
+    ensures { λ r. ⌜ r ≡ pairAt (now (bytes .entry)) at ⌝ }
 {
-    (wide(s[at]) + 256 * wide(s[at + 1])) as u16
+    (wide(bytes[at]) + 256 * wide(bytes[at + 1])) as u16
 }
 
 // The number of four bytes at the index at, the low byte first.
-pub fn quad(s: &[u8], at: usize) -> u32
-    requires { ⌜ at + 4 ≤ length (now s) ⌝ }
-    ensures { λ r. ⌜ r ≡ quadAt (now (s .entry)) at ⌝ }
+pub fn quad(bytes: &[u8], at: usize) -> u32
+    requires { ⌜ at + 4 ≤ length (now bytes) ⌝ }
+    ensures { λ r. ⌜ r ≡ quadAt (now (bytes .entry)) at ⌝ }
 {
-    pair(s, at) as u32 + 65536 * (pair(s, at + 2) as u32)
+    pair(bytes, at) as u32 + 65536 * (pair(bytes, at + 2) as u32)
 }

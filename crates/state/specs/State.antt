@@ -32,9 +32,9 @@ imageSizeOf Ds2781 = 60
 imageSizeOf Ds2775 = 61
 
 -- with NBEN, a c above minus this and below 0 counts as 0: "negative blanking takes in 25 µV itself, so -16 counts as 0"
-abbrev pub edgeOf : Profile → ℕ
-edgeOf Ds2781 = 16
-edgeOf Ds2775 = 17
+abbrev pub blankingEdgeOf : Profile → ℕ
+blankingEdgeOf Ds2781 = 16
+blankingEdgeOf Ds2775 = 17
 
 -- whether there is "a cycle counter": it counts, is read and written at 1Eh, and is saved
 abbrev pub countsCycles : Profile → Bool
@@ -53,11 +53,11 @@ tickOf now = record { any = true; last = now }
 
 -- "The elapsed ticks are the difference taken round the 16-bit counter, from the last kind 6 since power-on; the first counts as one."
 abbrev pub elapsedOf : Tick → ℕ → ℕ
-elapsedOf t now = pick (t .any) ((now + 2 ^ 16 - t .last) % 2 ^ 16) 1
+elapsedOf tick now = pick (tick .any) ((now + 2 ^ 16 - tick .last) % 2 ^ 16) 1
 
 -- 11 "when the difference is 0 or above 64"
 unfoldable pub timelyOf : Tick → ℕ → Bool
-timelyOf t now = both (leb 1 (elapsedOf t now)) (leb (elapsedOf t now) 64)
+timelyOf tick now = both (leb 1 (elapsedOf tick now)) (leb (elapsedOf tick now) 64)
 
 -- ---- what holds of it always
 
@@ -81,7 +81,7 @@ pub record ChargeWF (g : Charge) : Type 0 where
 
 -- how many the run of eight has: both are counted from power-on, and 8 divides 1,024
 abbrev pub runOf : Average → ℕ
-runOf a = a .made % 8
+runOf average = average .made % 8
 
 -- of every average
 pub record AverageWF (a : Average) : Type 0 where
@@ -100,11 +100,11 @@ pub record MeterWF (m : Meter) : Type 0 where
 
 -- EEPROM bytes to the shadow; LOCK 0, BL1 stays; the profile and the saved cells themselves are untouched
 abbrev pub poweredCells : Cells → Cells
-poweredCells c = record {
-  profile = c .profile;
-  block = record { shadow = c .block .eeprom; eeprom = c .block .eeprom };
-  locks = record { lock = false; bl1 = c .locks .bl1 };
-  saved = c .saved;
+poweredCells cells = record {
+  profile = cells .profile;
+  block = record { shadow = cells .block .eeprom; eeprom = cells .block .eeprom };
+  locks = record { lock = false; bl1 = cells .locks .bl1 };
+  saved = cells .saved;
 }
 
 abbrev pub asIn : ℕ → ℕ
@@ -112,7 +112,7 @@ asIn aging = movedInto 63 128 aging
 
 -- ACR and AS from the saved cells, AS moved into 63..128; no mark
 abbrev pub poweredCharge : Saved → Charge
-poweredCharge s = record { count = s .acr * 4096; age = 0; aging = asIn (s .aging); learnf = false; mark = false }
+poweredCharge saved = record { count = saved .acr * 4096; age = 0; aging = asIn (saved .aging); learnf = false; mark = false }
 
 -- "the counter takes" its saved cell, and the rest is zeroed
 abbrev pub poweredCycles : ℕ → Cycles
@@ -137,14 +137,14 @@ noneShown = record {
 }
 
 unfoldable pub poweredOf : Cells → Meter
-poweredOf c = record {
-  cells = poweredCells c;
-  charge = poweredCharge (c .saved);
-  cycles = poweredCycles (c .saved .cycles);
+poweredOf cells = record {
+  cells = poweredCells cells;
+  charge = poweredCharge (cells .saved);
+  cycles = poweredCycles (cells .saved .cycles);
   flow = noFlow;
   shown = noneShown;
 }
 
 -- a power-on of the meter as it stands
 abbrev pub restartedOf : Meter → Meter
-restartedOf m = poweredOf (m .cells)
+restartedOf meter = poweredOf (meter .cells)

@@ -1,7 +1,7 @@
 // What the gauge remembers: every struct below `Gauge`, what tells the two profiles apart, the ticks of samples, and a power-on.
 ghost use mathlib.Core.Path.{_≡_};
 ghost use Prim.Native.Nat.{_≤_};
-ghost use Rattle.state.specs.State.{familyOf, imageSizeOf, edgeOf, countsCycles, MeterWF, poweredOf, restartedOf, elapsedOf, timelyOf};
+ghost use Rattle.state.specs.State.{familyOf, imageSizeOf, blankingEdgeOf, countsCycles, MeterWF, poweredOf, restartedOf, elapsedOf, timelyOf};
 
 pub enum Profile {
     Ds2781,
@@ -9,48 +9,48 @@ pub enum Profile {
 }
 
 // The first byte of the net address.
-pub fn family(f: Profile) -> u8
-    ensures { λ r. ⌜ r ≡ familyOf f ⌝ }
+pub fn family(profile: Profile) -> u8
+    ensures { λ r. ⌜ r ≡ familyOf profile ⌝ }
 {
-    match f {
+    match profile {
         Profile::Ds2781 => 0x3d,
         Profile::Ds2775 => 0x32,
     }
 }
 
 // How many bytes an image has.
-pub fn size(f: Profile) -> usize
-    ensures { λ r. ⌜ r ≡ imageSizeOf f ⌝ }
+pub fn image_size(profile: Profile) -> usize
+    ensures { λ r. ⌜ r ≡ imageSizeOf profile ⌝ }
     ensures near { λ r. ⌜ (60 ≤ r) × (r ≤ 61) ⌝ }
 {
-    match f {
+    match profile {
         Profile::Ds2781 => 60,
         Profile::Ds2775 => 61,
     }
 }
 
 // How far below 0 blanking ends.
-pub fn edge(f: Profile) -> u16
-    ensures { λ r. ⌜ r ≡ edgeOf f ⌝ }
+pub fn blanking_edge(profile: Profile) -> u16
+    ensures { λ r. ⌜ r ≡ blankingEdgeOf profile ⌝ }
     ensures small { λ r. ⌜ r ≤ 17 ⌝ }
 {
-    match f {
+    match profile {
         Profile::Ds2781 => 16,
         Profile::Ds2775 => 17,
     }
 }
 
 // Whether there is a cycle counter.
-pub fn counts(f: Profile) -> bool
-    ensures { λ r. ⌜ r ≡ countsCycles f ⌝ }
+pub fn counts_cycles(profile: Profile) -> bool
+    ensures { λ r. ⌜ r ≡ countsCycles profile ⌝ }
 {
-    match f {
+    match profile {
         Profile::Ds2781 => false,
         Profile::Ds2775 => true,
     }
 }
 
-// The tick that is remembered, and whether one is.
+// The tick of the last sample since power-on; `any`: there was one.
 pub struct Tick {
     pub any: bool,
     pub last: u16,
@@ -75,19 +75,19 @@ pub fn timely(tick: Tick, now: u16) -> bool
     numbers::and(1 <= n, n <= 64)
 }
 
-// What only fences change.
+// The net address and BL0: changed only by an image and by a lock of block 0.
 pub struct Common {
     pub address: [u8; 8],
     pub bl0: bool,
 }
 
-// What label events touch: block 0.
+// Block 0, the label: its shadow and its EEPROM.
 pub struct Label {
     pub shadow: [u8; 16],
     pub eeprom: [u8; 16],
 }
 
-// Block 1.
+// Block 1, the parameters: its shadow and its EEPROM.
 pub struct Block {
     pub shadow: [u8; 32],
     pub eeprom: [u8; 32],
@@ -124,13 +124,13 @@ pub struct Charge {
     pub age: u32,
 }
 
-// The counter, and how far ACR fell since its last step.
+// The cycle counter of a DS2775, and how far ACR fell since its last step; 0 in every other pack.
 pub struct Cycles {
     pub count: u8,
     pub rest: u32,
 }
 
-// CURRENT and the c before it, and whether there is one, and two. (The order of fields: docs/SPEED.md.)
+// CURRENT and the c before it; `any`: there was a conversion, `two`: there were two. (The order of fields: docs/SPEED.md.)
 pub struct Trace {
     pub two: bool,
     pub before: u16,
@@ -160,7 +160,7 @@ pub struct Flow {
     pub tick: Tick,
 }
 
-// FULL, AE and SE.
+// The lines of the model at the last temperature: FULL, AE and SE.
 pub struct Model {
     pub full: u16,
     pub ae: u16,
@@ -212,10 +212,10 @@ impl Meter {
     {
         let eeprom = cells.block.eeprom;
         let saved = cells.saved;
-        let f = cells.profile;
+        let profile = cells.profile;
         Meter {
             cells: Cells {
-                profile: f,
+                profile: profile,
                 block: Block {
                     shadow: eeprom,
                     eeprom: eeprom,

@@ -9,12 +9,12 @@ use lib.Dec.{ltb, leb}
 use lib.ListN.{length, take, length-take}
 use lib.Seq.{take-all}
 use Rattle.streams.specs.declared.Said.{Said}
-use Rattle.streams.specs.Streams.{Front, Within, Speech, Saying}
+use Rattle.streams.specs.Streams.{Front, CountWithin, Speech, Saying}
 
 -- ---- what was read
 
 -- the bytes of a count, and of a count within the room, are the same
-pub cut : {count n : ℕ} {room : List ℕ} → Within count room n → take n room ≡ take count room
+pub cut : {count n : ℕ} {room : List ℕ} → CountWithin count room n → take n room ≡ take count room
 cut {count} {n} {room} h = by (leb count (length room)) refl
   where
     by : (b : Bool) → leb count (length room) ≡ b → take n room ≡ take count room

@@ -17,7 +17,7 @@ pub record Front (s room : List ℕ) (count : ℕ) : Type 0 where
   pub same : take (length room) s ≡ take count room
 
 -- a count, at most the room's length. That the bytes counted are so many is said for a caller that takes them out
-pub record Within (count : ℕ) (room : List ℕ) (n : ℕ) : Type 0 where
+pub record CountWithin (count : ℕ) (room : List ℕ) (n : ℕ) : Type 0 where
   pub least : n ≡ min count (length room)
   pub fits : n ≤ length room
   pub whole : n ≡ length (take n room)

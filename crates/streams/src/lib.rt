@@ -8,7 +8,7 @@ ghost use mathlib.Core.Path.{_≡_};
 ghost use Prim.Native.Nat.{_+_, _≤_};
 ghost use lib.ListN.{length};
 ghost use Rattle.digits.specs.Digits.{Writing};
-ghost use Rattle.streams.specs.Streams.{Within, error, unreadText, refusedText, besideText, Saying};
+ghost use Rattle.streams.specs.Streams.{CountWithin, error, unreadText, refusedText, besideText, Saying};
 
 // What was read: so many bytes at the front of the room, or a read that failed.
 pub struct Input {
@@ -92,7 +92,7 @@ pub fn read_named(program: &[u8], word: usize, room: &mut [u8]) -> Input
 
 // A count within the room.
 pub fn within(count: usize, room: &[u8]) -> usize
-    ensures { λ r. ⌜ Within count (now (room .entry)) r ⌝ }
+    ensures { λ r. ⌜ CountWithin count (now (room .entry)) r ⌝ }
 {
     let n = room.len();
     if count < n { count } else { n }

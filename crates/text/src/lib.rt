@@ -164,8 +164,8 @@ pub fn report(ended: Ended, answers: &[u64], replies: &[u8], out: &mut [u8]) -> 
     ensures { λ r. ⌜ Reporting (endedText ended (now (answers .entry)) (now (replies .entry)) (length (now (out .entry)))) (now (out .entry)) r (now (out .exit)) ⌝ }
 {
     let outcome = ended.outcome;
-    let lines = slices::lower(ended.lines, answers.len());
-    let replied = slices::lower(ended.replied, replies.len());
+    let lines = slices::lesser(ended.lines, answers.len());
+    let replied = slices::lesser(ended.replied, replies.len());
     if fits(lines, replied, out.len()) {
         return put_coded(outcome, &answers[..lines], &replies[..replied], out);
     }

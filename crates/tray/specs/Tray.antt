@@ -15,5 +15,5 @@ abbrev pub trayText : List ℕ → List ℕ
 trayText s = runText trayLines s
 
 -- what is said of standard input s, or where a read of it failed
-abbrev pub printedOf : Bool → List ℕ → Speech
-printedOf failed s = pick failed (error (unreadText trayName)) (output (trayText s))
+abbrev pub trayPrintedOf : Bool → List ℕ → Speech
+trayPrintedOf failed s = pick failed (error (unreadText trayName)) (output (trayText s))

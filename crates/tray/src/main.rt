@@ -8,21 +8,21 @@ ghost use Prim.Native.Nat.{ℕ, _≤_};
 ghost use lib.ListN.{length};
 ghost use Rattle.text.specs.Text.{Reporting};
 ghost use Rattle.streams.specs.Streams.{Front, Saying};
-ghost use Rattle.tray.specs.Tray.{trayText, printedOf};
+ghost use Rattle.tray.specs.Tray.{trayText, trayPrintedOf};
 
-fn put_session(s: &[u8], out: &mut [u8]) -> usize
+fn put_session(bytes: &[u8], out: &mut [u8]) -> usize
     requires { ⌜ 270372 ≤ length (now out) ⌝ }
-    ensures { λ r. ⌜ Reporting (trayText (now (s .entry))) (now (out .entry)) r (now (out .exit)) ⌝ }
+    ensures { λ r. ⌜ Reporting (trayText (now (bytes .entry))) (now (out .entry)) r (now (out .exit)) ⌝ }
 {
     let mut replies = [0u8; 65536];
     let mut answers = [0u64; 8192];
-    let ran = tray_run::run(s, &mut replies, &mut answers);
+    let ran = tray_run::run(bytes, &mut replies, &mut answers);
     text::report(ran.ended, &answers, &replies, out)
 }
 
 // What the program says. A byte more than a session may have is enough to know of any input. (That the room keeps its length is said for `main`.)
 fn printed(input: &[u8; 32769], got: Input, room: &mut [u8; 270372]) -> Said
-    ensures { λ r. ⌜ ((s : List ℕ) → Front s (now (input .entry)) (got .count) → Saying (printedOf (got .failed) s) (now (room .entry)) r (now (room .exit))) ⌝ }
+    ensures { λ r. ⌜ ((s : List ℕ) → Front s (now (input .entry)) (got .count) → Saying (trayPrintedOf (got .failed) s) (now (room .entry)) r (now (room .exit))) ⌝ }
     ensures { λ _. ⌜ 270372 ≡ length (now (room .exit)) ⌝ }
 {
     if got.failed {

@@ -8,11 +8,11 @@ use Rattle.streams.specs.Streams.{Speech, error}
 use Rattle.runs.specs.declared.Outcome.the-variants.{Over}
 use Rattle.text.specs.Text.{unrunSpeech}
 use Rattle.text.proofs.Printed.{over-said}
-use Rattle.tray_image.specs.TrayImage.{isNumber, slotOf, noNumberText, lastOf, slotSpeech, takenSpeech, wordSpeech}
+use Rattle.tray_image.specs.TrayImage.{isNumber, slotOf, noNumberText, trayAtEnd, slotSpeech, trayImageSpeech, wordSpeech}
 
 abbrev pub overSpeech : List ℕ → Speech
 overSpeech word = pick (isNumber word) (unrunSpeech Over) (error noNumberText)
 
 pub alike : (word s : List ℕ) → 32768 < length s → wordSpeech word s ≡ overSpeech word
-unfolding wordSpeech takenSpeech
-alike word s h = rw (over-said s (slotSpeech (lastOf s) (slotOf word)) h) refl
+unfolding wordSpeech trayImageSpeech
+alike word s h = rw (over-said s (slotSpeech (trayAtEnd s) (slotOf word)) h) refl

@@ -50,21 +50,21 @@ slotWords = ascii "no image was accepted for this slot"
 -- ---- what is said
 
 -- the state at the end of a tray session, with 65,536 bytes of reply room
-unfoldable pub lastOf : List ℕ → Tray
-lastOf s = endAfter trayDid emptyTray 65536 (recsOf s)
+unfoldable pub trayAtEnd : List ℕ → Tray
+trayAtEnd s = endAfter trayDid emptyTray 65536 (recsOf s)
 
 -- the image goes to standard output, 5 for a slot without an image to standard error
 abbrev pub slotSpeech : Tray → ℕ → Speech
-slotSpeech τ i = packSpeech (slotHeld τ i) (packOf τ i) slotWords
+slotSpeech tray i = packSpeech (slotHeld tray i) (packOf tray i) slotWords
 
 -- and so does the refusal of a session that was not run, with an answer lent for each record that 32,768 bytes can hold
-unfoldable pub takenSpeech : ℕ → List ℕ → Speech
-takenSpeech i s = ranSpeech (outcomeOf (length s) 8192) (slotSpeech (lastOf s) i)
+unfoldable pub trayImageSpeech : ℕ → List ℕ → Speech
+trayImageSpeech i s = ranSpeech (outcomeOf (length s) 8192) (slotSpeech (trayAtEnd s) i)
 
 -- of any word
 unfoldable pub wordSpeech : List ℕ → List ℕ → Speech
-wordSpeech word s = pick (isNumber word) (takenSpeech (slotOf word) s) (error noNumberText)
+wordSpeech word s = pick (isNumber word) (trayImageSpeech (slotOf word) s) (error noNumberText)
 
 -- what is said of the word and of standard input s, or where a read of it failed
-abbrev pub extractedOf : Bool → List ℕ → List ℕ → Speech
-extractedOf failed word s = pick failed (error (unreadText trayImageName)) (wordSpeech word s)
+abbrev pub trayImageOf : Bool → List ℕ → List ℕ → Speech
+trayImageOf failed word s = pick failed (error (unreadText trayImageName)) (wordSpeech word s)

@@ -9,7 +9,7 @@ ghost use mathlib.Core.List.{List};
 ghost use Prim.Native.Nat.{ℕ};
 ghost use lib.ListN.{length};
 ghost use Rattle.streams.specs.Streams.{Front, Saying, error};
-ghost use Rattle.tray_image.specs.TrayImage.{isNumber, slotOf, noNumberText, slotSpeech, takenSpeech, wordSpeech, extractedOf};
+ghost use Rattle.tray_image.specs.TrayImage.{isNumber, slotOf, noNumberText, slotSpeech, trayImageSpeech, wordSpeech, trayImageOf};
 
 // ---- SLOT
 
@@ -73,13 +73,13 @@ fn put_image(tray: Tray, slot: u8, room: &mut [u8]) -> Said
     streams::put_refused(answer, b"no image was accepted for this slot", room)
 }
 
-fn put_taken(s: &[u8], slot: u8, room: &mut [u8]) -> Said
+fn put_taken(bytes: &[u8], slot: u8, room: &mut [u8]) -> Said
     requires { ⌜ length (now room) ≡ 61 ⌝ }
-    ensures { λ r. ⌜ Saying (takenSpeech slot (now (s .entry))) (now (room .entry)) r (now (room .exit)) ⌝ }
+    ensures { λ r. ⌜ Saying (trayImageSpeech slot (now (bytes .entry))) (now (room .entry)) r (now (room .exit)) ⌝ }
 {
     let mut replies = [0u8; 65536];
     let mut answers = [0u64; 8192];
-    let ran = tray_run::run(s, &mut replies, &mut answers);
+    let ran = tray_run::run(bytes, &mut replies, &mut answers);
     let ended = ran.ended;
     let outcome = ended.outcome;
     let tray = ran.tray;
@@ -90,19 +90,19 @@ fn put_taken(s: &[u8], slot: u8, room: &mut [u8]) -> Said
     }
 }
 
-fn put_asked(word: &[u8], s: &[u8], room: &mut [u8]) -> Said
+fn put_asked(word: &[u8], bytes: &[u8], room: &mut [u8]) -> Said
     requires { ⌜ length (now room) ≡ 61 ⌝ }
-    ensures { λ r. ⌜ Saying (wordSpeech (now (word .entry)) (now (s .entry))) (now (room .entry)) r (now (room .exit)) ⌝ }
+    ensures { λ r. ⌜ Saying (wordSpeech (now (word .entry)) (now (bytes .entry))) (now (room .entry)) r (now (room .exit)) ⌝ }
 {
     if is_number(word) {
-        return put_taken(s, slot_of(word), room);
+        return put_taken(bytes, slot_of(word), room);
     }
     put_no_number(room)
 }
 
 // What the program says. A byte more than a session may have is enough to know of any input. (That the room keeps its length is said for `main`.)
 fn extracted(word: &[u8], input: &[u8; 32769], got: Input, room: &mut [u8; 61]) -> Said
-    ensures { λ r. ⌜ ((s : List ℕ) → Front s (now (input .entry)) (got .count) → Saying (extractedOf (got .failed) (now (word .entry)) s) (now (room .entry)) r (now (room .exit))) ⌝ }
+    ensures { λ r. ⌜ ((s : List ℕ) → Front s (now (input .entry)) (got .count) → Saying (trayImageOf (got .failed) (now (word .entry)) s) (now (room .entry)) r (now (room .exit))) ⌝ }
     ensures { λ _. ⌜ 61 ≡ length (now (room .exit)) ⌝ }
 {
     if got.failed {

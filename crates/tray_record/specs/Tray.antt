@@ -55,34 +55,34 @@ emptyTray = record {
 
 -- the pack in a slot
 abbrev pub packOf : Tray → ℕ → Gauge
-packOf τ i = record {
-  common = getD (τ .commons) i (noGauge .common);
-  label = getD (τ .labels) i (noGauge .label);
-  meter = getD (τ .meters) i (noGauge .meter);
+packOf tray i = record {
+  common = getD (tray .commons) i (noGauge .common);
+  label = getD (tray .labels) i (noGauge .label);
+  meter = getD (tray .meters) i (noGauge .meter);
 }
 
 -- a tray with another pack in a slot, and all else as it was
 abbrev pub storedOf : Tray → ℕ → Gauge → Tray
-storedOf τ i g = record {
-  count = τ .count;
-  closed = τ .closed;
-  commons = set (τ .commons) i (g .common);
-  labels = set (τ .labels) i (g .label);
-  meters = set (τ .meters) i (g .meter);
+storedOf tray i gauge = record {
+  count = tray .count;
+  closed = tray .closed;
+  commons = set (tray .commons) i (gauge .common);
+  labels = set (tray .labels) i (gauge .label);
+  meters = set (tray .meters) i (gauge .meter);
 }
 
 -- "the first accepted event that is no image" closes the opening
 abbrev pub closedOf : Tray → Tray
-closedOf τ = record { count = τ .count; closed = true; commons = τ .commons; labels = τ .labels; meters = τ .meters }
+closedOf tray = record { count = tray .count; closed = true; commons = tray .commons; labels = tray .labels; meters = tray .meters }
 
 -- "slots 0 upward as accepted"
 abbrev pub packJoined : Tray → Gauge → Tray
-packJoined τ g = record {
-  count = τ .count + 1;
-  closed = τ .closed;
-  commons = set (τ .commons) (τ .count) (g .common);
-  labels = set (τ .labels) (τ .count) (g .label);
-  meters = set (τ .meters) (τ .count) (g .meter);
+packJoined tray gauge = record {
+  count = tray .count + 1;
+  closed = tray .closed;
+  commons = set (tray .commons) (tray .count) (gauge .common);
+  labels = set (tray .labels) (tray .count) (gauge .label);
+  meters = set (tray .meters) (tray .count) (gauge .meter);
 }
 
 -- ---- the search over the tray, which stops at the slot whose address matches
@@ -141,22 +141,23 @@ acceptedFor count closed kind.Unknown p = false
 
 -- by whether an accepted pack has the image's address, and by the slot's tick. 4 asks "9, 5, 1, 7 bytes": one more than the old payload has
 abbrev pub trayAskedBy : ℕ → Bool → Bool → Tick → Kind → List ℕ → Taken
-trayAskedBy count closed again last k p =
-    pick (leb (aheadOf k) (length p)) (timedOf last (takenBy again k (acceptedFor count closed k p) (drop (aheadOf k) p))) (Refused refusal.Size)
+trayAskedBy count closed again last which p =
+    pick (leb (aheadOf which) (length p)) (timedOf last (takenBy again which (acceptedFor count closed which p) (drop (aheadOf which) p)))
+    (Refused refusal.Size)
 
 abbrev pub trayAskedAt : ℕ → Bool → Bool → Tick → ℕ → List ℕ → Taken
 trayAskedAt count closed again last n p = trayAskedBy count closed again last (trayKindOf n) p
 
 -- 12: "for a repeated address"
 abbrev pub againOf : Tray → List ℕ → Bool
-againOf τ p = isFound (searchOf (τ .commons) (τ .count) (imageAddress p))
+againOf tray p = isFound (searchOf (tray .commons) (tray .count) (imageAddress p))
 
 -- each pack has a tick of its own
 abbrev pub slotTick : Tray → List ℕ → Tick
-slotTick τ p = packOf τ (slotIn p) .meter .flow .tick
+slotTick tray p = packOf tray (slotIn p) .meter .flow .tick
 
 abbrev pub trayTold : Tray → ℕ → List ℕ → Taken
-trayTold τ n p = trayAskedAt (τ .count) (τ .closed) (againOf τ p) (slotTick τ p) n p
+trayTold tray n p = trayAskedAt (tray .count) (tray .closed) (againOf tray p) (slotTick tray p) n p
 
 -- ---- what a transaction does
 
@@ -175,54 +176,54 @@ unfoldable pub matchedOf : List Common → ℕ → List ℕ → Found
 matchedOf commons count master = pick (ltb (length master) 9) Nowhere (searchOf commons count (take 8 (drop 1 master)))
 
 abbrev pub aimedBy : Rom → Found → Found
-aimedBy rom.Skip f = Nowhere
-aimedBy rom.Match f = f
-aimedBy rom.Net33 f = Nowhere
-aimedBy rom.Net39 f = Nowhere
-aimedBy rom.Quiet f = Nowhere
+aimedBy rom.Skip found = Nowhere
+aimedBy rom.Match found = found
+aimedBy rom.Net33 found = Nowhere
+aimedBy rom.Net39 found = Nowhere
+aimedBy rom.Quiet found = Nowhere
 
 abbrev pub trayReach : Tray → Transaction → List ℕ → Reach
-trayReach τ t master = reachFound (aimedBy (t .rom) (matchedOf (τ .commons) (τ .count) master))
+trayReach tray transaction master = reachFound (aimedBy (transaction .rom) (matchedOf (tray .commons) (tray .count) master))
 
 module _ (t : Transaction) (master : List ℕ) where
   -- a pack carries it out by itself
   abbrev pub actedAt : Tray → ℕ → Tray → Tray
-  actedAt τ i σ = storedOf σ i (actOf (packOf τ i) t master)
+  actedAt tray i acted = storedOf acted i (actOf (packOf tray i) t master)
 
   -- the first n packs do
   abbrev pub actedFirst : Tray → ℕ → Tray
-  actedFirst τ zero = τ
-  actedFirst τ (suc n) = actedAt τ n (actedFirst τ n)
+  actedFirst tray zero = tray
+  actedFirst tray (suc n) = actedAt tray n (actedFirst tray n)
 
   -- "each reply byte is the bitwise AND of theirs"
   abbrev pub wiredFirst : Tray → ℕ → List ℕ
-  wiredFirst τ zero = listed (λ i. 0xff) 0 (t .count)
-  wiredFirst τ (suc n) = andBytes (wiredFirst τ n) (replyOf (packOf τ n) t master)
+  wiredFirst tray zero = listed (λ i. 0xff) 0 (t .count)
+  wiredFirst tray (suc n) = andBytes (wiredFirst tray n) (replyOf (packOf tray n) t master)
 
   abbrev pub trayActed : Reach → Tray → Tray
-  trayActed (one i) τ = actedAt τ i τ
-  trayActed every τ = actedFirst τ (τ .count)
+  trayActed (one i) tray = actedAt tray i tray
+  trayActed every tray = actedFirst tray (tray .count)
 
   abbrev pub trayReply : Reach → Tray → List ℕ
-  trayReply (one i) τ = replyOf (packOf τ i) t master
-  trayReply every τ = wiredFirst τ (τ .count)
+  trayReply (one i) tray = replyOf (packOf tray i) t master
+  trayReply every tray = wiredFirst tray (tray .count)
 
 -- ---- what an event does
 
 abbrev pub trayEvent : Tray → List ℕ → Event → Did Tray
-trayEvent τ p (Image f) = silently (packJoined τ (imageOf f p)) 0
-trayEvent τ p (Change c) = silently (closedOf (storedOf τ (slotIn p) (changedOf (packOf τ (slotIn p)) c))) 0
-trayEvent τ p (Transact t) =
+trayEvent tray p (Image f) = silently (packJoined tray (imageOf f p)) 0
+trayEvent tray p (Change c) = silently (closedOf (storedOf tray (slotIn p) (changedOf (packOf tray (slotIn p)) c))) 0
+trayEvent tray p (Transact t) =
     let master = masterOf t p in
-    let reach = trayReach τ t master in
-    record { state = closedOf (trayActed t master reach τ); answer = 0; reply = trayReply t master reach τ }
+    let reach = trayReach tray t master in
+    record { state = closedOf (trayActed t master reach tray); answer = 0; reply = trayReply t master reach tray }
 
 abbrev pub ofTray : Steps Tray
 ofTray = record { told = trayTold; event = trayEvent }
 
 -- with so many bytes of reply room left
 unfoldable pub trayDid : Tray → ℕ → Rec → Did Tray
-trayDid τ room r = recordBy ofTray τ room r
+trayDid tray room r = recordBy ofTray tray room r
 
 -- ---- what the code looks at first of the record at the front
 

@@ -45,28 +45,28 @@ pub fn empty() -> Tray
     ensures kept { λ r. ⌜ TrayWF r ⌝ }
 {
     let zeros = [0u8; IMAGE_SIZE];
-    let g = gauge::image_in(Profile::Ds2781, &zeros);
-    let k = g.common;
-    let l = g.label;
-    let m = g.meter;
+    let gauge = gauge::image_in(Profile::Ds2781, &zeros);
+    let common = gauge.common;
+    let label = gauge.label;
+    let meter = gauge.meter;
     Tray {
         count: 0,
         closed: false,
-        commons: [k; 8],
-        labels: [l; 8],
-        meters: [m; 8],
+        commons: [common; 8],
+        labels: [label; 8],
+        meters: [meter; 8],
     }
 }
 
 // ---- what a record asks
 
 // The slot that the record at the front names, where a tray can have it.
-pub fn slot(l: &[u8]) -> usize
-    ensures { λ r. ⌜ r ≡ namedSlot (now (l .entry)) ⌝ }
+pub fn slot(rest: &[u8]) -> usize
+    ensures { λ r. ⌜ r ≡ namedSlot (now (rest .entry)) ⌝ }
     ensures small { λ r. ⌜ r < 8 ⌝ }
 {
-    if 4 < l.len() {
-        let s = slices::wide(l[4]);
+    if 4 < rest.len() {
+        let s = slices::wide(rest[4]);
         if s < 8 {
             return s;
         }
@@ -75,13 +75,13 @@ pub fn slot(l: &[u8]) -> usize
 }
 
 // Whether the record at the front is an image, long enough for its address.
-pub fn image_at(l: &[u8]) -> bool
-    ensures { λ r. ⌜ r ≡ imageAt (now (l .entry)) ⌝ }
+pub fn image_at(rest: &[u8]) -> bool
+    ensures { λ r. ⌜ r ≡ imageAt (now (rest .entry)) ⌝ }
 {
-    if l.len() < 4 + IMAGE_SIZE {
+    if rest.len() < 4 + IMAGE_SIZE {
         return false;
     }
-    let kind = slices::pair(l, 2);
+    let kind = slices::pair(rest, 2);
     numbers::or(kind == 1, kind == 8)
 }
 
@@ -102,11 +102,11 @@ fn kind_of(n: u16) -> Kind
 }
 
 // How many bytes stand ahead of the old payload.
-fn ahead(k: Kind) -> usize
-    ensures { λ r. ⌜ r ≡ aheadOf k ⌝ }
+fn ahead(kind: Kind) -> usize
+    ensures { λ r. ⌜ r ≡ aheadOf kind ⌝ }
     ensures small { λ r. ⌜ r ≤ 1 ⌝ }
 {
-    match k {
+    match kind {
         Kind::Image(_) => 0,
         Kind::Reading => 1,
         Kind::Conversion => 1,
@@ -118,17 +118,17 @@ fn ahead(k: Kind) -> usize
 }
 
 // What stands for an accepted image in a plain session.
-fn accepted(k: Kind, count: u8, closed: bool, p: &[u8]) -> bool
-    requires { ⌜ aheadOf k ≤ length (now p) ⌝ }
-    ensures { λ r. ⌜ r ≡ acceptedFor count closed k (now (p .entry)) ⌝ }
+fn accepted(kind: Kind, count: u8, closed: bool, payload: &[u8]) -> bool
+    requires { ⌜ aheadOf kind ≤ length (now payload) ⌝ }
+    ensures { λ r. ⌜ r ≡ acceptedFor count closed kind (now (payload .entry)) ⌝ }
 {
-    match k {
+    match kind {
         Kind::Image(_) => numbers::or(closed, 8 <= count),
-        Kind::Reading => p[0] < count,
-        Kind::Conversion => p[0] < count,
+        Kind::Reading => payload[0] < count,
+        Kind::Conversion => payload[0] < count,
         Kind::Transaction(_) => 0 < count,
-        Kind::PowerOn => p[0] < count,
-        Kind::Sample => p[0] < count,
+        Kind::PowerOn => payload[0] < count,
+        Kind::Sample => payload[0] < count,
         Kind::Unknown => false,
     }
 }
@@ -140,32 +140,32 @@ fn asked(
     again: bool,
     last: Tick,
     room: usize,
-    p: &[u8],
+    payload: &[u8],
 ) -> Taken
-    ensures { λ r. ⌜ r ≡ fittedOf room (trayAskedAt count closed again last kind (now (p .entry))) ⌝ }
+    ensures { λ r. ⌜ r ≡ fittedOf room (trayAskedAt count closed again last kind (now (payload .entry))) ⌝ }
 {
-    let k = kind_of(kind);
-    let from = ahead(k);
-    if p.len() < from {
+    let decoded = kind_of(kind);
+    let from = ahead(decoded);
+    if payload.len() < from {
         return Taken::Refused(Refusal::Size);
     }
-    let loaded = accepted(k, count, closed, p);
-    record::fitted_by(k, again, loaded, last, room, &p[from..])
+    let loaded = accepted(decoded, count, closed, payload);
+    record::fitted_by(decoded, again, loaded, last, room, &payload[from..])
 }
 
-// The record at the front of l, by whether an accepted pack has an image's address, by the tick of the slot's pack, and with so many bytes of
+// The record at the front of the rest, by whether an accepted pack has an image's address, by the tick of the slot's pack, and with so many bytes of
 // reply room left.
-pub fn front(l: &[u8], count: u8, closed: bool, again: bool, last: Tick, room: usize) -> Record
-    ensures { λ r. ⌜ r ≡ frontBy (trayAskedAt count closed again last) room (now (l .entry)) ⌝ }
+pub fn front(rest: &[u8], count: u8, closed: bool, again: bool, last: Tick, room: usize) -> Record
+    ensures { λ r. ⌜ r ≡ frontBy (trayAskedAt count closed again last) room (now (rest .entry)) ⌝ }
 {
-    if runs::whole(l) {
-        let n = slices::pair(l, 0) as usize;
-        let kind = slices::pair(l, 2);
+    if runs::whole(rest) {
+        let n = slices::pair(rest, 0) as usize;
+        let kind = slices::pair(rest, 2);
         let end = 4 + n;
-        let t = asked(kind, count, closed, again, last, room, &l[4..end]);
-        return runs::read_off(kind, end, t);
+        let taken = asked(kind, count, closed, again, last, room, &rest[4..end]);
+        return runs::read_off(kind, end, taken);
     }
-    runs::refused(0, 2, l.len())
+    runs::refused(0, 2, rest.len())
 }
 
 // ---- the search
@@ -185,8 +185,8 @@ fn search(commons: [Common; 8], count: u8, address: &[u8]) -> Found
     'slots: while i < n {
         let slot = i;
         i += 1;
-        let k = commons[slot];
-        let own = k.address;
+        let common = commons[slot];
+        let own = common.address;
         sized(own);
         let mut j = 0;
         while j < 8 {
@@ -237,47 +237,47 @@ fn wire(reply: &[u8], room: &mut [u8])
 }
 
 // A pack that hears a transaction with others: its reply joins theirs at the front of the room.
-fn heard(g: Gauge, t: Transaction, master: &[u8], room: &mut [u8]) -> Gauge
-    requires { ⌜ GaugeWF g ⌝ }
-    requires { ⌜ t .count ≤ 256 ⌝ }
-    requires { ⌜ t .count ≤ length (now room) ⌝ }
-    ensures { λ r. ⌜ r ≡ actOf g t (now (master .entry)) ⌝ }
-    ensures replied { λ r. ⌜ now (room .exit) ≡ andBytes (now (room .entry)) (replyOf g t (now (master .entry))) ⌝ }
+fn heard(gauge: Gauge, transaction: Transaction, master: &[u8], room: &mut [u8]) -> Gauge
+    requires { ⌜ GaugeWF gauge ⌝ }
+    requires { ⌜ transaction .count ≤ 256 ⌝ }
+    requires { ⌜ transaction .count ≤ length (now room) ⌝ }
+    ensures { λ r. ⌜ r ≡ actOf gauge transaction (now (master .entry)) ⌝ }
+    ensures replied { λ r. ⌜ now (room .exit) ≡ andBytes (now (room .entry)) (replyOf gauge transaction (now (master .entry))) ⌝ }
     ensures kept { λ r. ⌜ GaugeWF r ⌝ }
 {
-    let n = t.count as usize;
+    let n = transaction.count as usize;
     let mut reply = [0u8; 256];
-    let h = g.transact(t, master, &mut reply);
+    let after = gauge.transact(transaction, master, &mut reply);
     wire(&reply[..n], room);
-    h
+    after
 }
 
 // Each pack carries the transaction out by itself; their replies go to the front of the room as one.
-fn every(mut tray: Tray, t: Transaction, master: &[u8], room: &mut [u8]) -> Tray
+fn every(mut tray: Tray, transaction: Transaction, master: &[u8], room: &mut [u8]) -> Tray
     requires { ⌜ TrayWF tray ⌝ }
-    requires { ⌜ t .count ≤ 256 ⌝ }
-    requires { ⌜ t .count ≤ length (now room) ⌝ }
-    ensures { λ r. ⌜ r ≡ actedFirst t (now (master .entry)) tray (tray .count) ⌝ }
-    ensures replied { λ r. ⌜ now (room .exit) ≡ wiredFirst t (now (master .entry)) tray (tray .count) ++ drop (t .count) (now (room .entry)) ⌝ }
+    requires { ⌜ transaction .count ≤ 256 ⌝ }
+    requires { ⌜ transaction .count ≤ length (now room) ⌝ }
+    ensures { λ r. ⌜ r ≡ actedFirst transaction (now (master .entry)) tray (tray .count) ⌝ }
+    ensures replied { λ r. ⌜ now (room .exit) ≡ wiredFirst transaction (now (master .entry)) tray (tray .count) ++ drop (transaction .count) (now (room .entry)) ⌝ }
     ensures kept { λ r. ⌜ TrayWF r ⌝ }
 {
-    let n = t.count as usize;
+    let n = transaction.count as usize;
     let count = slices::wide(tray.count);
-    replies::idle(&mut room[..n]);
+    replies::fill_ones(&mut room[..n]);
     let mut i = 0;
     while i < count {
-        let k = tray.commons[i];
-        let l = tray.labels[i];
-        let m = tray.meters[i];
-        let g = Gauge {
-            common: k,
-            label: l,
-            meter: m,
+        let old_common = tray.commons[i];
+        let old_label = tray.labels[i];
+        let old_meter = tray.meters[i];
+        let gauge = Gauge {
+            common: old_common,
+            label: old_label,
+            meter: old_meter,
         };
-        let h = heard(g, t, master, room);
-        let common = h.common;
-        let label = h.label;
-        let meter = h.meter;
+        let after = heard(gauge, transaction, master, room);
+        let common = after.common;
+        let label = after.label;
+        let meter = after.meter;
         tray.commons[i] = common;
         tray.labels[i] = label;
         tray.meters[i] = meter;
@@ -303,27 +303,27 @@ fn aimed(rom: Rom, commons: [Common; 8], count: u8, master: &[u8]) -> Found
 }
 
 // It goes to one pack alone.
-fn one(mut tray: Tray, slot: u8, t: Transaction, master: &[u8], room: &mut [u8]) -> Tray
+fn one(mut tray: Tray, slot: u8, transaction: Transaction, master: &[u8], room: &mut [u8]) -> Tray
     requires { ⌜ TrayWF tray ⌝ }
     requires { ⌜ slot < 8 ⌝ }
-    requires { ⌜ t .count ≤ length (now room) ⌝ }
-    ensures { λ r. ⌜ r ≡ actedAt t (now (master .entry)) tray slot tray ⌝ }
-    ensures replied { λ r. ⌜ now (room .exit) ≡ replyOf (packOf tray slot) t (now (master .entry)) ++ drop (t .count) (now (room .entry)) ⌝ }
+    requires { ⌜ transaction .count ≤ length (now room) ⌝ }
+    ensures { λ r. ⌜ r ≡ actedAt transaction (now (master .entry)) tray slot tray ⌝ }
+    ensures replied { λ r. ⌜ now (room .exit) ≡ replyOf (packOf tray slot) transaction (now (master .entry)) ++ drop (transaction .count) (now (room .entry)) ⌝ }
     ensures kept { λ r. ⌜ TrayWF r ⌝ }
 {
     let i = slices::wide(slot);
-    let k = tray.commons[i];
-    let l = tray.labels[i];
-    let m = tray.meters[i];
-    let g = Gauge {
-        common: k,
-        label: l,
-        meter: m,
+    let old_common = tray.commons[i];
+    let old_label = tray.labels[i];
+    let old_meter = tray.meters[i];
+    let gauge = Gauge {
+        common: old_common,
+        label: old_label,
+        meter: old_meter,
     };
-    let h = g.transact(t, master, room);
-    let common = h.common;
-    let label = h.label;
-    let meter = h.meter;
+    let after = gauge.transact(transaction, master, room);
+    let common = after.common;
+    let label = after.label;
+    let meter = after.meter;
     tray.commons[i] = common;
     tray.labels[i] = label;
     tray.meters[i] = meter;
@@ -331,19 +331,19 @@ fn one(mut tray: Tray, slot: u8, t: Transaction, master: &[u8], room: &mut [u8])
 }
 
 // A transaction: its reply goes to the front of the room, exactly its read count of bytes.
-pub fn transacted(tray: Tray, t: Transaction, master: &[u8], room: &mut [u8]) -> Tray
+pub fn transacted(tray: Tray, transaction: Transaction, master: &[u8], room: &mut [u8]) -> Tray
     requires { ⌜ TrayWF tray ⌝ }
-    requires { ⌜ t .count ≤ 256 ⌝ }
-    requires { ⌜ t .count ≤ length (now room) ⌝ }
-    ensures { λ r. ⌜ r ≡ trayActed t (now (master .entry)) (trayReach tray t (now (master .entry))) tray ⌝ }
-    ensures replied { λ r. ⌜ now (room .exit) ≡ trayReply t (now (master .entry)) (trayReach tray t (now (master .entry))) tray ++ drop (t .count) (now (room .entry)) ⌝ }
+    requires { ⌜ transaction .count ≤ 256 ⌝ }
+    requires { ⌜ transaction .count ≤ length (now room) ⌝ }
+    ensures { λ r. ⌜ r ≡ trayActed transaction (now (master .entry)) (trayReach tray transaction (now (master .entry))) tray ⌝ }
+    ensures replied { λ r. ⌜ now (room .exit) ≡ trayReply transaction (now (master .entry)) (trayReach tray transaction (now (master .entry))) tray ++ drop (transaction .count) (now (room .entry)) ⌝ }
     ensures kept { λ r. ⌜ TrayWF r ⌝ }
 {
-    let rom = t.rom;
+    let rom = transaction.rom;
     let commons = tray.commons;
-    let f = aimed(rom, commons, tray.count, master);
-    match f {
-        Found::At(i) => one(tray, i, t, master, room),
-        Found::Nowhere => every(tray, t, master, room),
+    let found = aimed(rom, commons, tray.count, master);
+    match found {
+        Found::At(i) => one(tray, i, transaction, master, room),
+        Found::Nowhere => every(tray, transaction, master, room),
     }
 }

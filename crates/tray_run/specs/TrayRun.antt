@@ -22,24 +22,24 @@ trayLines s room = linesAfter trayDid emptyTray room (recsOf s)
 
 -- what `run` hands back, as every run does
 abbrev pub trayResultOf : Ran → Result Tray
-trayResultOf r = record { outcome = r .ended .outcome; state = r .tray; lines = r .ended .lines; replied = r .ended .replied }
+trayResultOf ran = record { outcome = ran .ended .outcome; state = ran .tray; lines = ran .ended .lines; replied = ran .ended .replied }
 
 -- a tray session that is not run, as the code hands it back
 abbrev pub trayIdleOf : Outcome → Ran
-trayIdleOf o = record { tray = emptyTray; ended = record { outcome = o; lines = 0; replied = 0 } }
+trayIdleOf outcome = record { tray = emptyTray; ended = record { outcome = outcome; lines = 0; replied = 0 } }
 
 -- ---- the image taken out of a slot: 5 for a slot without an image, from 8 on too, then 9 for a room under 60, or under 61
 
 abbrev pub slotHeld : Tray → ℕ → Bool
-slotHeld τ i = both (ltb i 8) (ltb i (τ .count))
+slotHeld tray i = both (ltb i 8) (ltb i (tray .count))
 
 abbrev pub slotOutNumber : Tray → ℕ → List ℕ → ℕ
-slotOutNumber τ i room =
-    pick (slotHeld τ i) (pick (leb (sizeFor (packOf τ i)) (length room)) 0 (refusalNumber Room)) (refusalNumber Order)
+slotOutNumber tray i room =
+    pick (slotHeld tray i) (pick (leb (sizeFor (packOf tray i)) (length room)) 0 (refusalNumber Room)) (refusalNumber Order)
 
 -- nothing is written on a refusal
 abbrev pub slotOutRoom : Tray → ℕ → List ℕ → List ℕ
-slotOutRoom τ i room = pick (slotHeld τ i) (roomAfter (leb (sizeFor (packOf τ i)) (length room)) (packOf τ i) room) room
+slotOutRoom tray i room = pick (slotHeld tray i) (roomAfter (leb (sizeFor (packOf tray i)) (length room)) (packOf tray i) room) room
 
 pub record SlotOut (τ : Tray) (i : ℕ) (room : List ℕ) (answer : ℕ) (after : List ℕ) : Type 0 where
   pub number : answer ≡ slotOutNumber τ i room

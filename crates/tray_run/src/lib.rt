@@ -29,17 +29,17 @@ pub struct Ran {
 }
 
 // A tray with the pack of an image more.
-fn pack_joined(before: Tray, f: Profile, image: &[u8]) -> Tray
-    requires { ⌜ TrayWF before × (before .count < 8) × (length (now image) ≡ imageSizeOf f) ⌝ }
-    ensures { λ r. ⌜ r ≡ packJoined before (imageOf f (now (image .entry))) ⌝ }
+fn pack_joined(before: Tray, profile: Profile, image: &[u8]) -> Tray
+    requires { ⌜ TrayWF before × (before .count < 8) × (length (now image) ≡ imageSizeOf profile) ⌝ }
+    ensures { λ r. ⌜ r ≡ packJoined before (imageOf profile (now (image .entry))) ⌝ }
     ensures kept { λ r. ⌜ TrayWF r ⌝ }
 {
     let mut tray = before;
     let n = slices::wide(tray.count);
-    let g = gauge::image_in(f, image);
-    let common = g.common;
-    let label = g.label;
-    let meter = g.meter;
+    let gauge = gauge::image_in(profile, image);
+    let common = gauge.common;
+    let label = gauge.label;
+    let meter = gauge.meter;
     tray.commons[n] = common;
     tray.labels[n] = label;
     tray.meters[n] = meter;
@@ -49,79 +49,91 @@ fn pack_joined(before: Tray, f: Profile, image: &[u8]) -> Tray
 
 // The match on the event stands in the loop itself, where a slot's parts are taken out and stored back, so that no tray goes through a result but
 // that of an image or a transaction. A record that is cut ends the loop, and is answered behind it.
-fn run_all(s: &[u8], room: &mut [u8], answers: &mut [u64]) -> Ran
-    requires { ⌜ length (now s) ≤ 32768 ⌝ }
-    requires { ⌜ (length (now s) + 3) / 4 ≤ length (now answers) ⌝ }
-    ensures { λ r. ⌜ Running trayDid emptyTray (now (s .entry)) (now (room .entry)) (now (answers .entry)) (trayResultOf r) (now (room .exit)) (now (answers .exit)) ⌝ }
+fn run_all(bytes: &[u8], room: &mut [u8], answers: &mut [u64]) -> Ran
+    requires { ⌜ length (now bytes) ≤ 32768 ⌝ }
+    requires { ⌜ (length (now bytes) + 3) / 4 ≤ length (now answers) ⌝ }
+    ensures { λ r. ⌜ Running trayDid emptyTray (now (bytes .entry)) (now (room .entry)) (now (answers .entry)) (trayResultOf r) (now (room .exit)) (now (answers .exit)) ⌝ }
 {
     let mut tray = tray_record::empty();
     let mut at = 0;
     let mut used = 0;
     let mut lines = 0;
-    while runs::whole(&s[at..]) {
-        let l = &s[at..];
-        let slot = tray_record::slot(l);
+    while runs::whole(&bytes[at..]) {
+        let rest = &bytes[at..];
+        let slot = tray_record::slot(rest);
         let mut again = false;
-        if tray_record::image_at(l) {
+        if tray_record::image_at(rest) {
             let commons = tray.commons;
-            again = tray_record::known(commons, tray.count, &l[4..12]);
+            again = tray_record::known(commons, tray.count, &rest[4..12]);
         }
         let last = Tick {
             any: tray.meters[slot].flow.tick.any,
             last: tray.meters[slot].flow.tick.last,
         };
-        let r = tray_record::front(l, tray.count, tray.closed, again, last, room.len() - used);
-        let end = r.used;
-        let mut line = runs::code(r.kind, r.answer, 0);
+        let first = tray_record::front(
+            rest,
+            tray.count,
+            tray.closed,
+            again,
+            last,
+            room.len() - used,
+        );
+        let end = first.used;
+        let mut line = runs::code(first.kind, first.answer, 0);
         at = at + end;
-        let asked = r.event;
+        let asked = first.event;
         match asked {
             Asked::Nothing => {}
-            Asked::Run(e) => match e {
-                Event::Image(f) => {
-                    tray = pack_joined(tray, f, &l[4..end]);
+            Asked::Run(event) => match event {
+                Event::Image(profile) => {
+                    tray = pack_joined(tray, profile, &rest[4..end]);
                 }
-                Event::Change(c) => {
-                    match c {
+                Event::Change(change) => {
+                    match change {
                         Change::Reading(volt, temp) => {
-                            let m = tray.meters[slot];
-                            let next = reading::read(m, volt, temp);
+                            let old_meter = tray.meters[slot];
+                            let next = reading::read(old_meter, volt, temp);
                             tray.meters[slot] = next;
                         }
                         Change::Conversion(raw) => {
-                            let m = tray.meters[slot];
-                            let next = conversion::convert(m, raw);
+                            let old_meter = tray.meters[slot];
+                            let next = conversion::convert(old_meter, raw);
                             tray.meters[slot] = next;
                         }
                         Change::Sample(raw, tick) => {
-                            let m = tray.meters[slot];
-                            let next = samples::sample(m, raw, tick);
+                            let old_meter = tray.meters[slot];
+                            let next = samples::sample(old_meter, raw, tick);
                             tray.meters[slot] = next;
                         }
                         Change::PowerOn => {
-                            let k = tray.labels[slot];
-                            let m = tray.meters[slot];
-                            let label = label::powered(k);
-                            let next = m.restarted();
+                            let old_label = tray.labels[slot];
+                            let old_meter = tray.meters[slot];
+                            let label = label::powered(old_label);
+                            let next = old_meter.restarted();
                             tray.labels[slot] = label;
                             tray.meters[slot] = next;
                         }
                     }
                     tray.closed = true;
                 }
-                Event::Transact(t) => {
-                    let from = 4 + t.start as usize;
-                    tray = tray_record::transacted(tray, t, &l[from..end], &mut room[used..]);
+                Event::Transact(transaction) => {
+                    let from = 4 + transaction.start as usize;
+                    tray = tray_record::transacted(
+                        tray,
+                        transaction,
+                        &rest[from..end],
+                        &mut room[used..],
+                    );
                     tray.closed = true;
-                    used = used + (t.count as usize);
-                    line = runs::code(r.kind, r.answer, t.count);
+                    used = used + (transaction.count as usize);
+                    line = runs::code(first.kind, first.answer, transaction.count);
                 }
             },
         }
         answers[lines] = line;
         lines = lines + 1;
     }
-    if at < s.len() {
+    if at < bytes.len() {
         answers[lines] = runs::code(0, 2, 0);
         lines = lines + 1;
     }
@@ -168,17 +180,17 @@ pub fn take_out(tray: Tray, slot: u8, room: &mut [u8]) -> u8
         let common = commons[i];
         let label = labels[i];
         let meter = meters[i];
-        let g = Gauge {
+        let gauge = Gauge {
             common: common,
             label: label,
             meter: meter,
         };
-        if gauge::image_out(g, room) {
+        if gauge::image_out(gauge, room) {
             return 0;
         }
-        return record::number(Taken::Refused(Refusal::Room));
+        return record::taken_number(Taken::Refused(Refusal::Room));
     }
-    record::number(Taken::Refused(Refusal::Order))
+    record::taken_number(Taken::Refused(Refusal::Order))
 }
 
 // How many bytes the image of a slot has; as many as one of kind 1 where a tray has no such slot.
@@ -193,19 +205,19 @@ pub fn image_size(tray: Tray, slot: u8) -> usize
     if i < 8 {
         let meter = meters[i];
         let cells = meter.cells;
-        let f = cells.profile;
-        return state::size(f);
+        let profile = cells.profile;
+        return state::image_size(profile);
     }
     60
 }
 
 // A whole tray session: an answer for each record, the replies one after the other at the front of the room, the state at the end. Nothing
 // is run and nothing written where it is over 32,768 bytes, or where fewer answers are lent than it may have records.
-pub fn run(s: &[u8], room: &mut [u8], answers: &mut [u64]) -> Ran
-    ensures { λ r. ⌜ Runs trayDid emptyTray (now (s .entry)) (now (room .entry)) (now (answers .entry)) (trayResultOf r) (now (room .exit)) (now (answers .exit)) ⌝ }
+pub fn run(bytes: &[u8], room: &mut [u8], answers: &mut [u64]) -> Ran
+    ensures { λ r. ⌜ Runs trayDid emptyTray (now (bytes .entry)) (now (room .entry)) (now (answers .entry)) (trayResultOf r) (now (room .exit)) (now (answers .exit)) ⌝ }
 {
-    match runs::outcome_of(s.len(), answers.len()) {
-        Outcome::Done => run_all(s, room, answers),
+    match runs::outcome_of(bytes.len(), answers.len()) {
+        Outcome::Done => run_all(bytes, room, answers),
         Outcome::Over => idle(Outcome::Over),
         Outcome::Short => idle(Outcome::Short),
     }

@@ -20,7 +20,7 @@ byte-for-requires-2 c κs =
 
 -- what is set has the mark, and LEARNF cleared
 marked : (c : tie.After-set) → let a = c .before .before .before .before .before .before .before .before .before .args in
-    c .set .result ≡ markedOf (setOf (a .g) (c .before .joined .result) false)
+    c .set .result ≡ markedOf (setOf (a .charge) (c .before .joined .result) false)
 marked c = c .set .ensures
 
 returns : tie.Need-returns

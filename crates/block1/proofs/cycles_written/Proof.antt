@@ -18,7 +18,7 @@ returns c =
     let c3 = c2 .before in
     let c4 = c3 .before in
     let c5 = c4 .before in
-    simp (sym (c5 .reaches .ensures) ∙ c4 .if1 .taken, sym (c3 .counts .ensures), sym (c2 .and-not .ensures) ∙ c1 .if2 .taken, c .byte-for .ensures)
+    simp (sym (c5 .reaches .ensures) ∙ c4 .if1 .taken, sym (c3 .counts-cycles .ensures), sym (c2 .and-not .ensures) ∙ c1 .if2 .taken, c .byte-for .ensures)
 
 returns-2 : tie.Need-returns-2
 unfolding cyclesWrittenOf
@@ -27,7 +27,7 @@ returns-2 c =
     let c2 = c1 .before in
     let c3 = c2 .before in
     let c4 = c3 .before in
-    simp (sym (c4 .reaches .ensures) ∙ c3 .if1 .taken, sym (c2 .counts .ensures), sym (c1 .and-not .ensures) ∙ c .if2 .left)
+    simp (sym (c4 .reaches .ensures) ∙ c3 .if1 .taken, sym (c2 .counts-cycles .ensures), sym (c1 .and-not .ensures) ∙ c .if2 .left)
 
 returns-3 : tie.Need-returns-3
 unfolding cyclesWrittenOf

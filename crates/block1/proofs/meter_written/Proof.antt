@@ -11,7 +11,7 @@ use Rattle.block1.proofs.meter_written.Statement.{statement}
 use Rattle.block1.proofs.meter_written.Tie as tie
 
 -- the charge is that after a write of ACR, and nothing of the flow is written
-charged : (c : tie.After-acr-written) → let a = c .before .before .before .before .before .args in c .acr-written .result ≡ meterWrittenOf (a .m) (a .a) (now (a .bytes)) .charge
+charged : (c : tie.After-acr-written) → let a = c .before .before .before .before .before .args in c .acr-written .result ≡ meterWrittenOf (a .meter) (a .a) (now (a .bytes)) .charge
 unfolding meterWrittenOf
 charged c = c .acr-written .ensures .0
 
@@ -27,7 +27,7 @@ returns c =
     let c3 = c2 .before in
     let c5 = c3 .before .before in
     let c7 = c5 .before .before in
-    let m = c7 .args .m in
+    let m = c7 .args .meter in
     let a = c7 .args .a in
     let bytes = now (c7 .args .bytes) in
     let w = c7 .pre .0 in (
@@ -47,7 +47,7 @@ returns-2 c =
     let c1 = c .before in
     let c3 = c1 .before .before in
     let w = c3 .pre .0 in (
-      rw (written-above (c3 .args .m) (c3 .args .a) (now (c3 .args .bytes)) (c .if1 .left)) (simp (c1 .cells-written .ensures)),
+      rw (written-above (c3 .args .meter) (c3 .args .a) (now (c3 .args .bytes)) (c .if1 .left)) (simp (c1 .cells-written .ensures)),
       record { charge = w .charge; average = w .average; full = w .full; volt = w .volt; temp = w .temp },
     )
 

@@ -9,7 +9,7 @@ returns : tie.Need-returns
 returns c =
     let start = c .before .before .before .before .before .before .before .before .before .before .before .before .before .before .before .before .before in
     record {
-      number = cc (number-eight (now (start .args .s)) (start .pre));
+      number = cc (number-eight (now (start .args .bytes)) (start .pre));
       bytes = λ i. omega (arith, c .before .shared-slice-known9 .given i);
     }
 

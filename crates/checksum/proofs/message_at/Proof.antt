@@ -12,7 +12,7 @@ use Rattle.checksum.proofs.message_at.Tie as tie
 part-crc-end : tie.Need-part-crc-end
 part-crc-end c =
     let start = c .before .before .before .before .before in
-    let left = length (now (start .args .s)) - (start .args .at + 1) in
+    let left = length (now (start .args .bytes)) - (start .args .at + 1) in
     omega (arith, there-left (c .before .before .wide .result) left (sym (c .before .there .ensures) ∙ c .if1 .taken))
 
 returns : tie.Need-returns
@@ -20,7 +20,7 @@ returns c =
     let asked = c .before .before .before .before in
     let read = asked .before in
     whole-answer (read .before .before .before .pre) (read .wide .ensures .0) (sym (asked .there .ensures) ∙ c .before .before .before .if1 .taken)
-    (c .before .crc .ensures) (c .sum .ensures)
+    (c .before .crc .ensures) (c .crc-line .ensures)
 
 returns-2 : tie.Need-returns-2
 returns-2 c =

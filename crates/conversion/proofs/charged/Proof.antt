@@ -9,7 +9,7 @@ use Rattle.conversion.proofs.charged.Statement.{statement}
 use Rattle.conversion.proofs.charged.Tie as tie
 
 -- the places, from the first on
-abbrev start : tie.After-counts → tie.Start
+abbrev start : tie.After-counts-cycles → tie.Start
 start c = c .before .before .before
 
 abbrev counting : tie.After-of → tie.Then1
@@ -29,7 +29,7 @@ returns c =
     also MeterWF
     ((λ i. withCycles (withCharge m (s .charge))
     ((c .before .before .advanced .ensures ∙ (λ j. advancedOf (of .of .ensures j .full40) (m .cycles .count) (m .cycles .rest + fell j))) i))
-    ∙ charged-counts m _ (s .charge) (sym (turn .before .counts .ensures) ∙ turn .if1 .taken))
+    ∙ charged-counts m _ (s .charge) (sym (turn .before .counts-cycles .ensures) ∙ turn .if1 .taken))
     (charged-wf m (s .charge) _ (first .pre .1 .0) (first .pre .0))
 
 returns-2 : tie.Need-returns-2
@@ -37,7 +37,7 @@ returns-2 c =
     let first = start (c .before) in
     let m = first .args .t1 in
     let g = first .args .stepped .charge in
-    also MeterWF (charged-stays m _ g (sym (c .before .counts .ensures) ∙ c .if1 .left)) (charged-wf m g _ (first .pre .1 .0) (first .pre .0))
+    also MeterWF (charged-stays m _ g (sym (c .before .counts-cycles .ensures) ∙ c .if1 .left)) (charged-wf m g _ (first .pre .1 .0) (first .pre .0))
 
 pub charged-spec : {M : Type 1} → statement M
 charged-spec = tie.close (tie.spec (λ c κs. search needs) (λ c κs. search needs) (λ c κs. search needs) returns returns-2)

@@ -13,7 +13,7 @@ cast-acr c =
     let c3 = c2 .before in
     let c5 = c3 .before .before in
     let c6 = c5 .before in
-    let high : c .share-up .result ≤ 65535 = rw (c .share-up .ensures, c1 .aged-full .ensures, c2 .choose8 .ensures, c3 .learnt .ensures, c5 .and .ensures) (filled-high (c6 .args .g) (c6 .args .full) (c6 .args .full40) (c6 .pre .0) (c6 .pre .1) (search needs)) in
+    let high : c .share-up .result ≤ 65535 = rw (c .share-up .ensures, c1 .aged-full .ensures, c2 .choose8 .ensures, c3 .learnt .ensures, c5 .and .ensures) (filled-high (c6 .args .charge) (c6 .args .full) (c6 .args .full40) (c6 .pre .0) (c6 .pre .1) (search needs)) in
     omega arith
 
 returns : tie.Need-returns

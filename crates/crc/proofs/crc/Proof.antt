@@ -37,14 +37,14 @@ loop-less c = search needs
 loop-again : tie.Need-loop-again Inv-loop μ-loop
 loop-again c =
     let at-loop = c .before .before .before .before in
-    let s = now (at-loop .before .before .before .args .s) in (
+    let s = now (at-loop .before .before .before .args .message) in (
       omega arith,
       rw (c .next .ensures) (sym (crc-more s (at-loop .loop .c) (at-loop .loop .i) (omega arith)) ∙ at-loop .loop .inv .1),
     )
 
 returns : tie.Need-returns Inv-loop μ-loop
 returns c =
-    let none = drop-of-length-le (now (c .before .before .before .before .args .s)) (c .loop-test .left) in
+    let none = drop-of-length-le (now (c .before .before .before .before .args .message)) (c .loop-test .left) in
     rw none at (c .before .loop .inv .1)
 
 pub crc-spec : {M : Type 1} → statement M

@@ -5,7 +5,7 @@ use lib.ListN.{length}
 use denote.Ref.{now}
 use Rattle.streams.specs.Streams.{error, refusedText}
 use Rattle.streams.proofs.Laws.{cut, seen}
-use Rattle.engines.specs.Engines.{sizeWords, comparedSpeech}
+use Rattle.engines.specs.Engines.{enginesSizeWords, comparedSpeech}
 use Rattle.engines.proofs.Laws.{alike}
 use borrow.Author.Needs.{needs}
 use Rattle.engines.proofs.compared.Statement.{statement}
@@ -18,7 +18,7 @@ returns-2 : tie.Need-returns-2
 returns-2 c =
     let size : length (now (c .before .before .before .before .before .before .before .args .input)) ≡ 32775 = omega arith in
     let read = ap comparedSpeech (cut (c .before .before .before .before .within .ensures)) in (
-      λ s front. rw (c .before .before .before .before .before .before .if1 .left, ← read ∙ seen comparedSpeech (error (refusedText 4 sizeWords)) 32774 alike size front) (c .put-compared .ensures),
+      λ s front. rw (c .before .before .before .before .before .before .if1 .left, ← read ∙ seen comparedSpeech (error (refusedText 4 enginesSizeWords)) 32774 alike size front) (c .put-compared .ensures),
       search needs,
     )
 

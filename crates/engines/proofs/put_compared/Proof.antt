@@ -11,8 +11,8 @@ use borrow.Author.Needs.{needs}
 use Rattle.engines.proofs.put_compared.Statement.{statement}
 use Rattle.engines.proofs.put_compared.Tie as tie
 
-bounds : (c : tie.Then1) → let n = length (now (c .before .before .before .before .args .s)) in (6 ≤ n) × (n ≤ 32774)
-bounds c = sized (length (now (c .before .before .before .before .args .s))) (sym (c .before .and .ensures) ∙ c .if1 .taken)
+bounds : (c : tie.Then1) → let n = length (now (c .before .before .before .before .args .bytes)) in (6 ≤ n) × (n ≤ 32774)
+bounds c = sized (length (now (c .before .before .before .before .args .bytes))) (sym (c .before .and .ensures) ∙ c .if1 .taken)
 
 quad-requires : tie.Need-quad-requires
 quad-requires c κs = omega (arith, bounds c .0)
@@ -29,7 +29,7 @@ part-run-start c = omega (arith, bounds (c .before .before .before) .0)
 returns : tie.Need-returns
 returns c =
     let asked = c .before .before .before .before .before .before .before .before .before .before .before .before .before in
-    let s = now (asked .before .before .before .before .args .s) in
+    let s = now (asked .before .before .before .before .args .bytes) in
     let run = c .before .before .before .before .before .before .run in
     lines-said s (sym (asked .before .and .ensures) ∙ asked .if1 .taken)
     (ended s (replicate 65536 0) (replicate 8192 0) (run .result) (run .last .1 .0) (run .last .1 .1 .0) (bounds asked .1)

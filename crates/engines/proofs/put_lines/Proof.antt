@@ -2,7 +2,7 @@
 use mathlib.Core.Path.{sym, _∙_}
 use native.Mathlib.Omega.{arith}
 use Rattle.digits.proofs.Laws.{none, then, wider}
-use Rattle.engines.specs.Engines.{linesText}
+use Rattle.engines.specs.Engines.{engineLines}
 use Rattle.engines.proofs.Laws.{sound-wf}
 use borrow.Author.Needs.{needs}
 use Rattle.engines.proofs.put_lines.Statement.{statement}
@@ -15,13 +15,13 @@ quick-requires : tie.Need-quick-requires
 quick-requires c κs = sound-wf _ (sym (c .before .before .before .before .before .before .sound .ensures) ∙ c .before .before .before .before .before .if1 .taken)
 
 returns : tie.Need-returns
-unfolding linesText
+unfolding engineLines
 returns c =
     rw (sym (c .before .before .before .before .before .before .before .before .before .before .before .sound .ensures) ∙ c .before .before .before .before .before .before .before .before .before .before .if1 .taken)
     (then (rw (c .before .before .before .before .before .before .before .before .before .plain .ensures .0) at (c .before .before .before .before .before .before .before .put-line .ensures)) (rw (c .before .before .before .before .quick .ensures .0) at (c .before .before .put-line2 .ensures)))
 
 returns-2 : tie.Need-returns-2
-unfolding linesText
+unfolding engineLines
 returns-2 c = rw (sym (c .before .sound .ensures) ∙ c .if1 .left) (wider (none _ 0) (omega arith))
 
 pub put-lines-spec : {M : Type 1} → statement M

@@ -8,7 +8,7 @@ use denote.Ref.{now}
 use lib.ListN.{drop}
 use Rattle.slices.specs.Slices.{put}
 use Rattle.slices.proofs.Laws.{put-next}
-use Rattle.gauge.specs.Image.{roomAfter, tailOf, cycleCell, endOf, bytesOf, sizeFor}
+use Rattle.gauge.specs.Image.{roomAfter, tailOf, cycleCell, imageEnd, bytesOf, sizeFor}
 use Rattle.gauge.proofs.Image.{joint-put, end-length}
 use borrow.Author.Needs.{needs}
 use Rattle.gauge.proofs.image_out.Statement.{statement}
@@ -17,7 +17,7 @@ use Rattle.gauge.proofs.image_out.Tie as tie
 returns : tie.Need-returns
 returns c =
     let c1 = c .before in
-    let short = lt-leb _ _ (rw (c1 .size .ensures .0) at (c .if1 .taken)) in
+    let short = lt-leb _ _ (rw (c1 .image-size .ensures .0) at (c .if1 .taken)) in
     record { fits = sym short; written = simp short }
 
 returns-2 : tie.Need-returns-2
@@ -32,16 +32,16 @@ returns-2 c =
     let c24 = c19 .before .before .before .before .before in
     let c25 = c24 .before in
     let c29 = c25 .before .before .before .before in
-    let g = c29 .args .g in
+    let g = c29 .args .gauge in
     let room = now (c29 .args .room) in
-    let fits = rw (c25 .size .ensures .0) at (c24 .if1 .left) in
+    let fits = rw (c25 .image-size .ensures .0) at (c24 .if1 .left) in
     let e = le-leb (sizeFor g) _ fits in
     let three = c11 .store32 .last .1 .0 in
     let cells = c6 .store4 .ensures .written ∙ ap (λ (l : List ℕ). put three 56 l) (c8 .tail .ensures) in
     let cell = cycleCell (g .meter .cells .profile) (g .meter .cells .saved .cycles) in
     let end = c2 .cycles-out .ensures ∙ ap (λ (l : List ℕ). put l 60 cell) cells ∙ put-next three 56 60 (tailOf g) cell refl in
     let bytes =
-    joint-put (g .common .address) (g .label .eeprom) (g .meter .cells .block .eeprom) (endOf g)
+    joint-put (g .common .address) (g .label .eeprom) (g .meter .cells .block .eeprom) (imageEnd g)
     (c19 .store8 .ensures .sized) (c15 .store16 .ensures .sized) (c11 .store32 .ensures .sized) room (omega (arith, fits, end-length g)) in
     record {
       fits = sym e;

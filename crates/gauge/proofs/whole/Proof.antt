@@ -4,7 +4,7 @@ use Rattle.gauge.proofs.whole.Statement.{statement}
 use Rattle.gauge.proofs.whole.Tie as tie
 
 returns : tie.Need-returns
-returns c = omega (arith, c .pre, sixty (c .args .f))
+returns c = omega (arith, c .pre, sixty (c .args .profile))
 
 pub whole-spec : {M : Type 1} → statement M
 whole-spec = tie.close (tie.spec returns)

@@ -16,7 +16,7 @@ add-if1 : tie.Need-add-if1
 add-if1 c = search needs
 
 returns : tie.Need-returns
-returns c = byte-past (now (c .before .before .args .l)) (c .before .before .args .k) (c .if1 .taken)
+returns c = byte-past (now (c .before .before .args .line)) (c .before .before .args .k) (c .if1 .taken)
 
 shared-slice-read-upper-byte : tie.Need-shared-slice-read-upper-byte
 shared-slice-read-upper-byte c = search needs
@@ -31,7 +31,7 @@ upper-byte-requires : tie.Need-upper-byte-requires
 upper-byte-requires c κs = search needs
 
 returns-2 : tie.Need-returns-2
-returns-2 c = c .upper-byte .ensures ∙ byte-read (now (c .before .before .before .before .before .args .l)) (c .before .before .before .before .before .args .k) (c .before .before .before .if1 .left)
+returns-2 c = c .upper-byte .ensures ∙ byte-read (now (c .before .before .before .before .before .args .line)) (c .before .before .before .before .before .args .k) (c .before .before .before .if1 .left)
 
 pub byte-in-spec : {M : Type 1} → statement M
 byte-in-spec =

@@ -7,14 +7,14 @@ use lib.Dec.{eqb}
 use lib.ListN.{length, drop, drop-of-length-le}
 use denote.Ref.{now}
 use Rattle.numbers.specs.Choice.{pick}
-use Rattle.hex.specs.Import.{linesOf, countOf}
+use Rattle.hex.specs.Import.{textLines, countOf}
 use Rattle.hex.proofs.Lines.{count-more}
 use borrow.Author.Needs.{needs}
 use Rattle.hex.proofs.count.Statement.{statement}
 use Rattle.hex.proofs.count.Tie as tie
 
 abbrev Inv-loop : tie.InvT-loop
-Inv-loop text address n₀ at₀ n at = (at ≤ length text) × (n ≤ at) × (n + countOf address (linesOf (drop at text)) ≡ countOf address (linesOf text))
+Inv-loop text address n₀ at₀ n at = (at ≤ length text) × (n ≤ at) × (n + countOf address (textLines (drop at text)) ≡ countOf address (textLines text))
 
 abbrev μ-loop : tie.MeasureT-loop
 μ-loop text address n₀ at₀ n at = length text - at

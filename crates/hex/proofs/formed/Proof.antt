@@ -7,7 +7,7 @@ use Rattle.hex.proofs.formed.Statement.{statement}
 use Rattle.hex.proofs.formed.Tie as tie
 
 returns : tie.Need-returns
-returns c = formed-short (now (c .before .before .args .l)) (c .if1 .taken)
+returns c = formed-short (now (c .before .before .args .line)) (c .if1 .taken)
 
 byte-in-requires : tie.Need-byte-in-requires
 byte-in-requires c κs = search needs
@@ -58,7 +58,7 @@ and-requires-3 : tie.Need-and-requires-3
 and-requires-3 c κs = search needs
 
 returns-2 : tie.Need-returns-2
-returns-2 c = cc (formed-asked (now (c .before .before .before .before .before .before .before .before .before .before .before .args .l)) (omega arith))
+returns-2 c = cc (formed-asked (now (c .before .before .before .before .before .before .before .before .before .before .before .args .line)) (omega arith))
 
 pub formed-spec : {M : Type 1} → statement M
 formed-spec =

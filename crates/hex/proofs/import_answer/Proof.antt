@@ -12,23 +12,23 @@ lines-answer-requires c κs = search needs
 enum-told : tie.Need-enum-told
 enum-told c = search needs
 
-whole-requires : tie.Need-whole-requires
-whole-requires c κs = search needs
+whole-text-requires : tie.Need-whole-text-requires
+whole-text-requires c κs = search needs
 
 returns : tie.Need-returns
 unfolding importAnswer
-returns c = rw (sym (c .before .before .before .before .before .lines-answer .ensures) ∙ c .before .before .before .enum-told .given .1, sym (c .before .before .whole .ensures) ∙ c .before .if1 .taken, lt-ltb _ _ (c .if2 .taken)) refl
+returns c = rw (sym (c .before .before .before .before .before .lines-answer .ensures) ∙ c .before .before .before .enum-told .given .1, sym (c .before .before .whole-text .ensures) ∙ c .before .if1 .taken, lt-ltb _ _ (c .if2 .taken)) refl
 
 returns-2 : tie.Need-returns-2
 unfolding importAnswer
-returns-2 c = rw (sym (c .before .before .before .before .before .lines-answer .ensures) ∙ c .before .before .before .enum-told .given .1, sym (c .before .before .whole .ensures) ∙ c .before .if1 .taken, le-ltb _ _ (c .if2 .left)) refl
+returns-2 c = rw (sym (c .before .before .before .before .before .lines-answer .ensures) ∙ c .before .before .before .enum-told .given .1, sym (c .before .before .whole-text .ensures) ∙ c .before .if1 .taken, le-ltb _ _ (c .if2 .left)) refl
 
 enum-known-lines : tie.Need-enum-known-lines
 enum-known-lines c = search needs
 
 returns-3 : tie.Need-returns-3
 unfolding importAnswer
-returns-3 c = rw (sym (c .before .before .before .before .lines-answer .ensures) ∙ c .before .before .enum-told .given .1, sym (c .before .whole .ensures) ∙ c .if1 .left) refl
+returns-3 c = rw (sym (c .before .before .before .before .lines-answer .ensures) ∙ c .before .before .enum-told .given .1, sym (c .before .whole-text .ensures) ∙ c .if1 .left) refl
 
 returns-4 : tie.Need-returns-4
 unfolding importAnswer
@@ -40,7 +40,7 @@ import-answer-spec =
     (tie.spec
     lines-answer-requires
     enum-told
-    whole-requires
+    whole-text-requires
     returns
     returns-2
     enum-known-lines

@@ -42,7 +42,7 @@ loop-less c = search needs
 
 loop-again : tie.Need-loop-again Inv-loop μ-loop
 loop-again c =
-    let l = now (c .before .before .before .before .before .args .l) in
+    let l = now (c .before .before .before .before .before .args .line) in
     let i = c .before .before .loop .i in
     let at = c .before .before .before .before .before .args .at in
     let byte = c .byte-in .ensures ∙ data-at l i (c .before .loop-test .taken) in (
@@ -57,7 +57,7 @@ same-length c = c .before .loop .inv .1
 
 returns : tie.Need-returns Inv-loop μ-loop
 returns c =
-    let none = drop-of-length-le (dataIn (now (c .before .before .before .before .args .l))) {i = c .before .loop .i} (omega (arith, data-length (now (c .before .before .before .before .args .l)) (c .before .before .before .before .pre .0), c .loop-test .left)) in
+    let none = drop-of-length-le (dataIn (now (c .before .before .before .before .args .line))) {i = c .before .loop .i} (omega (arith, data-length (now (c .before .before .before .before .args .line)) (c .before .before .before .before .pre .0), c .loop-test .left)) in
     rw none at (c .before .loop .inv .2)
 
 pub put-data-spec : {M : Type 1} → statement M

@@ -9,7 +9,7 @@ use lib.ListN.{length, drop, drop-of-length-le}
 use denote.Ref.{now}
 use Rattle.slices.specs.Slices.{part, put}
 use Rattle.hex.proofs.Laws.{data-long}
-use Rattle.hex.specs.Import.{linesOf, dataAt}
+use Rattle.hex.specs.Import.{textLines, dataAt}
 use Rattle.hex.proofs.Lines.{data-here, data-later}
 use borrow.Author.Needs.{needs}
 use Rattle.hex.proofs.put_found.Statement.{statement}
@@ -17,7 +17,7 @@ use Rattle.hex.proofs.put_found.Tie as tie
 
 abbrev Inv-loop : tie.InvT-loop
 Inv-loop text address room₀ to at₀ room at =
-    (at ≤ length text) × (room ≡ room₀) × (dataAt address (linesOf (drop at text)) ≡ dataAt address (linesOf text))
+    (at ≤ length text) × (room ≡ room₀) × (dataAt address (textLines (drop at text)) ≡ dataAt address (textLines text))
 
 abbrev μ-loop : tie.MeasureT-loop
 μ-loop text address room₀ to at₀ room at = length text - at
@@ -66,7 +66,7 @@ returns c =
     let found = sym (data-here (c .before .before .before .before .before .before .before .before .line-end .ensures) (c .before .before .before .before .before .before .before .before .before .before .before .before .before .args .address) same) ∙ c .before .before .before .before .before .before .before .before .before .before .loop .inv .2 in
     c .before .before .put-data .ensures
     ∙ ap (λ (xs : List ℕ). put (c .before .before .before .before .before .before .before .before .before .before .loop .room) (c .before .before .before .before .before .before .before .before .before .before .before .before .before .args .to) xs) found
-    ∙ ap (λ (l : List ℕ). put l (c .before .before .before .before .before .before .before .before .before .before .before .before .before .args .to) (dataAt (c .before .before .before .before .before .before .before .before .before .before .before .before .before .args .address) (linesOf (now (c .before .before .before .before .before .before .before .before .before .before .before .before .before .args .text))))) (c .before .before .before .before .before .before .before .before .before .before .loop .inv .1)
+    ∙ ap (λ (l : List ℕ). put l (c .before .before .before .before .before .before .before .before .before .before .before .before .before .args .to) (dataAt (c .before .before .before .before .before .before .before .before .before .before .before .before .before .args .address) (textLines (now (c .before .before .before .before .before .before .before .before .before .before .before .before .before .args .text))))) (c .before .before .before .before .before .before .before .before .before .before .loop .inv .1)
 
 loop-less : tie.Need-loop-less Inv-loop μ-loop
 loop-less c = omega (arith, c .before .before .before .line-end .ensures .onward, c .before .before .before .line-end .ensures .within)
@@ -82,7 +82,7 @@ same-length-2 c = ap length (c .before .loop .inv .1)
 returns-2 : tie.Need-returns-2 Inv-loop μ-loop
 returns-2 c =
     let none : drop (c .before .loop .at) (now (c .before .before .before .before .args .text)) ≡ [] = drop-of-length-le (now (c .before .before .before .before .args .text)) {i = c .before .loop .at} (c .loop-test .left) in
-    let empty = ap (λ (s : List ℕ). length (dataAt (c .before .before .before .before .args .address) (linesOf s))) (sym none) ∙ ap length (c .before .loop .inv .2) in
+    let empty = ap (λ (s : List ℕ). length (dataAt (c .before .before .before .before .args .address) (textLines s))) (sym none) ∙ ap length (c .before .loop .inv .2) in
     absurd (omega (arith, empty, c .before .before .before .before .pre .0))
 
 pub put-found-spec : {M : Type 1} → statement M

@@ -4,14 +4,14 @@ use Prim.Native.Nat.{_+_, _-_, _%_, _≤_, _<_}
 use native.Mathlib.Omega.{arith}
 use lib.ListN.{length, drop, drop-of-length-le}
 use denote.Ref.{now}
-use Rattle.hex.specs.Line.{sumOf}
+use Rattle.hex.specs.Line.{byteSum}
 use Rattle.hex.proofs.Laws.{sum-more}
 use borrow.Author.Needs.{needs}
 use Rattle.hex.proofs.total.Statement.{statement}
 use Rattle.hex.proofs.total.Tie as tie
 
 abbrev Inv-loop : tie.InvT-loop
-Inv-loop bytes sum₀ i₀ sum i = (i ≤ length bytes) × (sum < 256) × ((sum + sumOf (drop i bytes)) % 256 ≡ sumOf bytes % 256)
+Inv-loop bytes sum₀ i₀ sum i = (i ≤ length bytes) × (sum < 256) × ((sum + byteSum (drop i bytes)) % 256 ≡ byteSum bytes % 256)
 
 abbrev μ-loop : tie.MeasureT-loop
 μ-loop bytes sum₀ i₀ sum i = length bytes - i

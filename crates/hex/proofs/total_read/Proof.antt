@@ -5,14 +5,14 @@ use native.Mathlib.Omega.{arith}
 use lib.ListN.{length, drop, length-drop}
 use denote.Ref.{now}
 use Rattle.digits.specs.Digits.{upper, hexBytes}
-use Rattle.hex.specs.Line.{sumOf}
+use Rattle.hex.specs.Line.{byteSum}
 use Rattle.hex.proofs.Laws.{read-more, read-end}
 use borrow.Author.Needs.{needs}
 use Rattle.hex.proofs.total_read.Statement.{statement}
 use Rattle.hex.proofs.total_read.Tie as tie
 
 abbrev Inv-loop : tie.InvT-loop
-Inv-loop text sum₀ i₀ sum i = (i ≤ length text) × (sum < 256) × ((sum + sumOf (hexBytes upper (drop i text))) % 256 ≡ sumOf (hexBytes upper text) % 256)
+Inv-loop text sum₀ i₀ sum i = (i ≤ length text) × (sum < 256) × ((sum + byteSum (hexBytes upper (drop i text))) % 256 ≡ byteSum (hexBytes upper text) % 256)
 
 abbrev μ-loop : tie.MeasureT-loop
 μ-loop text sum₀ i₀ sum i = length text - i

@@ -5,7 +5,7 @@ use lib.ListN.{length}
 use denote.Ref.{now}
 use Rattle.streams.specs.Streams.{error}
 use Rattle.streams.proofs.Laws.{cut, seen}
-use Rattle.hex_in.specs.HexIn.{overText, mostText, hexInSpeech}
+use Rattle.hex_in.specs.HexIn.{hexInOverText, mostText, hexInSpeech}
 use Rattle.hex_in.proofs.Laws.{alike}
 use borrow.Author.Needs.{needs}
 use Rattle.hex_in.proofs.imported.Statement.{statement}
@@ -33,7 +33,7 @@ returns-2 : tie.Need-returns-2
 returns-2 c =
     let size : length (now (c .before .before .before .before .before .before .before .args .input)) ≡ 65537 = omega arith in
     let read = ap hexInSpeech (cut (c .before .before .before .before .within .ensures)) in (
-      λ s front. rw (c .before .before .before .before .before .before .if1 .left, ← read ∙ seen hexInSpeech (error overText) mostText alike size front) (c .put-import .ensures),
+      λ s front. rw (c .before .before .before .before .before .before .if1 .left, ← read ∙ seen hexInSpeech (error hexInOverText) mostText alike size front) (c .put-import .ensures),
       search needs,
     )
 

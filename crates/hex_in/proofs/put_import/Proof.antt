@@ -21,8 +21,8 @@ returns : tie.Need-returns
 unfolding hexInSpeech
 returns c = rw (lt-ltb _ _ (c .before .before .before .before .before .if1 .taken)) (record { stream = refl; counted = c .before .before .put-bytes .ensures .onward ∙ zero-add _; written = c .before .before .put-bytes .ensures .written })
 
-read-requires : tie.Need-read-requires
-read-requires c κs = search needs
+read-text-requires : tie.Need-read-text-requires
+read-text-requires c κs = search needs
 
 enum-told : tie.Need-enum-told
 enum-told c = search needs
@@ -37,13 +37,13 @@ same-length-2 : tie.Need-same-length-2
 same-length-2 c = search needs
 
 returns-2 : tie.Need-returns-2
-returns-2 c = bytes-said (c .before .before .before .before .read .ensures) (c .before .before .before .before .before .before .before .before .before .pre) (c .before .before .before .before .before .before .if1 .left) (c .enum-told .given .1)
+returns-2 c = bytes-said (c .before .before .before .before .read-text .ensures) (c .before .before .before .before .before .before .before .before .before .pre) (c .before .before .before .before .before .before .if1 .left) (c .enum-told .given .1)
 
 same-length-3 : tie.Need-same-length-3
 same-length-3 c = search needs
 
 returns-3 : tie.Need-returns-3
-returns-3 c = refusal-said (c .before .before .before .before .before .before .before .before .before .read .ensures) (c .before .before .before .before .before .before .before .before .before .before .before .before .before .before .pre) (c .before .before .before .before .before .before .before .before .before .before .before .if1 .left) (c .before .before .before .before .before .answer .given .1) (c .before .before .put-why .ensures)
+returns-3 c = refusal-said (c .before .before .before .before .before .before .before .before .before .read-text .ensures) (c .before .before .before .before .before .before .before .before .before .before .before .before .before .before .pre) (c .before .before .before .before .before .before .before .before .before .before .before .if1 .left) (c .before .before .before .before .before .answer .given .1) (c .before .before .put-why .ensures)
 
 pub put-import-spec : {M : Type 1} → statement M
 put-import-spec =
@@ -53,7 +53,7 @@ put-import-spec =
     put-bytes-requires
     same-length
     returns
-    read-requires
+    read-text-requires
     enum-told
     enum-known-answer
     put-why-requires

@@ -9,15 +9,15 @@ use Rattle.runs.specs.declared.Outcome.the-variants.{Over}
 use Rattle.streams.proofs.Laws.{cut, seen}
 use Rattle.text.specs.Text.{unrunSpeech}
 use Rattle.text.proofs.Printed.{over-said}
-use Rattle.image.specs.Image.{lastOf, imageSpeech, takenSpeech}
+use Rattle.image.specs.Image.{sessionAtEnd, imageSpeech, sessionImageSpeech}
 use borrow.Author.Needs.{needs}
 use Rattle.image.proofs.extracted.Statement.{statement}
 use Rattle.image.proofs.extracted.Tie as tie
 
 -- a session that is over 32,768 bytes: its bytes do not matter
-alike : (s : List ℕ) → 32768 < length s → takenSpeech s ≡ unrunSpeech Over
-unfolding takenSpeech
-alike s h = over-said s (imageSpeech (lastOf s)) h
+alike : (s : List ℕ) → 32768 < length s → sessionImageSpeech s ≡ unrunSpeech Over
+unfolding sessionImageSpeech
+alike s h = over-said s (imageSpeech (sessionAtEnd s)) h
 
 returns : tie.Need-returns
 returns c = (λ s front. rw (c .before .before .before .if1 .taken) (c .put-unread .ensures), search needs)
@@ -27,8 +27,8 @@ returns-2 c =
     let counted = c .before .before .before .before in
     let asked = counted .before .before in
     let size : length (now (asked .before .args .input)) ≡ 32769 = omega arith in
-    let read = ap takenSpeech (cut (counted .within .ensures)) in (
-      λ s front. rw (asked .if1 .left, ← read ∙ seen takenSpeech (unrunSpeech Over) 32768 alike size front) (c .put-taken .ensures),
+    let read = ap sessionImageSpeech (cut (counted .within .ensures)) in (
+      λ s front. rw (asked .if1 .left, ← read ∙ seen sessionImageSpeech (unrunSpeech Over) 32768 alike size front) (c .put-taken .ensures),
       search needs,
     )
 

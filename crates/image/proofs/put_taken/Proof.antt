@@ -7,7 +7,7 @@ use Rattle.runs.specs.declared.Outcome.the-variants.{Over, Short}
 use Rattle.runs.specs.SessionRecord.{didOf}
 use Rattle.session_run.specs.SessionRun.{emptyOf, resultOf}
 use Rattle.text.proofs.AtEnd.{AtEnd, at-end, done-said, idle-said}
-use Rattle.image.specs.Image.{lastOf, imageSpeech, takenSpeech}
+use Rattle.image.specs.Image.{sessionAtEnd, imageSpeech, sessionImageSpeech}
 use borrow.Author.Needs.{needs}
 use Rattle.image.proofs.put_taken.Statement.{statement}
 use Rattle.image.proofs.put_taken.Tie as tie
@@ -26,14 +26,14 @@ abbrev lent : tie.After-session → tie.Start
 lent c = known c .before .before
 
 -- what is known of its end
-ending : (c : tie.After-session) → AtEnd didOf emptyOf (now (lent c .args .s)) (resultOf (ran c .run .result))
+ending : (c : tie.After-session) → AtEnd didOf emptyOf (now (lent c .args .bytes)) (resultOf (ran c .run .result))
 ending c =
     let run = ran c .run in
     at-end didOf emptyOf _ (resultOf (run .result)) (replicate 65536 0) (replicate 8192 0) (run .last .1 .0) (run .last .1 .1 .0)
     (sym (length-replicate {A = ℕ} 8192 0)) (sym (length-replicate {A = ℕ} 65536 0)) (run .ensures)
 
 returns : tie.Need-returns
-unfolding takenSpeech lastOf
+unfolding sessionImageSpeech sessionAtEnd
 returns c =
     let said = c .before .before in
     let told = said .before .before in
@@ -41,7 +41,7 @@ returns c =
     done-said didOf emptyOf imageSpeech _ (ending end) (told .enum-told .given .1) (said .put-image .ensures)
 
 returns-2 : tie.Need-returns-2
-unfolding takenSpeech lastOf
+unfolding sessionImageSpeech sessionAtEnd
 returns-2 c =
     let said = c .before .before in
     let told = said .before .before in
@@ -49,7 +49,7 @@ returns-2 c =
     idle-said didOf emptyOf imageSpeech _ (ending end) Over (told .enum-told2 .given .1) (said .put-unrun .ensures)
 
 returns-3 : tie.Need-returns-3
-unfolding takenSpeech lastOf
+unfolding sessionImageSpeech sessionAtEnd
 returns-3 c =
     let said = c .before .before in
     let told = said .before .before in

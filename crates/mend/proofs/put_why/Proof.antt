@@ -5,10 +5,10 @@ use Rattle.mend.proofs.put_why.Statement.{statement}
 use Rattle.mend.proofs.put_why.Tie as tie
 
 returns : tie.Need-returns
-returns c = why-said (c .before .before .before .before .before .enum-told .given .1) (c .before .before .before .before .before .before .before .number .ensures) (c .before .before .put-refused .ensures)
+returns c = why-said (c .before .before .before .before .before .enum-told .given .1) (c .before .before .before .before .before .before .before .mended-number .ensures) (c .before .before .put-refused .ensures)
 
 returns-2 : tie.Need-returns-2
-returns-2 c = why-said (c .before .before .before .before .before .enum-told2 .given .1) (c .before .before .before .before .before .before .before .number .ensures) (c .before .before .put-refused2 .ensures)
+returns-2 c = why-said (c .before .before .before .before .before .enum-told2 .given .1) (c .before .before .before .before .before .before .before .mended-number .ensures) (c .before .before .put-refused2 .ensures)
 
 pub put-why-spec : {M : Type 1} → statement M
 put-why-spec =

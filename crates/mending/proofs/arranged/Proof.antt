@@ -6,15 +6,15 @@ use Rattle.mending.proofs.arranged.Statement.{statement}
 use Rattle.mending.proofs.arranged.Tie as tie
 
 -- each of the three by itself
-largest : (c : tie.After-larger2) → c .larger2 .result ≡ arrangedOf (c .before .before .before .args .b) .b34
+largest : (c : tie.After-larger2) → c .larger2 .result ≡ arrangedOf (c .before .before .before .args .breaks) .b34
 unfolding arrangedOf
 largest c = cc
 
-middle : (c : tie.After-larger3) → c .larger3 .result ≡ arrangedOf (c .before .before .before .before .before .args .b) .b23
+middle : (c : tie.After-larger3) → c .larger3 .result ≡ arrangedOf (c .before .before .before .before .before .args .breaks) .b23
 unfolding arrangedOf
 middle c = cc
 
-smallest : (c : tie.After-smaller3) → c .smaller3 .result ≡ arrangedOf (c .before .before .before .before .before .before .args .b) .b12
+smallest : (c : tie.After-smaller3) → c .smaller3 .result ≡ arrangedOf (c .before .before .before .before .before .before .args .breaks) .b12
 unfolding arrangedOf
 smallest c = cc
 

@@ -2,7 +2,7 @@
 use mathlib.Core.Path.{_≡_, refl, sym, ap, _∙_}
 use lib.ListN.{length}
 use denote.Ref.{now}
-use Rattle.mending.specs.declared.Why.{Why}
+use Rattle.mending.specs.declared.MendRefusal.{MendRefusal}
 use Rattle.mending.specs.declared.Mended.the-variants.{Refused}
 use Rattle.mending.specs.declared.Listed.the-variants as lines
 use Rattle.mending.specs.Mending.{mendedNumber, listedNumber, changesSize}
@@ -24,7 +24,7 @@ returns : tie.Need-returns
 returns c = listed _ (sym (c .before .before .before .before .before .before .before .before .answer .ensures) ∙ c .before .before .before .before .before .before .enum-told .given .1) (c .before .before .before .before .before .mended-image .ensures) (c .before .before .put-changes .ensures)
 
 -- a refusal has the number that it has in mending
-numbered : (why : Why) → listedNumber (lines.Refused why) ≡ mendedNumber (Refused why)
+numbered : (why : MendRefusal) → listedNumber (lines.Refused why) ≡ mendedNumber (Refused why)
 numbered why = refl
 
 returns-2 : tie.Need-returns-2

@@ -4,7 +4,7 @@ use mathlib.Core.List.{List}
 use Prim.Native.Nat.{ℕ}
 use lib.ListN.{length}
 use denote.Ref.{now}
-use Rattle.mending.specs.declared.Why.{Why}
+use Rattle.mending.specs.declared.MendRefusal.{MendRefusal}
 use Rattle.mending.specs.declared.Mended.the-variants.{Refused}
 use Rattle.mending.specs.Mending.{mendedNumber, mendedRoom}
 use Rattle.mending.proofs.Laws.{granted}
@@ -24,7 +24,7 @@ returns c =
     record { number = ap mendedNumber (sym found); answer = sym found; written = rw found (c .before .before .put-mended .ensures) }
 
 -- a refusal leaves the room as it is
-untouched : (why : Why) (image room : List ℕ) → mendedRoom (Refused why) image room ≡ room
+untouched : (why : MendRefusal) (image room : List ℕ) → mendedRoom (Refused why) image room ≡ room
 untouched why image room = refl
 
 returns-2 : tie.Need-returns-2

@@ -11,12 +11,12 @@ returns c = rw (c .if1 .taken) (record { stream = refl; counted = refl; written 
 returns-2 : tie.Need-returns-2
 returns-2 c =
     rw (c .before .before .before .before .before .before .if1 .left)
-    (session-said (c .before .before .before .before .write .ensures) (c .before .before .before .before .before .before .before .before .before .before .pre) (c .enum-told .given .1) (c .before .before .before .before .write .kept .1 .1 .0))
+    (session-said (c .before .before .before .before .write-session .ensures) (c .before .before .before .before .before .before .before .before .before .before .pre) (c .enum-told .given .1) (c .before .before .before .before .write-session .kept .1 .1 .0))
 
 returns-3 : tie.Need-returns-3
 returns-3 c =
     rw (c .before .before .before .before .before .before .before .before .before .before .before .if1 .left)
-    (refusal-said (c .before .before .before .before .before .before .before .before .before .write .ensures) (c .before .before .before .before .before .before .before .before .before .before .before .before .before .before .before .pre) (c .before .before .before .before .before .written .given .1) (c .before .before .put-why .ensures))
+    (refusal-said (c .before .before .before .before .before .before .before .before .before .write-session .ensures) (c .before .before .before .before .before .before .before .before .before .before .before .before .before .before .before .pre) (c .before .before .before .before .before .written .given .1) (c .before .before .put-why .ensures))
 
 pub put-preset-spec : {M : Type 1} → statement M
 put-preset-spec =

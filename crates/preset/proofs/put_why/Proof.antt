@@ -5,16 +5,16 @@ use Rattle.preset.proofs.put_why.Statement.{statement}
 use Rattle.preset.proofs.put_why.Tie as tie
 
 returns : tie.Need-returns
-returns c = why-said (c .before .before .before .before .before .why .given .1) (c .before .before .before .before .before .before .before .number .ensures) (c .before .before .put-judged .ensures)
+returns c = why-said (c .before .before .before .before .before .why .given .1) (c .before .before .before .before .before .before .before .written-number .ensures) (c .before .before .put-judged .ensures)
 
 returns-2 : tie.Need-returns-2
-returns-2 c = why-said (c .before .before .before .before .before .enum-told .given .1) (c .before .before .before .before .before .before .before .number .ensures) (c .before .before .put-refused .ensures)
+returns-2 c = why-said (c .before .before .before .before .before .enum-told .given .1) (c .before .before .before .before .before .before .before .written-number .ensures) (c .before .before .put-refused .ensures)
 
 returns-3 : tie.Need-returns-3
-returns-3 c = why-said (c .before .before .before .before .before .enum-told2 .given .1) (c .before .before .before .before .before .before .before .number .ensures) (c .before .before .put-refused2 .ensures)
+returns-3 c = why-said (c .before .before .before .before .before .enum-told2 .given .1) (c .before .before .before .before .before .before .before .written-number .ensures) (c .before .before .put-refused2 .ensures)
 
 returns-4 : tie.Need-returns-4
-returns-4 c = why-said (c .before .before .before .before .before .enum-told3 .given .1) (c .before .before .before .before .before .before .before .number .ensures) (c .before .before .put-refused3 .ensures)
+returns-4 c = why-said (c .before .before .before .before .before .enum-told3 .given .1) (c .before .before .before .before .before .before .before .written-number .ensures) (c .before .before .put-refused3 .ensures)
 
 pub put-why-spec : {M : Type 1} → statement M
 put-why-spec =

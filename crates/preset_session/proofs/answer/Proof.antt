@@ -2,20 +2,20 @@ use mathlib.Core.Path.{sym, _∙_}
 use denote.Ref.{now}
 use Rattle.state.specs.declared.Profile.the-variants.{Ds2781}
 use Rattle.record.proofs.Fits.{judged-sized}
-use Rattle.preset_session.specs.PresetSession.{answerOf}
+use Rattle.preset_session.specs.PresetSession.{presetAnswer}
 use borrow.Author.Needs.{needs}
 use Rattle.preset_session.proofs.answer.Statement.{statement}
 use Rattle.preset_session.proofs.answer.Tie as tie
 
-accepted-requires : tie.Need-accepted-requires
-accepted-requires c κs = judged-sized Ds2781 (now (c .before .before .before .before .before .args .image)) (sym (c .before .before .judged .ensures) ∙ c .enum-told .given .1)
+accepted-answer-requires : tie.Need-accepted-answer-requires
+accepted-answer-requires c κs = judged-sized Ds2781 (now (c .before .before .before .before .before .args .image)) (sym (c .before .before .judged .ensures) ∙ c .enum-told .given .1)
 
 returns : tie.Need-returns
-unfolding answerOf
-returns c = rw (sym (c .before .before .before .judged .ensures) ∙ c .before .enum-told .given .1) (c .accepted .ensures)
+unfolding presetAnswer
+returns c = rw (sym (c .before .before .before .judged .ensures) ∙ c .before .enum-told .given .1) (c .accepted-answer .ensures)
 
 returns-2 : tie.Need-returns-2
-unfolding answerOf
+unfolding presetAnswer
 returns-2 c = rw (sym (c .before .before .before .judged .ensures) ∙ c .before .judged2 .given .1)
 
 pub answer-spec : {M : Type 1} → statement M
@@ -24,7 +24,7 @@ answer-spec =
     (tie.spec
     (λ c κs. search needs)
     (λ c. search needs)
-    accepted-requires
+    accepted-answer-requires
     (λ c. search needs)
     returns
     returns-2)

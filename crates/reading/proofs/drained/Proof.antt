@@ -13,7 +13,7 @@ returns c =
     let c2 = c1 .before in
     let c4 = c2 .before .before in
     also ChargeWF (simp (c .emptied .ensures, c1 .point .ensures, c2 .share .ensures .0))
-    (drained-wf (c4 .args .meter) (c4 .args .p) (c4 .args .full40) (c4 .args .s) (search needs) (c4 .pre .1) (c4 .pre .0))
+    (drained-wf (c4 .args .meter) (c4 .args .limits) (c4 .args .full40) (c4 .args .seen) (search needs) (c4 .pre .1) (c4 .pre .0))
 
 pub drained-spec : {M : Type 1} → statement M
 drained-spec = tie.close (tie.spec (λ c. search needs) (λ c κs. search needs) (λ c. search needs) (λ c κs. search needs) (λ c κs. search needs) returns)

@@ -6,7 +6,7 @@ use Rattle.reading.proofs.kept.Statement.{statement}
 use Rattle.reading.proofs.kept.Tie as tie
 
 -- AS and the cycle counter, each by itself
-aged : (c : tie.After-choose8) → let a = c .before .before .before .args in c .choose8 .result ≡ pick (a .save) (a .g .aging) (a .saved .aging)
+aged : (c : tie.After-choose8) → let a = c .before .before .before .args in c .choose8 .result ≡ pick (a .save) (a .charge .aging) (a .saved .aging)
 aged c = c .choose8 .ensures
 
 counted : (c : tie.After-choose82) → let a = c .before .before .before .before .args in c .choose82 .result ≡ pick (a .save) (a .cycles) (a .saved .cycles)

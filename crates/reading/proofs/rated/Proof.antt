@@ -8,7 +8,7 @@ use Rattle.reading.proofs.rated.Tie as tie
 cast-af : tie.Need-cast-af
 cast-af c =
     let c2 = c .before .before in
-    omega (arith, aged-full-high (c2 .args .lines .full) (c2 .args .g .aging) (c2 .pre .1) (c2 .pre .0 .high))
+    omega (arith, aged-full-high (c2 .args .lines .full) (c2 .args .charge .aging) (c2 .pre .1) (c2 .pre .0 .high))
 
 returns : tie.Need-returns
 unfolding ratedOf

@@ -3,8 +3,8 @@ use borrow.Author.Needs.{needs}
 use Rattle.reading.proofs.read.Statement.{statement}
 use Rattle.reading.proofs.read.Tie as tie
 
-shown-requires : tie.Need-shown-requires
-shown-requires c κs =
+results-shown-requires : tie.Need-results-shown-requires
+results-shown-requires c κs =
     let c1 = c .before in
     let c2 = c1 .before in
     let c12 = c2 .before .before .before .before .before .before .before .before .before .before in
@@ -19,7 +19,7 @@ returns c =
     let c4 = c3 .before in
     let c7 = c4 .before .before .before in
     let c10 = c7 .before .before .before in
-    (simp (c .shown .ensures .0, c1 .rated .ensures, c2 .drained .ensures .0, c3 .of4 .ensures .0, c4 .of3 .ensures, c7 .of2 .ensures, c10 .of .ensures), c .shown .ensures .1)
+    (simp (c .results-shown .ensures .0, c1 .rated .ensures, c2 .drained .ensures .0, c3 .of4 .ensures .0, c4 .of3 .ensures, c7 .of2 .ensures, c10 .of .ensures), c .results-shown .ensures .1)
 
 pub read-spec : {M : Type 1} → statement M
-read-spec = tie.close (tie.spec (λ c κs. search needs) (λ c κs. search needs) (λ c κs. search needs) (λ c κs. search needs) (λ c κs. search needs) (λ c κs. search needs) shown-requires returns)
+read-spec = tie.close (tie.spec (λ c κs. search needs) (λ c κs. search needs) (λ c κs. search needs) (λ c κs. search needs) (λ c κs. search needs) (λ c κs. search needs) results-shown-requires returns)

@@ -26,43 +26,43 @@ stateless room last again loaded p said k r told s given = arm room last again l
 returns : tie.Need-returns
 returns c =
     let a = c .before .before .before .before .before .args in
-    stateless (a .room) (a .last) (a .again) (a .loaded) (now (a .p)) _ _ _ (c .before .before .k .given .1) tt (c .image-taken .ensures)
+    stateless (a .room) (a .last) (a .again) (a .loaded) (now (a .payload)) _ _ _ (c .before .before .kind .given .1) tt (c .image-taken .ensures)
 
 -- a reading is taken by whether an image was accepted
-read : (c : tie.After-reading-taken) → let a = c .before .before .before .before .args in c .reading-taken .result ≡ takenBy false kind.Reading (a .loaded) (now (a .p))
+read : (c : tie.After-reading-taken) → let a = c .before .before .before .before .args in c .reading-taken .result ≡ takenBy false kind.Reading (a .loaded) (now (a .payload))
 read c = c .reading-taken .ensures
 
 returns-2 : tie.Need-returns-2
 returns-2 c =
     let a = c .before .before .before .before .args in
-    stateless (a .room) (a .last) (a .again) (a .loaded) (now (a .p)) _ _ _ (c .before .enum-told .given .1) tt (read c)
+    stateless (a .room) (a .last) (a .again) (a .loaded) (now (a .payload)) _ _ _ (c .before .enum-told .given .1) tt (read c)
 
 returns-3 : tie.Need-returns-3
 returns-3 c =
     let a = c .before .before .before .before .args in
-    stateless (a .room) (a .last) (a .again) (a .loaded) (now (a .p)) _ _ _ (c .before .enum-told2 .given .1) tt (c .conversion-taken .ensures)
+    stateless (a .room) (a .last) (a .again) (a .loaded) (now (a .payload)) _ _ _ (c .before .enum-told2 .given .1) tt (c .conversion-taken .ensures)
 
 returns-4 : tie.Need-returns-4
 returns-4 c =
     let a = c .before .before .before .before .before .args in
-    arm (a .room) (a .last) (a .again) (a .loaded) (now (a .p)) _ _ _ (c .before .before .k2 .given .1)
-    (c .transaction-taken .ensures ∙ ap (fittedOf (a .room)) (transaction-timely (a .last) (a .again) (a .loaded) (now (a .p)) (c .before .before .k2 .given .0 .0)))
+    arm (a .room) (a .last) (a .again) (a .loaded) (now (a .payload)) _ _ _ (c .before .before .kind2 .given .1)
+    (c .transaction-taken .ensures ∙ ap (fittedOf (a .room)) (transaction-timely (a .last) (a .again) (a .loaded) (now (a .payload)) (c .before .before .kind2 .given .0 .0)))
 
 returns-5 : tie.Need-returns-5
 returns-5 c =
     let a = c .before .before .before .before .args in
-    stateless (a .room) (a .last) (a .again) (a .loaded) (now (a .p)) _ _ _ (c .before .enum-told3 .given .1) tt (c .power-on-taken .ensures)
+    stateless (a .room) (a .last) (a .again) (a .loaded) (now (a .payload)) _ _ _ (c .before .enum-told3 .given .1) tt (c .power-on-taken .ensures)
 
 returns-6 : tie.Need-returns-6
 returns-6 c =
     let a = c .before .before .before .before .args in
-    arm (a .room) (a .last) (a .again) (a .loaded) (now (a .p)) _ _ _ (c .before .enum-told4 .given .1)
-    (c .sample-taken .ensures ∙ sample-fits (a .last) (a .again) (a .loaded) (now (a .p)) (a .room))
+    arm (a .room) (a .last) (a .again) (a .loaded) (now (a .payload)) _ _ _ (c .before .enum-told4 .given .1)
+    (c .sample-taken .ensures ∙ sample-fits (a .last) (a .again) (a .loaded) (now (a .payload)) (a .room))
 
 returns-7 : tie.Need-returns-7
 returns-7 c =
     let a = c .before .before .before .args in
-    arm (a .room) (a .last) (a .again) (a .loaded) (now (a .p)) _ _ _ (c .enum-told5 .given .1) refl
+    arm (a .room) (a .last) (a .again) (a .loaded) (now (a .payload)) _ _ _ (c .enum-told5 .given .1) refl
 
 pub fitted-by-spec : {M : Type 1} → statement M
 fitted-by-spec =

@@ -28,7 +28,7 @@ returns c =
     let c11 = c9 .before .before in
     let c12 = c11 .before in
     simp (
-      eq-eqb _ _ (c11 .if1 .taken ∙ c12 .size .ensures .0),
+      eq-eqb _ _ (c11 .if1 .taken ∙ c12 .image-size .ensures .0),
       sym (c9 .addressed .ensures) ∙ c8 .if2 .taken,
       le-leb _ _ (c6 .if3 .taken),
       c5 .if4 .taken,
@@ -48,7 +48,7 @@ returns-2 c =
     let c11 = c9 .before .before in
     let c12 = c11 .before in
     simp (
-      eq-eqb _ _ (c11 .if1 .taken ∙ c12 .size .ensures .0),
+      eq-eqb _ _ (c11 .if1 .taken ∙ c12 .image-size .ensures .0),
       sym (c9 .addressed .ensures) ∙ c8 .if2 .taken,
       le-leb _ _ (c6 .if3 .taken),
       c5 .if4 .taken,
@@ -64,7 +64,7 @@ returns-3 c =
     let c6 = c4 .before .before in
     let c7 = c6 .before in
     simp (
-      eq-eqb _ _ (c6 .if1 .taken ∙ c7 .size .ensures .0),
+      eq-eqb _ _ (c6 .if1 .taken ∙ c7 .image-size .ensures .0),
       sym (c4 .addressed .ensures) ∙ c3 .if2 .taken,
       le-leb _ _ (c1 .if3 .taken),
       c .if4 .left,
@@ -72,7 +72,7 @@ returns-3 c =
 
 -- where the third test fails the lock byte is above 3 ..
 abbrev Above : tie.Else3 → Type 0
-Above c = lockableOf (now (c .before .before .before .before .before .before .before .before .args .p)) ≡ false
+Above c = lockableOf (now (c .before .before .before .before .before .before .before .before .args .image)) ≡ false
 
 above : (c : tie.Else3) → Above c
 above c = lt-leb _ _ (c .if3 .left)
@@ -85,7 +85,7 @@ answered over c =
     let c3 = c2 .before in
     let c5 = c3 .before .before in
     let c6 = c5 .before in
-    simp (eq-eqb _ _ (c5 .if1 .taken ∙ c6 .size .ensures .0), sym (c3 .addressed .ensures) ∙ c2 .if2 .taken, over c)
+    simp (eq-eqb _ _ (c5 .if1 .taken ∙ c6 .image-size .ensures .0), sym (c3 .addressed .ensures) ∙ c2 .if2 .taken, over c)
 
 returns-4 : tie.Need-returns-4
 returns-4 = answered above
@@ -96,13 +96,13 @@ returns-5 c =
     let c1 = c .before in
     let c3 = c1 .before .before in
     let c4 = c3 .before in
-    simp (eq-eqb _ _ (c3 .if1 .taken ∙ c4 .size .ensures .0), sym (c1 .addressed .ensures) ∙ c .if2 .left)
+    simp (eq-eqb _ _ (c3 .if1 .taken ∙ c4 .image-size .ensures .0), sym (c1 .addressed .ensures) ∙ c .if2 .left)
 
 returns-6 : tie.Need-returns-6
 unfolding judgedAmong
 returns-6 c =
     let c1 = c .before in
-    simp (ne-eqb _ _ (λ e. c .if1 .left (e ∙ sym (c1 .size .ensures .0))))
+    simp (ne-eqb _ _ (λ e. c .if1 .left (e ∙ sym (c1 .image-size .ensures .0))))
 
 pub judged-among-spec : {M : Type 1} → statement M
 judged-among-spec = tie.close (tie.spec (λ c κs. search needs) (λ c. search needs) (λ c. search needs) (λ c. search needs) (λ c κs. search needs) (λ c. search needs) (λ c κs. search needs) (λ c κs. search needs) (λ c κs. search needs) returns returns-2 returns-3 returns-4 returns-5 returns-6)

@@ -24,10 +24,10 @@ pair-requires : tie.Need-pair-requires
 pair-requires c κs = there _ _ _ (c .before .before .before .pre) (c .enum-told2 .given .1)
 
 returns : tie.Need-returns
-returns c = c .wide .ensures .0 ∙ count _ _ (now (c .before .before .before .before .before .args .p)) (c .before .before .enum-told .given .1)
+returns c = c .wide .ensures .0 ∙ count _ _ (now (c .before .before .before .before .before .args .payload)) (c .before .before .enum-told .given .1)
 
 returns-2 : tie.Need-returns-2
-returns-2 c = c .pair .ensures ∙ count _ _ (now (c .before .before .before .before .args .p)) (c .before .enum-told2 .given .1)
+returns-2 c = c .pair .ensures ∙ count _ _ (now (c .before .before .before .before .args .payload)) (c .before .enum-told2 .given .1)
 
 pub read-count-spec : {M : Type 1} → statement M
 read-count-spec =

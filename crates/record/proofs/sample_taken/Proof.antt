@@ -8,7 +8,7 @@ use Rattle.record.proofs.sample_taken.Statement.{statement}
 use Rattle.record.proofs.sample_taken.Tie as tie
 
 -- the tick is that of the payload
-told : (c : tie.After-timely) → let a = c .before .before .before .before .before .before .before .args in timelyOf (a .last) (pairAt (now (a .p)) 4) ≡ c .timely .result
+told : (c : tie.After-timely) → let a = c .before .before .before .before .before .before .before .args in timelyOf (a .last) (pairAt (now (a .payload)) 4) ≡ c .timely .result
 told c = ap (timelyOf _) (sym (c .before .pair .ensures)) ∙ sym (c .timely .ensures)
 
 returns : tie.Need-returns

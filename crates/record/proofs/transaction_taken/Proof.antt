@@ -69,33 +69,33 @@ module _ (f : Form) (loaded : Bool) (room : ℕ) (p : List ℕ) {start most : �
 returns : tie.Need-returns
 returns c =
     let a = c .before .before .before .before .args in
-    short (a .f) (a .loaded) (a .room) (now (a .p)) (c .before .before .head .ensures .0) (c .before .limit .ensures .0) (c .if1 .taken)
+    short (a .form) (a .loaded) (a .room) (now (a .payload)) (c .before .before .head .ensures .0) (c .before .limit .ensures .0) (c .if1 .taken)
 
 returns-2 : tie.Need-returns-2
 returns-2 c =
     let a = c .before .before .before .before .before .args in
-    long (a .f) (a .loaded) (a .room) (now (a .p)) (c .before .before .before .head .ensures .0) (c .before .before .limit .ensures .0) (c .before .if1 .left) (c .if2 .taken)
+    long (a .form) (a .loaded) (a .room) (now (a .payload)) (c .before .before .before .head .ensures .0) (c .before .before .limit .ensures .0) (c .before .if1 .left) (c .if2 .taken)
 
 returns-3 : tie.Need-returns-3
 returns-3 c =
     let a = c .before .before .before .before .before .before .before .before .args in
-    over (a .f) (a .loaded) (a .room) (now (a .p)) (c .before .before .before .before .before .before .head .ensures .0) (c .before .before .before .before .before .limit .ensures .0) (c .before .before .before .before .if1 .left) (c .before .before .before .if2 .left) (c .before .before .if3 .taken) (c .before .read-count .ensures) (c .if4 .taken)
+    over (a .form) (a .loaded) (a .room) (now (a .payload)) (c .before .before .before .before .before .before .head .ensures .0) (c .before .before .before .before .before .limit .ensures .0) (c .before .before .before .before .if1 .left) (c .before .before .before .if2 .left) (c .before .before .if3 .taken) (c .before .read-count .ensures) (c .if4 .taken)
 
 returns-4 : tie.Need-returns-4
 returns-4 c =
     let a = c .before .before .before .before .before .before .before .before .before .args in
-    full (a .f) (a .loaded) (a .room) (now (a .p)) (c .before .before .before .before .before .before .before .head .ensures .0) (c .before .before .before .before .before .before .limit .ensures .0) (c .before .before .before .before .before .if1 .left) (c .before .before .before .before .if2 .left) (c .before .before .before .if3 .taken) (c .before .before .read-count .ensures) (c .before .if4 .left) (c .if5 .taken)
+    full (a .form) (a .loaded) (a .room) (now (a .payload)) (c .before .before .before .before .before .before .before .head .ensures .0) (c .before .before .before .before .before .before .limit .ensures .0) (c .before .before .before .before .before .if1 .left) (c .before .before .before .before .if2 .left) (c .before .before .before .if3 .taken) (c .before .before .read-count .ensures) (c .before .if4 .left) (c .if5 .taken)
 
 returns-5 : tie.Need-returns-5
 returns-5 c =
     let a = c .before .before .before .before .before .before .before .before .before .before .before .args in
-    taken (a .f) (a .loaded) (a .room) (now (a .p)) (c .before .before .before .before .before .before .before .before .before .head .ensures .0) (c .before .before .before .before .before .before .before .before .limit .ensures .0) (c .before .before .before .before .before .before .before .if1 .left) (c .before .before .before .before .before .before .if2 .left) (c .before .before .before .before .before .if3 .taken) (c .before .before .before .before .read-count .ensures) (c .before .before .before .if4 .left) (c .before .before .if5 .left)
-    (c .asked .ensures) (part-rest (now (a .p)) _)
+    taken (a .form) (a .loaded) (a .room) (now (a .payload)) (c .before .before .before .before .before .before .before .before .before .head .ensures .0) (c .before .before .before .before .before .before .before .before .limit .ensures .0) (c .before .before .before .before .before .before .before .if1 .left) (c .before .before .before .before .before .before .if2 .left) (c .before .before .before .before .before .if3 .taken) (c .before .before .before .before .read-count .ensures) (c .before .before .before .if4 .left) (c .before .before .if5 .left)
+    (c .asked .ensures) (part-rest (now (a .payload)) _)
 
 returns-6 : tie.Need-returns-6
 returns-6 c =
     let a = c .before .before .before .before .before .before .args in
-    early (a .f) (a .loaded) (a .room) (now (a .p)) (c .before .before .before .before .head .ensures .0) (c .before .before .before .limit .ensures .0) (c .before .before .if1 .left) (c .before .if2 .left) (c .if3 .left)
+    early (a .form) (a .loaded) (a .room) (now (a .payload)) (c .before .before .before .before .head .ensures .0) (c .before .before .before .limit .ensures .0) (c .before .before .if1 .left) (c .before .if2 .left) (c .if3 .left)
 
 read-count-requires : tie.Need-read-count-requires
 read-count-requires c κs = omega (arith, c .before .before .before .before .head .ensures .0, c .before .before .if1 .left)

@@ -11,7 +11,7 @@ use Rattle.replies.proofs.block_laid.Tie as tie
 returns-2 : tie.Need-returns-2
 returns-2 c =
     let a = c .before .before .args in
-    (sym (laid-none (a .a) (a .a + length (now (a .room))) (now (a .room)) 0x60 (a .b .shadow) (omega (arith, c .if1 .left))), search needs)
+    (sym (laid-none (a .a) (a .a + length (now (a .room))) (now (a .room)) 0x60 (a .block .shadow) (omega (arith, c .if1 .left))), search needs)
 
 pub block-laid-spec : {M : Type 1} → statement M
 block-laid-spec =

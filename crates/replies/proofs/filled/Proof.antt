@@ -16,7 +16,7 @@ returns-2 c =
 
 returns-3 : tie.Need-returns-3
 unfolding sourceByte
-returns-3 c = rw (c .before .before .before .before .enum-told2 .given .1) (c .before .before .idle .ensures)
+returns-3 c = rw (c .before .before .before .before .enum-told2 .given .1) (c .before .before .fill-ones .ensures)
 
 pub filled-spec : {M : Type 1} → statement M
 filled-spec = tie.close (tie.spec (λ c. search needs) (λ c κs. search needs) (λ c. search needs) (λ c κs. search needs) (λ c κs. search needs) (λ c. search needs) (λ c κs. search needs) (λ c. search needs) returns (λ c. search needs) returns-2 (λ c. search needs) returns-3)

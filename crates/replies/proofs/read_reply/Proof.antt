@@ -15,7 +15,7 @@ returns c =
     let reply = c .before .before in
     let shown = reply .before .before in
     let a = shown .before .before .before .args in
-    reply .register-reply .ensures ∙ register-listed (a .k) (a .l) (a .m) (a .a) (length (now (a .room))) (shown .before .if1 .taken) (shown .if2 .taken)
+    reply .register-reply .ensures ∙ register-listed (a .common) (a .label) (a .meter) (a .a) (length (now (a .room))) (shown .before .if1 .taken) (shown .if2 .taken)
 
 returns-2 : tie.Need-returns-2
 returns-2 c =
@@ -23,15 +23,15 @@ returns-2 c =
     let join = registers .before .before in
     let a = join .before .before .before .args in
     ⊎-elim
-    (λ w. read-listed (a .k) (a .l) (a .m) (a .a) (length (now (a .room))) _ _ _ _ (w .6 .ensures .1) (w .10 .ensures .1) (w .2 .ensures)
+    (λ w. read-listed (a .common) (a .label) (a .meter) (a .a) (length (now (a .room))) _ _ _ _ (w .6 .ensures .1) (w .10 .ensures .1) (w .2 .ensures)
     (w .6 .ensures .0) (w .13 ∙ w .10 .ensures .0) (registers .registers-laid .ensures))
-    (λ w. low-listed (a .k) (a .l) (a .m) (a .a) (now (a .room)) (w .0 .left) (registers .registers-laid .ensures ∙ ap (overOf 0x00 (registersOf (a .k) (a .m)) (a .a)) (w .1)))
+    (λ w. low-listed (a .common) (a .label) (a .meter) (a .a) (now (a .room)) (w .0 .left) (registers .registers-laid .ensures ∙ ap (overOf 0x00 (registersOf (a .common) (a .meter)) (a .a)) (w .1)))
     (join .if3 .came)
 
 same-length-2 : tie.Need-same-length-2
 same-length-2 c =
     let a = c .before .before .before .before .before .before .before .args in
-    ap length (returns-2 c) ∙ listed-length (λ i. readByte (a .k) (a .l) (a .m) (a .a + i)) 0 (length (now (a .room)))
+    ap length (returns-2 c) ∙ listed-length (λ i. readByte (a .common) (a .label) (a .meter) (a .a + i)) 0 (length (now (a .room)))
 
 pub read-reply-spec : {M : Type 1} → statement M
 read-reply-spec =

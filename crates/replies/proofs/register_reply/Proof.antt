@@ -22,9 +22,9 @@ returns c =
     let p = c .before .register .ensures in
     filling-end _ room _ 2
     (filling-more _ room _ 1 _
-    (filling-more _ room room 0 _ (filling-start _ room) (omega (arith, c .if1 .taken)) (high-byte (a .k) (a .m) (a .a) _ p 0 (omega (arith, c .if1 .taken, start .pre .1 .1))))
+    (filling-more _ room room 0 _ (filling-start _ room) (omega (arith, c .if1 .taken)) (high-byte (a .common) (a .meter) (a .a) _ p 0 (omega (arith, c .if1 .taken, start .pre .1 .1))))
     (omega (arith, c .if1 .taken))
-    (low-byte (a .k) (a .m) (a .a) _ p 1 (omega (arith, c .if1 .taken, start .pre .1 .1))))
+    (low-byte (a .common) (a .meter) (a .a) _ p 1 (omega (arith, c .if1 .taken, start .pre .1 .1))))
     (omega (arith, c .if1 .taken))
 
 returns-2 : tie.Need-returns-2
@@ -34,7 +34,7 @@ returns-2 c =
     let a = start .args in
     let room = now (a .room) in
     filling-end _ room _ 1
-    (filling-more _ room room 0 _ (filling-start _ room) (omega (arith, c .before .if2 .taken)) (c .choose8 .ensures ∙ one-byte (a .k) (a .m) (a .a) _ (read .register .ensures)))
+    (filling-more _ room room 0 _ (filling-start _ room) (omega (arith, c .before .if2 .taken)) (c .choose8 .ensures ∙ one-byte (a .common) (a .meter) (a .a) _ (read .register .ensures)))
     (omega (arith, c .before .if2 .taken))
 
 returns-3 : tie.Need-returns-3

@@ -21,8 +21,8 @@ returns c =
 returns-2 : tie.Need-returns-2
 returns-2 c =
     let a = c .before .before .args in
-    let n = registers-length (a .k) (a .m) in
-    sym (laid-none (a .a) (a .a + length (now (a .room))) (now (a .room)) 0x00 (registersOf (a .k) (a .m)) (omega arith))
+    let n = registers-length (a .common) (a .meter) in
+    sym (laid-none (a .a) (a .a + length (now (a .room))) (now (a .room)) 0x00 (registersOf (a .common) (a .meter)) (omega arith))
 
 pub registers-laid-spec : {M : Type 1} → statement M
 registers-laid-spec = tie.close (tie.spec (λ c κs. search needs) (λ c. search needs) (λ c κs. search needs) (λ c. search needs) returns returns-2)

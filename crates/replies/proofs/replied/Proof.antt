@@ -28,14 +28,14 @@ front k l m t chosen source room after e fits h =
 slice-aggregate-filled : tie.Need-slice-aggregate-filled
 slice-aggregate-filled c =
     let start = c .before .before .before .before .before .before in
-    sym (length-take-le (start .args .t .count) (now (start .args .room)) (start .pre .1))
+    sym (length-take-le (start .args .transaction .count) (now (start .args .room)) (start .pre .1))
 
 returns : tie.Need-returns
 returns c =
     let source = c .before .before .before .before in
     let start = source .before .before .before .before .before in
     let a = start .args in
-    front (a .k) (a .l) (a .t3) (a .t) (a .chosen) _ (now (a .room)) _ (source .reply-source .ensures) (start .pre .1) (c .before .before .filled .ensures)
+    front (a .common) (a .label) (a .t3) (a .transaction) (a .chosen) _ (now (a .room)) _ (source .reply-source .ensures) (start .pre .1) (c .before .before .filled .ensures)
 
 pub replied-spec : {M : Type 1} → statement M
 replied-spec = tie.close (tie.spec (λ c. search needs) (λ c κs. search needs) (λ c. search needs) slice-aggregate-filled (λ c κs. search needs) (λ c. search needs) returns)

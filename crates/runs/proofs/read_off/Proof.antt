@@ -4,10 +4,10 @@ use Rattle.runs.proofs.read_off.Statement.{statement}
 use Rattle.runs.proofs.read_off.Tie as tie
 
 returns : tie.Need-returns
-returns c = c .refused .ensures ∙ rw (c .before .before .before .number .ensures, c .before .enum-told .given .1) refl
+returns c = c .refused .ensures ∙ rw (c .before .before .before .taken-number .ensures, c .before .enum-told .given .1) refl
 
 returns-2 : tie.Need-returns-2
-returns-2 c = rw (c .before .before .before .number .ensures, c .before .t .given .1) refl
+returns-2 c = rw (c .before .before .before .taken-number .ensures, c .before .taken .given .1) refl
 
 pub read-off-spec : {M : Type 1} → statement M
 read-off-spec =

@@ -9,18 +9,18 @@ use Rattle.samples.proofs.average_over.Statement.{statement}
 use Rattle.samples.proofs.average_over.Tie as tie
 
 mul-mean : tie.Need-mul-mean
-mul-mean c = let c3 = c .before .before .before in omega (arith, eight-few (c3 .args .a) (c3 .args .c) (search needs) (c3 .pre))
+mul-mean c = let c3 = c .before .before .before in omega (arith, eight-few (c3 .args .average) (c3 .args .c) (search needs) (c3 .pre))
 
 add-mean : tie.Need-add-mean
-add-mean c = let c4 = c .before .before .before .before in omega (arith, eight-few (c4 .args .a) (c4 .args .c) (search needs) (c4 .pre))
+add-mean c = let c4 = c .before .before .before .before in omega (arith, eight-few (c4 .args .average) (c4 .args .c) (search needs) (c4 .pre))
 
 cast-mean : tie.Need-cast-mean
-cast-mean c = let c4 = c .before .before .before .before in omega (arith, eight-few (c4 .args .a) (c4 .args .c) (search needs) (c4 .pre))
+cast-mean c = let c4 = c .before .before .before .before in omega (arith, eight-few (c4 .args .average) (c4 .args .c) (search needs) (c4 .pre))
 
 mul-t14 : tie.Need-mul-t14
 mul-t14 c =
     let a = c .before .before .before .before .args in
-    omega (arith, times ((a .a .made + a .k) % 8) (a .c) 7 65535 (omega arith) (search needs))
+    omega (arith, times ((a .average .made + a .k) % 8) (a .c) 7 65535 (omega arith) (search needs))
 
 mul-t25 : tie.Need-mul-t25
 mul-t25 c = let a = c .before .before .before .args in omega (arith, times (a .k) (a .c) 7 65535 (omega arith) (search needs))

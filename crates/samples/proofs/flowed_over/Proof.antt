@@ -25,7 +25,7 @@ returns c =
     (w .3 .came))
     (λ w. simp (w .2, w .1, lt-leb _ _ (w .0 .left), c2 .average-over .ensures, c3 .trace-over .ensures))
     (c .if1 .came))
-    (flowed-over-wf (a .m) (a .p) (a .full40) (a .c) (a .k) (search needs) (search needs) (c5 .pre))
+    (flowed-over-wf (a .meter) (a .limits) (a .full40) (a .c) (a .k) (search needs) (search needs) (c5 .pre))
 
 pub flowed-over-spec : {M : Type 1} → statement M
 flowed-over-spec = tie.close (tie.spec (λ c κs. search needs) (λ c κs. search needs) (λ c. search needs) (λ c. search needs) (λ c κs. search needs) (λ c κs. search needs) (λ c κs. search needs) returns)

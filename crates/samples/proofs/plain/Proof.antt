@@ -25,13 +25,13 @@ loop-again c =
     let l = c .before .before in
     let a = l .before .args in
     let e = c .convert .ensures .0 ∙ ap (λ (x : Meter). convertOf x (a .raw)) (l .loop .inv .1) in
-    (omega arith, e ∙ sym (sampled-more (a .m) (a .raw) (l .loop .i)), c .convert .ensures .1)
+    (omega arith, e ∙ sym (sampled-more (a .meter) (a .raw) (l .loop .i)), c .convert .ensures .1)
 
 returns : tie.Need-returns Inv-loop μ-loop
 returns c =
     let i = c .before .loop .inv in
     let a = c .before .before .args in
-    (i .1 ∙ ap (sampledOf (a .m) (a .raw)) (omega arith), i .2)
+    (i .1 ∙ ap (sampledOf (a .meter) (a .raw)) (omega arith), i .2)
 
 pub plain-spec : {M : Type 1} → statement M
 plain-spec = tie.close (tie.spec Inv-loop μ-loop loop-holds (λ c κs. search needs) (λ c. search needs) (λ c. search needs) loop-again returns)

@@ -27,7 +27,7 @@ loop-again c =
     let l = c3 .loop in
     let k = c .before .reach in
     let e =
-    reached-more (l .m) (c .stretch .result) raw (l .left) (k .result) (l .inv .1) (k .ensures .0) (k .ensures .1 .1) (k .ensures .1 .0)
+    reached-more (l .meter) (c .stretch .result) raw (l .left) (k .result) (l .inv .1) (k .ensures .0) (k .ensures .1 .1) (k .ensures .1 .0)
     (c .stretch .ensures .0) in
     (e ∙ l .inv .0, c .stretch .ensures .1)
 
@@ -36,7 +36,7 @@ unfolding sampledOf
 returns c =
     let l = c .before .loop in
     let none : 0 ≡ l .left = omega arith in
-    (ap (sampledOf (l .m) (c .before .before .args .raw)) none ∙ l .inv .0, l .inv .1)
+    (ap (sampledOf (l .meter) (c .before .before .args .raw)) none ∙ l .inv .0, l .inv .1)
 
 pub quick-spec : {M : Type 1} → statement M
 quick-spec = tie.close (tie.spec Inv-loop μ-loop (λ c. (refl, c .pre)) reach-requires stretch-requires (λ c. search needs) (λ c. search needs) loop-again returns)

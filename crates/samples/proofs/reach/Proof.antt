@@ -13,7 +13,7 @@ returns c =
     let c5 = c3 .before .before in
     let a = c5 .args in
     also (λ (r : ℕ). (r ≤ a .left) × (1 ≤ r)) (simp (c .choose16 .ensures, c .before .or .ensures, c3 .at-most .ensures))
-    (reach-fits (a .a) (a .any) (a .left), reach-some (a .a) (a .any) (a .left) (c5 .pre))
+    (reach-fits (a .average) (a .any) (a .left), reach-some (a .average) (a .any) (a .left) (c5 .pre))
 
 pub reach-spec : {M : Type 1} → statement M
 reach-spec = tie.close (tie.spec (λ c. search needs) (λ c. search needs) (λ c κs. search needs) (λ c. search needs) (λ c κs. search needs) (λ c κs. search needs) returns)

@@ -28,13 +28,13 @@ abbrev μ-loop : tie.MeasureT-loop
 μ-loop s room₀ answers₀ loaded₀ gauge₀ at₀ used₀ lines₀ room answers loaded gauge at used lines = length s - at
 
 -- some bytes are left where the loop goes on
-more : (c : tie.Then1 Inv-loop μ-loop) → c .before .before .before .loop .at < length (now (c .before .before .before .before .before .before .before .before .before .args .s))
+more : (c : tie.Then1 Inv-loop μ-loop) → c .before .before .before .loop .at < length (now (c .before .before .before .before .before .before .before .before .before .args .bytes))
 more c =
     let l = c .before .before .before in
-    whole-more (now (l .before .before .before .before .before .before .args .s)) (l .loop .at) (sym (c .before .whole .ensures) ∙ c .if1 .taken)
+    whole-more (now (l .before .before .before .before .before .before .args .bytes)) (l .loop .at) (sym (c .before .whole .ensures) ∙ c .if1 .taken)
 
 -- what was read of the record at the front
-at-front : (c : tie.After-front Inv-loop μ-loop) → let l = c .before .before .before .before .before .loop in let s = now (c .before .before .before .before .before .before .before .before .before .before .before .args .s) in
+at-front : (c : tie.After-front Inv-loop μ-loop) → let l = c .before .before .before .before .before .loop in let s = now (c .before .before .before .before .before .before .before .before .before .before .before .args .bytes) in
     Front ofSession (record { loaded = l .loaded; gauge = l .gauge }) (length (l .room) - l .used) (part (length s - l .at) s (l .at)) (c .front .result)
 at-front c = front ofSession session-replying _ _ _ (c .front .ensures)
 
@@ -43,7 +43,7 @@ module _ (c : tie.At-match-came Inv-loop μ-loop) where
   abbrev turn : Type 0
   turn =
       let l = c .before .before .before .before .before .before .before .loop in
-      let s = now (c .before .before .before .before .before .before .before .before .before .before .before .before .before .args .s) in
+      let s = now (c .before .before .before .before .before .before .before .before .before .before .before .before .before .args .bytes) in
       Turn (record { loaded = l .loaded; gauge = l .gauge }) (l .room) (l .used) (part (length s - l .at) s (l .at)) (c .match .loaded) (c .match .gauge) (c .match .room) (c .match .used) (c .match .line)
 
   turned-none : First (c .match .came) → turn
@@ -92,14 +92,14 @@ module _ (c : tie.At-match-came Inv-loop μ-loop) where
 loop-holds : tie.Need-loop-holds Inv-loop μ-loop
 loop-holds c = rw (c .before .empty .ensures .0) (record { going = going-start didOf emptyOf _ _ _; wf = rw (c .before .empty .ensures .0) at (c .before .empty .ensures .1) })
 
-sub-l : tie.Need-sub-l Inv-loop μ-loop
-sub-l c = omega (arith, c .before .before .before .loop .inv .going .at-fits)
+sub-rest : tie.Need-sub-rest Inv-loop μ-loop
+sub-rest c = omega (arith, c .before .before .before .loop .inv .going .at-fits)
 
-part-l-start : tie.Need-part-l-start Inv-loop μ-loop
-part-l-start c = omega (arith, c .before .before .before .loop .inv .going .at-fits)
+part-rest-start : tie.Need-part-rest-start Inv-loop μ-loop
+part-rest-start c = omega (arith, c .before .before .before .loop .inv .going .at-fits)
 
-part-l-end : tie.Need-part-l-end Inv-loop μ-loop
-part-l-end c = omega (arith, c .before .before .before .loop .inv .going .at-fits)
+part-rest-end : tie.Need-part-rest-end Inv-loop μ-loop
+part-rest-end c = omega (arith, c .before .before .before .loop .inv .going .at-fits)
 
 sub-front : tie.Need-sub-front Inv-loop μ-loop
 sub-front c = omega (arith, c .before .before .before .before .loop .inv .going .used-fits, c .before .before .before .before .loop .inv .going .same-room)
@@ -117,7 +117,7 @@ part-image-in-end : tie.Need-part-image-in-end Inv-loop μ-loop
 part-image-in-end c = omega (arith, front-fits ofSession didOf did-same SessionWF (c .before .before .before .before .before .before .before .before .before .before .before .before .loop .inv) (more (c .before .before .before .before .before .before .before .before .before)) (at-front (c .before .before .before .before .before .before .before)))
 
 image-in-requires : tie.Need-image-in-requires Inv-loop μ-loop
-image-in-requires c κs = ran-taking (ran ofSession (at-front (c .before .before .before .before .before .before .before .before)) (c .before .before .before .before .before .asked .given .1 ∙ ap Run (c .before .before .e .given .1))) .2
+image-in-requires c κs = ran-taking (ran ofSession (at-front (c .before .before .before .before .before .before .before .before)) (c .before .before .before .before .before .asked .given .1 ∙ ap Run (c .before .before .event .given .1))) .2
 
 read-requires : tie.Need-read-requires Inv-loop μ-loop
 read-requires c κs = c .before .before .before .before .before .before .before .before .before .before .before .before .before .before .before .loop .inv .wf .gauge
@@ -129,16 +129,16 @@ sample-requires : tie.Need-sample-requires Inv-loop μ-loop
 sample-requires c κs = c .before .before .before .before .before .before .before .before .before .before .before .before .before .before .before .loop .inv .wf .gauge
 
 add-from : tie.Need-add-from Inv-loop μ-loop
-add-from c = omega (arith, ran-taking (ran ofSession (at-front (c .before .before .before .before .before .before .before .before)) (c .before .before .before .before .before .asked .given .1 ∙ ap Run (c .before .before .e3 .given .1))) .1 .near)
+add-from c = omega (arith, ran-taking (ran ofSession (at-front (c .before .before .before .before .before .before .before .before)) (c .before .before .before .before .before .asked .given .1 ∙ ap Run (c .before .before .event3 .given .1))) .1 .near)
 
 sub-transact : tie.Need-sub-transact Inv-loop μ-loop
 sub-transact c =
-    let x = ran ofSession (at-front (c .before .before .before .before .before .before .before .before)) (c .before .before .before .before .before .asked .given .1 ∙ ap Run (c .before .before .e3 .given .1)) in
+    let x = ran ofSession (at-front (c .before .before .before .before .before .before .before .before)) (c .before .before .before .before .before .asked .given .1 ∙ ap Run (c .before .before .event3 .given .1)) in
     omega (arith, master-starts ofSession x (ran-taking x .1))
 
 part-transact-start : tie.Need-part-transact-start Inv-loop μ-loop
 part-transact-start c =
-    let x = ran ofSession (at-front (c .before .before .before .before .before .before .before .before)) (c .before .before .before .before .before .asked .given .1 ∙ ap Run (c .before .before .e3 .given .1)) in
+    let x = ran ofSession (at-front (c .before .before .before .before .before .before .before .before)) (c .before .before .before .before .before .asked .given .1 ∙ ap Run (c .before .before .event3 .given .1)) in
     omega (arith, master-starts ofSession x (ran-taking x .1))
 
 part-transact-end : tie.Need-part-transact-end Inv-loop μ-loop
@@ -156,11 +156,11 @@ part-transact-end-2 c = omega (arith, c .before .before .before .before .before 
 transact-requires : tie.Need-transact-requires Inv-loop μ-loop
 transact-requires c κs =
     let l = c .before .before .before .before .before .before .before .before .before .before .before .before .before .before .before .loop in
-    let x = ran ofSession (at-front (c .before .before .before .before .before .before .before .before .before .before)) (c .before .before .before .before .before .before .before .asked .given .1 ∙ ap Run (c .before .before .before .before .e3 .given .1)) in
+    let x = ran ofSession (at-front (c .before .before .before .before .before .before .before .before .before .before)) (c .before .before .before .before .before .before .before .asked .given .1 ∙ ap Run (c .before .before .before .before .event3 .given .1)) in
     (l .inv .wf .gauge, omega (arith, x .held, room-left (l .room) (l .used)))
 
 add-used : tie.Need-add-used Inv-loop μ-loop
-add-used c = omega (arith, ran ofSession (at-front (c .before .before .before .before .before .before .before .before .before .before .before .before .before .before)) (c .before .before .before .before .before .before .before .before .before .before .before .asked .given .1 ∙ ap Run (c .before .before .before .before .before .before .before .before .e3 .given .1)) .held, c .before .before .before .before .before .before .before .before .before .before .before .before .before .before .before .before .before .before .before .loop .inv .going .used-fits, c .before .before .before .before .before .before .before .before .before .before .before .before .before .before .before .before .before .before .before .loop .inv .going .same-room, c .before .before .before .before .before .before .before .before .before .before .before .before .before .before .before .before .before .before .before .before .before .before .before .before .before .good .1 .0)
+add-used c = omega (arith, ran ofSession (at-front (c .before .before .before .before .before .before .before .before .before .before .before .before .before .before)) (c .before .before .before .before .before .before .before .before .before .before .before .asked .given .1 ∙ ap Run (c .before .before .before .before .before .before .before .before .event3 .given .1)) .held, c .before .before .before .before .before .before .before .before .before .before .before .before .before .before .before .before .before .before .before .loop .inv .going .used-fits, c .before .before .before .before .before .before .before .before .before .before .before .before .before .before .before .before .before .before .before .loop .inv .going .same-room, c .before .before .before .before .before .before .before .before .before .before .before .before .before .before .before .before .before .before .before .before .before .before .before .before .before .good .1 .0)
 
 mul-answers : tie.Need-mul-answers Inv-loop μ-loop
 mul-answers c = omega (arith, c .before .before .before .before .before .before .before .loop .inv .going .slots (more (c .before .before .before .before)), c .before .before .before .before .before .before .before .loop .inv .going .at-fits, c .before .before .before .before .before .before .before .before .before .before .before .before .before .pre .0)
@@ -177,10 +177,10 @@ loop-less c = omega (arith, front-within ofSession didOf did-same SessionWF (c .
 loop-again : tie.Need-loop-again Inv-loop μ-loop
 loop-again c =
     let t = turned c in
-    record { going = going-more didOf emptyOf (c .before .before .before .before .before .before .before .loop .inv .going) (more (c .before .before .before .before)) did-fits (part-rest (now (c .before .before .before .before .before .before .before .before .before .before .before .before .before .args .s)) (c .before .before .before .before .before .before .before .loop .at)) (at-front (c .before .before) .used) (t .left); wf = t .kept }
+    record { going = going-more didOf emptyOf (c .before .before .before .before .before .before .before .loop .inv .going) (more (c .before .before .before .before)) did-fits (part-rest (now (c .before .before .before .before .before .before .before .before .before .before .before .before .before .args .bytes)) (c .before .before .before .before .before .before .before .loop .at)) (at-front (c .before .before) .used) (t .left); wf = t .kept }
 
 slots-left : (c : tie.Else1 Inv-loop μ-loop) → let l = c .before .before .before .loop in let a = c .before .before .before .before .before .before .before .before .before in
-    l .at < length (now (a .args .s)) → l .lines < length (l .answers)
+    l .at < length (now (a .args .bytes)) → l .lines < length (l .answers)
 slots-left c h = going-slot didOf emptyOf (c .before .before .before .loop .inv .going) h (c .before .before .before .before .before .before .before .before .before .pre .1)
 
 mul-answers-2 : tie.Need-mul-answers-2 Inv-loop μ-loop
@@ -230,9 +230,9 @@ run-all-spec =
     (λ c. omega (arith, c .loop .inv .going .at-fits))
     (λ c. omega (arith, c .loop .inv .going .at-fits))
     (λ c κs. search needs)
-    sub-l
-    part-l-start
-    part-l-end
+    sub-rest
+    part-rest-start
+    part-rest-end
     sub-front
     (λ c κs. search needs)
     (λ c κs. search needs)

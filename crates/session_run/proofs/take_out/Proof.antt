@@ -12,20 +12,20 @@ same-length c = search needs
 returns : tie.Need-returns
 returns c = record { number = simp (c .before .before .before .before .before .before .if1 .taken, sym (c .before .before .before .image-out .ensures .fits) ∙ c .if2 .taken); written = c .before .before .before .image-out .ensures .written ∙ simp (c .before .before .before .before .before .before .if1 .taken) }
 
-number-requires : tie.Need-number-requires
-number-requires c κs = search needs
+taken-number-requires : tie.Need-taken-number-requires
+taken-number-requires c κs = search needs
 
 same-length-2 : tie.Need-same-length-2
 same-length-2 c = search needs
 
 returns-2 : tie.Need-returns-2
-returns-2 c = record { number = c .number .ensures ∙ simp (c .before .before .before .before .before .before .before .if1 .taken, sym (c .before .before .before .before .image-out .ensures .fits) ∙ c .before .if2 .left); written = c .before .before .before .before .image-out .ensures .written ∙ simp (c .before .before .before .before .before .before .before .if1 .taken) }
+returns-2 c = record { number = c .taken-number .ensures ∙ simp (c .before .before .before .before .before .before .before .if1 .taken, sym (c .before .before .before .before .image-out .ensures .fits) ∙ c .before .if2 .left); written = c .before .before .before .before .image-out .ensures .written ∙ simp (c .before .before .before .before .before .before .before .if1 .taken) }
 
-number-requires-2 : tie.Need-number-requires-2
-number-requires-2 c κs = search needs
+taken-number-requires-2 : tie.Need-taken-number-requires-2
+taken-number-requires-2 c κs = search needs
 
 returns-3 : tie.Need-returns-3
-returns-3 c = record { number = c .number2 .ensures ∙ simp (c .before .if1 .left); written = simp (c .before .if1 .left) }
+returns-3 c = record { number = c .taken-number2 .ensures ∙ simp (c .before .if1 .left); written = simp (c .before .if1 .left) }
 
 pub take-out-spec : {M : Type 1} → statement M
 take-out-spec =
@@ -34,8 +34,8 @@ take-out-spec =
     image-out-requires
     same-length
     returns
-    number-requires
+    taken-number-requires
     same-length-2
     returns-2
-    number-requires-2
+    taken-number-requires-2
     returns-3)

@@ -29,7 +29,7 @@ returns : tie.Need-returns
 returns c =
     let start = c .before .before .before .before .before .before .before in
     let l = now (start .args .dst) in
-    c .before .before .store .ensures ∙ put-copy l (now (start .args .s)) (start .args .at) (length l) refl (start .pre)
+    c .before .before .store .ensures ∙ put-copy l (now (start .args .bytes)) (start .args .at) (length l) refl (start .pre)
 
 pub fill-spec : {M : Type 1} → statement M
 fill-spec =

@@ -14,7 +14,7 @@ returns c =
     let lower = c .before .before .before .before .before .before in
     let a = lower .before .before .before .before .args in
     c .before .before .store .ensures
-    ∙ laid-copied (a .low) (a .low + length (now (a .array))) (now (a .array)) (a .a) (now (a .bytes)) _ _ (lower .before .higher .ensures) (lower .lower .ensures) (c .before .before .before .before .before .if1 .taken)
+    ∙ laid-copied (a .low) (a .low + length (now (a .array))) (now (a .array)) (a .a) (now (a .bytes)) _ _ (lower .before .greater .ensures) (lower .lesser .ensures) (c .before .before .before .before .before .if1 .taken)
 
 returns-2 : tie.Need-returns-2
 returns-2 c =

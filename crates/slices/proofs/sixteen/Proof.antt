@@ -12,7 +12,7 @@ returns c =
     let start = high .before .before .before in
     c .before .store82 .ensures .written
     ∙ rw (first .store8 .ensures .written, high .eight2 .ensures, high .before .eight .ensures)
-    (put-both _ (now (start .args .s)) (start .args .at) 8 8 refl (start .pre))
+    (put-both _ (now (start .args .bytes)) (start .args .at) 8 8 refl (start .pre))
 
 pub sixteen-spec : {M : Type 1} → statement M
 sixteen-spec =

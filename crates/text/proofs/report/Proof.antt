@@ -21,13 +21,13 @@ abbrev tested : tie.After-put-coded-arg3 → tie.Then1
 tested c = c .before .before .before
 
 -- the answers and the replies that are handed on
-codes : (c : tie.After-fits2) → Cut (start c .args .ended .lines) (now (start c .args .answers)) (c .before .before .lower .result)
-codes c = cut _ _ _ (c .before .before .lower .ensures)
+codes : (c : tie.After-fits2) → Cut (start c .args .ended .lines) (now (start c .args .answers)) (c .before .before .lesser .result)
+codes c = cut _ _ _ (c .before .before .lesser .ensures)
 
-replies : (c : tie.After-fits2) → Cut (start c .args .ended .replied) (now (start c .args .replies)) (c .before .lower2 .result)
-replies c = cut _ _ _ (c .before .lower2 .ensures)
+replies : (c : tie.After-fits2) → Cut (start c .args .ended .replied) (now (start c .args .replies)) (c .before .lesser2 .result)
+replies c = cut _ _ _ (c .before .lesser2 .ensures)
 
-fitting : (c : tie.Then1) → Held (c .before .before .before .lower .result) (c .before .before .lower2 .result) (length (now (start (c .before) .args .out)))
+fitting : (c : tie.Then1) → Held (c .before .before .before .lesser .result) (c .before .before .lesser2 .result) (length (now (start (c .before) .args .out)))
 fitting c = fits-room _ _ _ (sym (c .before .fits2 .ensures) ∙ c .if1 .taken)
 
 put-coded-requires : tie.Need-put-coded-requires

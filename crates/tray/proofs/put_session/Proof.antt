@@ -28,7 +28,7 @@ returns c =
     let printed = c .before .before in
     let end = ran printed .run in
     let known = lent (ran printed) .before in
-    session-text trayDid emptyTray did-fits (now (known .before .args .s)) (replicate 65536 0) (replicate 8192 0) (trayResultOf (end .result))
+    session-text trayDid emptyTray did-fits (now (known .before .args .bytes)) (replicate 65536 0) (replicate 8192 0) (trayResultOf (end .result))
     (end .last .1 .0) (end .last .1 .1 .0)
     (λ i. known .shared-slice-known .given i .fits) (sym (length-replicate {A = ℕ} 8192 0)) (sym (length-replicate {A = ℕ} 65536 0)) (end .ensures)
     (known .before .pre) (printed .report .ensures)

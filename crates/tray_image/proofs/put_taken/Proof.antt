@@ -9,7 +9,7 @@ use Rattle.tray_record.specs.declared.Tray.{Tray}
 use Rattle.tray_record.specs.Tray.{emptyTray, trayDid}
 use Rattle.tray_run.specs.TrayRun.{trayResultOf}
 use Rattle.text.proofs.AtEnd.{AtEnd, at-end, done-said, idle-said}
-use Rattle.tray_image.specs.TrayImage.{lastOf, slotSpeech, takenSpeech}
+use Rattle.tray_image.specs.TrayImage.{trayAtEnd, slotSpeech, trayImageSpeech}
 use borrow.Author.Needs.{needs}
 use Rattle.tray_image.proofs.put_taken.Statement.{statement}
 use Rattle.tray_image.proofs.put_taken.Tie as tie
@@ -32,14 +32,14 @@ abbrev saidOf : tie.After-tray → Tray → Speech
 saidOf c τ = slotSpeech τ (lent c .args .slot)
 
 -- what is known of its end
-ending : (c : tie.After-tray) → AtEnd trayDid emptyTray (now (lent c .args .s)) (trayResultOf (ran c .run .result))
+ending : (c : tie.After-tray) → AtEnd trayDid emptyTray (now (lent c .args .bytes)) (trayResultOf (ran c .run .result))
 ending c =
     let run = ran c .run in
     at-end trayDid emptyTray _ (trayResultOf (run .result)) (replicate 65536 0) (replicate 8192 0) (run .last .1 .0) (run .last .1 .1 .0)
     (sym (length-replicate {A = ℕ} 8192 0)) (sym (length-replicate {A = ℕ} 65536 0)) (run .ensures)
 
 returns : tie.Need-returns
-unfolding takenSpeech lastOf
+unfolding trayImageSpeech trayAtEnd
 returns c =
     let said = c .before .before in
     let told = said .before .before in
@@ -47,7 +47,7 @@ returns c =
     done-said trayDid emptyTray (saidOf end) _ (ending end) (told .enum-told .given .1) (said .put-image .ensures)
 
 returns-2 : tie.Need-returns-2
-unfolding takenSpeech lastOf
+unfolding trayImageSpeech trayAtEnd
 returns-2 c =
     let said = c .before .before in
     let told = said .before .before in
@@ -55,7 +55,7 @@ returns-2 c =
     idle-said trayDid emptyTray (saidOf end) _ (ending end) Over (told .enum-told2 .given .1) (said .put-unrun .ensures)
 
 returns-3 : tie.Need-returns-3
-unfolding takenSpeech lastOf
+unfolding trayImageSpeech trayAtEnd
 returns-3 c =
     let said = c .before .before in
     let told = said .before .before in

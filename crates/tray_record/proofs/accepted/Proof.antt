@@ -31,22 +31,22 @@ shared-slice-read-result-4 : tie.Need-shared-slice-read-result-4
 shared-slice-read-result-4 c = let d = c .before .before .before .before in first _ _ _ (d .pre) (c .before .enum-told6 .given .1) refl
 
 returns : tie.Need-returns
-returns c = let a = c .before .before .before .before .args in c .or .ensures ∙ accept _ _ (a .count) (a .closed) (now (a .p)) (c .before .enum-told .given .1)
+returns c = let a = c .before .before .before .before .args in c .or .ensures ∙ accept _ _ (a .count) (a .closed) (now (a .payload)) (c .before .enum-told .given .1)
 
 returns-2 : tie.Need-returns-2
-returns-2 c = let a = c .before .before .before .before .args in accept _ _ (a .count) (a .closed) (now (a .p)) (c .before .enum-told2 .given .1)
+returns-2 c = let a = c .before .before .before .before .args in accept _ _ (a .count) (a .closed) (now (a .payload)) (c .before .enum-told2 .given .1)
 
 returns-3 : tie.Need-returns-3
-returns-3 c = let a = c .before .before .before .before .args in accept _ _ (a .count) (a .closed) (now (a .p)) (c .before .enum-told3 .given .1)
+returns-3 c = let a = c .before .before .before .before .args in accept _ _ (a .count) (a .closed) (now (a .payload)) (c .before .enum-told3 .given .1)
 
 returns-4 : tie.Need-returns-4
-returns-4 c = let a = c .before .before .before .args in accept _ _ (a .count) (a .closed) (now (a .p)) (c .enum-told4 .given .1)
+returns-4 c = let a = c .before .before .before .args in accept _ _ (a .count) (a .closed) (now (a .payload)) (c .enum-told4 .given .1)
 
 returns-5 : tie.Need-returns-5
-returns-5 c = let a = c .before .before .before .before .args in accept _ _ (a .count) (a .closed) (now (a .p)) (c .before .enum-told5 .given .1)
+returns-5 c = let a = c .before .before .before .before .args in accept _ _ (a .count) (a .closed) (now (a .payload)) (c .before .enum-told5 .given .1)
 
 returns-6 : tie.Need-returns-6
-returns-6 c = let a = c .before .before .before .before .args in accept _ _ (a .count) (a .closed) (now (a .p)) (c .before .enum-told6 .given .1)
+returns-6 c = let a = c .before .before .before .before .args in accept _ _ (a .count) (a .closed) (now (a .payload)) (c .before .enum-told6 .given .1)
 
 pub accepted-spec : {M : Type 1} → statement M
 accepted-spec =

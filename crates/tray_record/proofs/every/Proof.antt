@@ -18,10 +18,10 @@ Inv-loop t master room₀ tray₀ n count i₀ room tray i = (i ≤ 8) × (count
 abbrev μ-loop : tie.MeasureT-loop
 μ-loop t master room₀ tray₀ n count i₀ room tray i = count - i
 
-slice-aggregate-idle : tie.Need-slice-aggregate-idle Inv-loop μ-loop
-slice-aggregate-idle c =
+slice-aggregate-fill-ones : tie.Need-slice-aggregate-fill-ones Inv-loop μ-loop
+slice-aggregate-fill-ones c =
     let start = c .before .before .before .before .before in
-    sym (length-take-le (start .args .t .count) (now (start .args .room)) (start .pre .1 .1))
+    sym (length-take-le (start .args .transaction .count) (now (start .args .room)) (start .pre .1 .1))
 
 loop-holds : tie.Need-loop-holds Inv-loop μ-loop
 loop-holds c =
@@ -29,7 +29,7 @@ loop-holds c =
     let a = start .args in (
       omega arith,
       c .before .before .before .before .wide .ensures .0,
-      hearing-start (a .t) (now (a .master)) (now (a .room)) (c .before .before .idle .last .0) (start .pre .1 .1) (c .before .before .idle .ensures) (a .t1) (start .pre .0),
+      hearing-start (a .transaction) (now (a .master)) (now (a .room)) (c .before .before .fill-ones .last .0) (start .pre .1 .1) (c .before .before .fill-ones .ensures) (a .t1) (start .pre .0),
     )
 
 -- the next slot is one of eight
@@ -42,7 +42,7 @@ heard-requires c κs =
     let start = c .before .before .before .before .before .before .before .before .before .before .before .before .before .before in
     let w = l .inv .2 .wf in (
       pack-wf (l .tray) (l .i) _ _ _ w (omega (arith, l .inv .1, start .pre .0 .few, c .before .before .before .before .loop-test .taken)),
-      (start .pre .1 .0, omega (arith, hearing-length (start .args .t) (now (start .args .master)) (l .inv .2))),
+      (start .pre .1 .0, omega (arith, hearing-length (start .args .transaction) (now (start .args .master)) (l .inv .2))),
     )
 
 mul-common : tie.Need-mul-common Inv-loop μ-loop
@@ -71,8 +71,8 @@ loop-again c =
     let i = inside c in (
       omega arith,
       l .inv .1,
-      hearing-more (a .t) (now (a .master)) (l .inv .2) (omega (arith, l .inv .1, c .before .before .before .before .before .before .before .before .before .before .loop-test .taken))
-          (hearing-pack (a .t) (now (a .master)) (l .inv .2) _ _ _ i)
+      hearing-more (a .transaction) (now (a .master)) (l .inv .2) (omega (arith, l .inv .1, c .before .before .before .before .before .before .before .before .before .before .loop-test .taken))
+          (hearing-pack (a .transaction) (now (a .master)) (l .inv .2) _ _ _ i)
           (x .0) (x .1 .1) (x .1 .0),
     )
 
@@ -80,17 +80,17 @@ same-length : tie.Need-same-length Inv-loop μ-loop
 same-length c =
     let start = c .before .before .before .before .before .before .before .before .before .before in
     let a = start .args in
-    let high = c .before .before .before .before .idle in
-    omega (arith, hearing-length (a .t) (now (a .master)) (c .before .loop .inv .2), ap length (hearing-rest (a .t) (now (a .master)) (now (a .room)) (high .last .0) (start .pre .1 .1) (high .ensures)), length-drop (a .t .count) (now (a .room)), start .pre .1 .1)
+    let high = c .before .before .before .before .fill-ones in
+    omega (arith, hearing-length (a .transaction) (now (a .master)) (c .before .loop .inv .2), ap length (hearing-rest (a .transaction) (now (a .master)) (now (a .room)) (high .last .0) (start .pre .1 .1) (high .ensures)), length-drop (a .transaction .count) (now (a .room)), start .pre .1 .1)
 
 returns : tie.Need-returns Inv-loop μ-loop
 returns c =
     let start = c .before .before .before .before .before .before .before .before .before .before in
     let a = start .args in
-    let high = c .before .before .before .before .idle in
+    let high = c .before .before .before .before .fill-ones in
     let s = c .before .loop .inv .2 in
-    let e = hearing-end (a .t) (now (a .master)) s (omega (arith, c .before .loop .inv .1)) in
-    (e .0, (e .1 ∙ ap (λ (l : List ℕ). wiredFirst (a .t) (now (a .master)) (a .t1) (a .t1 .count) ++ l) (hearing-rest (a .t) (now (a .master)) (now (a .room)) (high .last .0) (start .pre .1 .1) (high .ensures)), s .wf))
+    let e = hearing-end (a .transaction) (now (a .master)) s (omega (arith, c .before .loop .inv .1)) in
+    (e .0, (e .1 ∙ ap (λ (l : List ℕ). wiredFirst (a .transaction) (now (a .master)) (a .t1) (a .t1 .count) ++ l) (hearing-rest (a .transaction) (now (a .master)) (now (a .room)) (high .last .0) (start .pre .1 .1) (high .ensures)), s .wf))
 
 pub every-spec : {M : Type 1} → statement M
 every-spec =
@@ -101,7 +101,7 @@ every-spec =
     (λ c. search needs)
     (λ c κs. search needs)
     (λ c. search needs)
-    slice-aggregate-idle
+    slice-aggregate-fill-ones
     (λ c κs. search needs)
     loop-holds
     (λ c. search needs)

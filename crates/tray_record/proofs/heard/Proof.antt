@@ -13,19 +13,19 @@ use Rattle.tray_record.proofs.heard.Tie as tie
 slice-aggregate-wire : tie.Need-slice-aggregate-wire
 slice-aggregate-wire c =
     let start = c .before .before .before .before .before .before .before in
-    sym (length-take-le (start .args .t .count) (c .before .before .transact .last .1 .1 .1 .0) (omega (arith, c .before .before .transact .kept .1 .1 .1 .0, start .pre .1 .0)))
+    sym (length-take-le (start .args .transaction .count) (c .before .before .transact .last .1 .1 .1 .0) (omega (arith, c .before .before .transact .kept .1 .1 .1 .0, start .pre .1 .0)))
 
 wire-requires : tie.Need-wire-requires
 wire-requires c κs =
     let start = c .before .before .before .before .before .before .before .before in
-    omega (arith, length-take (start .args .t .count) (c .before .before .before .transact .last .1 .1 .1 .0), start .pre .1 .1)
+    omega (arith, length-take (start .args .transaction .count) (c .before .before .before .transact .last .1 .1 .1 .0), start .pre .1 .1)
 
 returns : tie.Need-returns
 returns c =
     let a = c .before .before .before .before .before .before .before .before .before .before .before .args in
     let x = c .before .before .before .before .before .before .transact .ensures in
-    let reply = replyOf (a .g) (a .t) (now (a .master)) in
-    (x .0, (c .before .before .wire .ensures ∙ ap (andBytes (now (a .room))) (ap (take (a .t .count)) (x .1 .0) ∙ take-at reply _ (a .t .count) (reply-length (a .g) (a .t) (now (a .master)))), x .1 .1))
+    let reply = replyOf (a .gauge) (a .transaction) (now (a .master)) in
+    (x .0, (c .before .before .wire .ensures ∙ ap (andBytes (now (a .room))) (ap (take (a .transaction .count)) (x .1 .0) ∙ take-at reply _ (a .transaction .count) (reply-length (a .gauge) (a .transaction) (now (a .master)))), x .1 .1))
 
 pub heard-spec : {M : Type 1} → statement M
 heard-spec =

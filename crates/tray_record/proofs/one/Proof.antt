@@ -24,9 +24,9 @@ returns c =
     let i = c .before .before .before .before .before .before .before .before .before .before .wide in
     let x = c .before .before .before .before .before .transact .ensures in
     let g = pack-is (a .t1) (i .result) _ _ _ (start .pre .0) (omega (arith, i .ensures .0, start .pre .1 .0)) in (
-      one-acted (a .t) (now (a .master)) (a .t1) (i .ensures .0) g (x .0),
+      one-acted (a .transaction) (now (a .master)) (a .t1) (i .ensures .0) g (x .0),
       (
-        x .1 .0 ∙ ap (λ (k : Gauge). replyOf k (a .t) (now (a .master)) ++ drop (a .t .count) (now (a .room))) (g ∙ ap (packOf (a .t1)) (i .ensures .0)),
+        x .1 .0 ∙ ap (λ (k : Gauge). replyOf k (a .transaction) (now (a .master)) ++ drop (a .transaction .count) (now (a .room))) (g ∙ ap (packOf (a .t1)) (i .ensures .0)),
         stored-wf (a .t1) (i .result) _ (start .pre .0) (x .1 .1),
       ),
     )

@@ -15,7 +15,7 @@ one-requires c κs =
     let a = start .args in (
       start .pre .0,
       (
-        omega (arith, start .pre .0 .few, aimed-below (a .t .rom) (a .tray .commons) (a .tray .count) (now (a .master)) (sym (c .before .before .before .before .aimed .ensures) ∙ c .before .before .f .given .1)),
+        omega (arith, start .pre .0 .few, aimed-below (a .transaction .rom) (a .tray .commons) (a .tray .count) (now (a .master)) (sym (c .before .before .before .before .aimed .ensures) ∙ c .before .before .found .given .1)),
         start .pre .1 .1,
       ),
     )
@@ -23,10 +23,10 @@ one-requires c κs =
 returns : tie.Need-returns
 returns c =
     let a = c .before .before .before .before .before .before .before .before .before .before .before .args in
-    let e = ap reachFound (sym (c .before .before .before .before .before .f .given .1) ∙ c .before .before .before .before .before .before .before .aimed .ensures) in
+    let e = ap reachFound (sym (c .before .before .before .before .before .found .given .1) ∙ c .before .before .before .before .before .before .before .aimed .ensures) in
     let x = c .before .before .one .ensures in (
-      x .0 ∙ ap (λ (r : Reach). trayActed (a .t) (now (a .master)) r (a .tray)) e,
-      (x .1 .0 ∙ ap (λ (r : Reach). trayReply (a .t) (now (a .master)) r (a .tray) ++ drop (a .t .count) (now (a .room))) e, x .1 .1),
+      x .0 ∙ ap (λ (r : Reach). trayActed (a .transaction) (now (a .master)) r (a .tray)) e,
+      (x .1 .0 ∙ ap (λ (r : Reach). trayReply (a .transaction) (now (a .master)) r (a .tray) ++ drop (a .transaction .count) (now (a .room))) e, x .1 .1),
     )
 
 returns-2 : tie.Need-returns-2
@@ -34,8 +34,8 @@ returns-2 c =
     let a = c .before .before .before .before .before .before .before .before .before .before .args in
     let e = ap reachFound (sym (c .before .before .before .before .enum-told .given .1) ∙ c .before .before .before .before .before .before .aimed .ensures) in
     let x = c .before .before .every .ensures in (
-      x .0 ∙ ap (λ (r : Reach). trayActed (a .t) (now (a .master)) r (a .tray)) e,
-      (x .1 .0 ∙ ap (λ (r : Reach). trayReply (a .t) (now (a .master)) r (a .tray) ++ drop (a .t .count) (now (a .room))) e, x .1 .1),
+      x .0 ∙ ap (λ (r : Reach). trayActed (a .transaction) (now (a .master)) r (a .tray)) e,
+      (x .1 .0 ∙ ap (λ (r : Reach). trayReply (a .transaction) (now (a .master)) r (a .tray) ++ drop (a .transaction .count) (now (a .room))) e, x .1 .1),
     )
 
 pub transacted-spec : {M : Type 1} → statement M

@@ -19,7 +19,7 @@ returns c =
     let c9 = c8 .before in
     let t = c9 .args .tray in
     let at = c8 .wide .ensures .0 in
-    c .size .ensures .0
+    c .image-size .ensures .0
     ∙ ap (λ (m : Meter). imageSizeOf (m .cells .profile)) (within (t .meters) (c8 .wide .result) _ (noGauge .meter) (omega (arith, c3 .if1 .taken, c4 .sized .ensures .2)))
     ∙ ap (λ (i : ℕ). sizeFor (packOf t i)) at
 

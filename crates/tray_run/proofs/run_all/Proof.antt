@@ -29,24 +29,24 @@ abbrev μ-loop : tie.MeasureT-loop
 μ-loop s room₀ answers₀ tray₀ at₀ used₀ lines₀ room answers tray at used lines = length s - at
 
 -- some bytes are left where the loop goes on
-more : (c : tie.Then1 Inv-loop μ-loop) → c .before .before .before .loop .at < length (now (c .before .before .before .before .before .before .before .before .args .s))
-more c = whole-more (now (c .before .before .before .before .before .before .before .before .args .s)) (c .before .before .before .loop .at) (sym (c .before .whole .ensures) ∙ c .if1 .taken)
+more : (c : tie.Then1 Inv-loop μ-loop) → c .before .before .before .loop .at < length (now (c .before .before .before .before .before .before .before .before .args .bytes))
+more c = whole-more (now (c .before .before .before .before .before .before .before .before .args .bytes)) (c .before .before .before .loop .at) (sym (c .before .whole .ensures) ∙ c .if1 .taken)
 
-again-is : (c : tie.Joined2 Inv-loop μ-loop) → let l = c .before .before .before .before .before .before .before .loop in let s = now (c .before .before .before .before .before .before .before .before .before .before .before .before .args .s) in
+again-is : (c : tie.Joined2 Inv-loop μ-loop) → let l = c .before .before .before .before .before .before .before .loop in let s = now (c .before .before .before .before .before .before .before .before .before .before .before .before .args .bytes) in
     c .if2 .again ≡ againAt (l .tray) (l .inv .wf) (length (l .room) - l .used) (part (length s - l .at) s (l .at))
 again-is c =
     let l = c .before .before .before .before .before .before .before .loop in
-    let s = now (c .before .before .before .before .before .before .before .before .before .before .before .before .args .s) in
+    let s = now (c .before .before .before .before .before .before .before .before .before .before .before .before .args .bytes) in
     let image = sym (c .before .image-at .ensures) in
     ⊎-elim (λ w. again-known (l .tray) (l .inv .wf) (length (l .room) - l .used) (part (length s - l .at) s (l .at)) (image ∙ w .0 .taken) (w .4 ∙ w .3 .ensures))
     (λ w. again-none (l .tray) (l .inv .wf) (length (l .room) - l .used) (part (length s - l .at) s (l .at)) (image ∙ w .0 .left) (w .1)) (c .if2 .came)
 
 -- what was read of the record at the front
-at-front : (c : tie.After-front Inv-loop μ-loop) → let l = c .before .before .before .before .before .before .before .before .loop in let s = now (c .before .before .before .before .before .before .before .before .before .before .before .before .before .args .s) in
+at-front : (c : tie.After-front Inv-loop μ-loop) → let l = c .before .before .before .before .before .before .before .before .loop in let s = now (c .before .before .before .before .before .before .before .before .before .before .before .before .before .args .bytes) in
     Front ofTray (l .tray) (length (l .room) - l .used) (part (length s - l .at) s (l .at)) (c .front .result)
 at-front c =
     let l = c .before .before .before .before .before .before .before .before .loop in
-    let s = now (c .before .before .before .before .before .before .before .before .before .before .before .before .before .args .s) in
+    let s = now (c .before .before .before .before .before .before .before .before .before .before .before .before .before .args .bytes) in
     let slot = c .before .before .before .slot .ensures in
     front ofTray tray-replying _ _ _
     (front-read (l .tray) (l .inv .wf) (length (l .room) - l .used) (part (length s - l .at) s (l .at)) (again-is (c .before))
@@ -57,7 +57,7 @@ module _ (c : tie.At-match-came Inv-loop μ-loop) where
   abbrev turn : Type 0
   turn =
       let l = c .before .before .before .before .before .before .before .before .before .before .loop in
-      let s = now (c .before .before .before .before .before .before .before .before .before .before .before .before .before .before .before .args .s) in
+      let s = now (c .before .before .before .before .before .before .before .before .before .before .before .before .before .before .before .args .bytes) in
       Turn (l .tray) (l .room) (l .used) (part (length s - l .at) s (l .at)) (c .match .tray) (c .match .room) (c .match .used) (c .match .line)
 
   turned-none : First (c .match .came) → turn
@@ -107,17 +107,17 @@ loop-holds : tie.Need-loop-holds Inv-loop μ-loop
 loop-holds c = rw (c .empty .ensures .0) (record { going = going-start trayDid emptyTray _ _ _; wf = rw (c .empty .ensures .0) at (c .empty .ensures .1) })
 
 sub-known : tie.Need-sub-known Inv-loop μ-loop
-sub-known c = omega (arith, image-long (part (length (now (c .before .before .before .before .before .before .before .before .before .before .before .before .before .args .s)) - c .before .before .before .before .before .before .before .before .loop .at) (now (c .before .before .before .before .before .before .before .before .before .before .before .before .before .args .s)) (c .before .before .before .before .before .before .before .before .loop .at)) (sym (c .before .before .image-at .ensures) ∙ c .before .if2 .taken))
+sub-known c = omega (arith, image-long (part (length (now (c .before .before .before .before .before .before .before .before .before .before .before .before .before .args .bytes)) - c .before .before .before .before .before .before .before .before .loop .at) (now (c .before .before .before .before .before .before .before .before .before .before .before .before .before .args .bytes)) (c .before .before .before .before .before .before .before .before .loop .at)) (sym (c .before .before .image-at .ensures) ∙ c .before .if2 .taken))
 
 part-known-start : tie.Need-part-known-start Inv-loop μ-loop
-part-known-start c = omega (arith, image-long (part (length (now (c .before .before .before .before .before .before .before .before .before .before .before .before .before .args .s)) - c .before .before .before .before .before .before .before .before .loop .at) (now (c .before .before .before .before .before .before .before .before .before .before .before .before .before .args .s)) (c .before .before .before .before .before .before .before .before .loop .at)) (sym (c .before .before .image-at .ensures) ∙ c .before .if2 .taken))
+part-known-start c = omega (arith, image-long (part (length (now (c .before .before .before .before .before .before .before .before .before .before .before .before .before .args .bytes)) - c .before .before .before .before .before .before .before .before .loop .at) (now (c .before .before .before .before .before .before .before .before .before .before .before .before .before .args .bytes)) (c .before .before .before .before .before .before .before .before .loop .at)) (sym (c .before .before .image-at .ensures) ∙ c .before .if2 .taken))
 
 part-known-end : tie.Need-part-known-end Inv-loop μ-loop
-part-known-end c = omega (arith, image-long (part (length (now (c .before .before .before .before .before .before .before .before .before .before .before .before .before .args .s)) - c .before .before .before .before .before .before .before .before .loop .at) (now (c .before .before .before .before .before .before .before .before .before .before .before .before .before .args .s)) (c .before .before .before .before .before .before .before .before .loop .at)) (sym (c .before .before .image-at .ensures) ∙ c .before .if2 .taken))
+part-known-end c = omega (arith, image-long (part (length (now (c .before .before .before .before .before .before .before .before .before .before .before .before .before .args .bytes)) - c .before .before .before .before .before .before .before .before .loop .at) (now (c .before .before .before .before .before .before .before .before .before .before .before .before .before .args .bytes)) (c .before .before .before .before .before .before .before .before .loop .at)) (sym (c .before .before .image-at .ensures) ∙ c .before .if2 .taken))
 
 known-requires : tie.Need-known-requires Inv-loop μ-loop
 known-requires c κs =
-    let s = now (c .before .before .before .before .before .before .before .before .before .before .before .before .before .before .args .s) in
+    let s = now (c .before .before .before .before .before .before .before .before .before .before .before .before .before .before .args .bytes) in
     let l = part (length s - c .before .before .before .before .before .before .before .before .before .loop .at) s (c .before .before .before .before .before .before .before .before .before .loop .at) in
     (c .before .before .before .before .before .before .before .before .before .loop .inv .wf .few, length-take-le 8 (drop 4 l) (omega (arith, length-drop 4 l, image-long l (sym (c .before .before .before .image-at .ensures) ∙ c .before .before .if2 .taken))))
 
@@ -131,21 +131,21 @@ sub-pack-joined : tie.Need-sub-pack-joined Inv-loop μ-loop
 sub-pack-joined c = omega (arith, ran ofTray (at-front (c .before .before .before .before .before .before .before)) (c .before .before .before .before .asked .given .1) .head)
 
 part-pack-joined-start : tie.Need-part-pack-joined-start Inv-loop μ-loop
-part-pack-joined-start c = omega (arith, ran ofTray (at-front (c .before .before .before .before .before .before .before)) (c .before .before .before .before .asked .given .1 ∙ ap Run (c .before .e .given .1)) .head)
+part-pack-joined-start c = omega (arith, ran ofTray (at-front (c .before .before .before .before .before .before .before)) (c .before .before .before .before .asked .given .1 ∙ ap Run (c .before .event .given .1)) .head)
 
 part-pack-joined-end : tie.Need-part-pack-joined-end Inv-loop μ-loop
 part-pack-joined-end c = omega (arith, front-fits ofTray trayDid did-same TrayWF (c .before .before .before .before .before .before .before .before .before .before .before .before .before .before .before .loop .inv) (more (c .before .before .before .before .before .before .before .before .before .before .before .before)) (at-front (c .before .before .before .before .before .before .before)))
 
 pack-joined-requires : tie.Need-pack-joined-requires Inv-loop μ-loop
 pack-joined-requires c κs =
-    let x = ran ofTray (at-front (c .before .before .before .before .before .before .before .before)) (c .before .before .before .before .before .asked .given .1 ∙ ap Run (c .before .before .e .given .1)) in
+    let x = ran ofTray (at-front (c .before .before .before .before .before .before .before .before)) (c .before .before .before .before .before .asked .given .1 ∙ ap Run (c .before .before .event .given .1)) in
     (c .before .before .before .before .before .before .before .before .before .before .before .before .before .before .before .before .loop .inv .wf, ran-taking x .1, ran-taking x .2)
 
-mul-m : tie.Need-mul-m Inv-loop μ-loop
-mul-m c = omega (arith, c .before .before .before .before .before .before .before .before .before .before .before .before .before .slot .ensures .1)
+mul-old-meter : tie.Need-mul-old-meter Inv-loop μ-loop
+mul-old-meter c = omega (arith, c .before .before .before .before .before .before .before .before .before .before .before .before .before .slot .ensures .1)
 
-element-copy-out-m : tie.Need-element-copy-out-m Inv-loop μ-loop
-element-copy-out-m c = c .before .before .before .before .before .before .before .before .before .before .before .before .before .slot .ensures .1
+element-copy-out-old-meter : tie.Need-element-copy-out-old-meter Inv-loop μ-loop
+element-copy-out-old-meter c = c .before .before .before .before .before .before .before .before .before .before .before .before .before .slot .ensures .1
 
 read-requires : tie.Need-read-requires Inv-loop μ-loop
 read-requires c κs = pack-wf (c .before .before .before .before .before .before .before .before .before .before .before .before .before .before .before .before .before .before .before .loop .tray) (c .before .before .before .before .before .before .before .before .before .before .before .before .before .before .slot .result) (noGauge .common) (noGauge .label) _ (c .before .before .before .before .before .before .before .before .before .before .before .before .before .before .before .before .before .before .before .loop .inv .wf) (c .before .before .before .before .before .before .before .before .before .before .before .before .before .before .slot .ensures .1) .meter
@@ -156,11 +156,11 @@ mul-next c = omega (arith, c .before .before .before .before .before .before .be
 element-set-from-next : tie.Need-element-set-from-next Inv-loop μ-loop
 element-set-from-next c = c .before .before .before .before .before .before .before .before .before .before .before .before .before .before .before .slot .ensures .1
 
-mul-m-2 : tie.Need-mul-m-2 Inv-loop μ-loop
-mul-m-2 c = omega (arith, c .before .before .before .before .before .before .before .before .before .before .before .before .before .slot .ensures .1)
+mul-old-meter-2 : tie.Need-mul-old-meter-2 Inv-loop μ-loop
+mul-old-meter-2 c = omega (arith, c .before .before .before .before .before .before .before .before .before .before .before .before .before .slot .ensures .1)
 
-element-copy-out-m-2 : tie.Need-element-copy-out-m-2 Inv-loop μ-loop
-element-copy-out-m-2 c = c .before .before .before .before .before .before .before .before .before .before .before .before .before .slot .ensures .1
+element-copy-out-old-meter-2 : tie.Need-element-copy-out-old-meter-2 Inv-loop μ-loop
+element-copy-out-old-meter-2 c = c .before .before .before .before .before .before .before .before .before .before .before .before .before .slot .ensures .1
 
 convert-requires : tie.Need-convert-requires Inv-loop μ-loop
 convert-requires c κs = pack-wf (c .before .before .before .before .before .before .before .before .before .before .before .before .before .before .before .before .before .before .before .loop .tray) (c .before .before .before .before .before .before .before .before .before .before .before .before .before .before .slot .result) (noGauge .common) (noGauge .label) _ (c .before .before .before .before .before .before .before .before .before .before .before .before .before .before .before .before .before .before .before .loop .inv .wf) (c .before .before .before .before .before .before .before .before .before .before .before .before .before .before .slot .ensures .1) .meter
@@ -171,11 +171,11 @@ mul-next-2 c = omega (arith, c .before .before .before .before .before .before .
 element-set-from-next-2 : tie.Need-element-set-from-next-2 Inv-loop μ-loop
 element-set-from-next-2 c = c .before .before .before .before .before .before .before .before .before .before .before .before .before .before .before .slot .ensures .1
 
-mul-m-3 : tie.Need-mul-m-3 Inv-loop μ-loop
-mul-m-3 c = omega (arith, c .before .before .before .before .before .before .before .before .before .before .before .before .before .slot .ensures .1)
+mul-old-meter-3 : tie.Need-mul-old-meter-3 Inv-loop μ-loop
+mul-old-meter-3 c = omega (arith, c .before .before .before .before .before .before .before .before .before .before .before .before .before .slot .ensures .1)
 
-element-copy-out-m-3 : tie.Need-element-copy-out-m-3 Inv-loop μ-loop
-element-copy-out-m-3 c = c .before .before .before .before .before .before .before .before .before .before .before .before .before .slot .ensures .1
+element-copy-out-old-meter-3 : tie.Need-element-copy-out-old-meter-3 Inv-loop μ-loop
+element-copy-out-old-meter-3 c = c .before .before .before .before .before .before .before .before .before .before .before .before .before .slot .ensures .1
 
 sample-requires : tie.Need-sample-requires Inv-loop μ-loop
 sample-requires c κs = pack-wf (c .before .before .before .before .before .before .before .before .before .before .before .before .before .before .before .before .before .before .before .loop .tray) (c .before .before .before .before .before .before .before .before .before .before .before .before .before .before .slot .result) (noGauge .common) (noGauge .label) _ (c .before .before .before .before .before .before .before .before .before .before .before .before .before .before .before .before .before .before .before .loop .inv .wf) (c .before .before .before .before .before .before .before .before .before .before .before .before .before .before .slot .ensures .1) .meter
@@ -186,17 +186,17 @@ mul-next-3 c = omega (arith, c .before .before .before .before .before .before .
 element-set-from-next-3 : tie.Need-element-set-from-next-3 Inv-loop μ-loop
 element-set-from-next-3 c = c .before .before .before .before .before .before .before .before .before .before .before .before .before .before .before .slot .ensures .1
 
-mul-k : tie.Need-mul-k Inv-loop μ-loop
-mul-k c = omega (arith, c .before .before .before .before .before .before .before .before .before .before .before .before .slot .ensures .1)
+mul-old-label : tie.Need-mul-old-label Inv-loop μ-loop
+mul-old-label c = omega (arith, c .before .before .before .before .before .before .before .before .before .before .before .before .slot .ensures .1)
 
-element-copy-out-k : tie.Need-element-copy-out-k Inv-loop μ-loop
-element-copy-out-k c = c .before .before .before .before .before .before .before .before .before .before .before .before .slot .ensures .1
+element-copy-out-old-label : tie.Need-element-copy-out-old-label Inv-loop μ-loop
+element-copy-out-old-label c = c .before .before .before .before .before .before .before .before .before .before .before .before .slot .ensures .1
 
-mul-m-4 : tie.Need-mul-m-4 Inv-loop μ-loop
-mul-m-4 c = omega (arith, c .before .before .before .before .before .before .before .before .before .before .before .before .before .slot .ensures .1)
+mul-old-meter-4 : tie.Need-mul-old-meter-4 Inv-loop μ-loop
+mul-old-meter-4 c = omega (arith, c .before .before .before .before .before .before .before .before .before .before .before .before .before .slot .ensures .1)
 
-element-copy-out-m-4 : tie.Need-element-copy-out-m-4 Inv-loop μ-loop
-element-copy-out-m-4 c = c .before .before .before .before .before .before .before .before .before .before .before .before .before .slot .ensures .1
+element-copy-out-old-meter-4 : tie.Need-element-copy-out-old-meter-4 Inv-loop μ-loop
+element-copy-out-old-meter-4 c = c .before .before .before .before .before .before .before .before .before .before .before .before .before .slot .ensures .1
 
 mul-label : tie.Need-mul-label Inv-loop μ-loop
 mul-label c = omega (arith, c .before .before .before .before .before .before .before .before .before .before .before .before .before .before .before .before .slot .ensures .1)
@@ -211,16 +211,16 @@ element-set-from-next-4 : tie.Need-element-set-from-next-4 Inv-loop μ-loop
 element-set-from-next-4 c = c .before .before .before .before .before .before .before .before .before .before .before .before .before .before .before .before .slot .ensures .1
 
 add-from : tie.Need-add-from Inv-loop μ-loop
-add-from c = omega (arith, ran-taking (ran ofTray (at-front (c .before .before .before .before .before .before .before .before)) (c .before .before .before .before .before .asked .given .1 ∙ ap Run (c .before .before .e3 .given .1))) .1 .near)
+add-from c = omega (arith, ran-taking (ran ofTray (at-front (c .before .before .before .before .before .before .before .before)) (c .before .before .before .before .before .asked .given .1 ∙ ap Run (c .before .before .event3 .given .1))) .1 .near)
 
 sub-transacted : tie.Need-sub-transacted Inv-loop μ-loop
 sub-transacted c =
-    let x = ran ofTray (at-front (c .before .before .before .before .before .before .before .before)) (c .before .before .before .before .before .asked .given .1 ∙ ap Run (c .before .before .e3 .given .1)) in
+    let x = ran ofTray (at-front (c .before .before .before .before .before .before .before .before)) (c .before .before .before .before .before .asked .given .1 ∙ ap Run (c .before .before .event3 .given .1)) in
     omega (arith, master-starts ofTray x (ran-taking x .1))
 
 part-transacted-start : tie.Need-part-transacted-start Inv-loop μ-loop
 part-transacted-start c =
-    let x = ran ofTray (at-front (c .before .before .before .before .before .before .before .before)) (c .before .before .before .before .before .asked .given .1 ∙ ap Run (c .before .before .e3 .given .1)) in
+    let x = ran ofTray (at-front (c .before .before .before .before .before .before .before .before)) (c .before .before .before .before .before .asked .given .1 ∙ ap Run (c .before .before .event3 .given .1)) in
     omega (arith, master-starts ofTray x (ran-taking x .1))
 
 part-transacted-end : tie.Need-part-transacted-end Inv-loop μ-loop
@@ -237,11 +237,11 @@ part-transacted-end-2 c = omega (arith, c .before .before .before .before .befor
 
 transacted-requires : tie.Need-transacted-requires Inv-loop μ-loop
 transacted-requires c κs =
-    let x = ran ofTray (at-front (c .before .before .before .before .before .before .before .before .before .before)) (c .before .before .before .before .before .before .before .asked .given .1 ∙ ap Run (c .before .before .before .before .e3 .given .1)) in
+    let x = ran ofTray (at-front (c .before .before .before .before .before .before .before .before .before .before)) (c .before .before .before .before .before .before .before .asked .given .1 ∙ ap Run (c .before .before .before .before .event3 .given .1)) in
     (c .before .before .before .before .before .before .before .before .before .before .before .before .before .before .before .before .before .before .loop .inv .wf, (ran-taking x .1 .few, omega (arith, x .held, room-left (c .before .before .before .before .before .before .before .before .before .before .before .before .before .before .before .before .before .before .loop .room) (c .before .before .before .before .before .before .before .before .before .before .before .before .before .before .before .before .before .before .loop .used))))
 
 add-used : tie.Need-add-used Inv-loop μ-loop
-add-used c = omega (arith, ran ofTray (at-front (c .before .before .before .before .before .before .before .before .before .before .before .before .before .before)) (c .before .before .before .before .before .before .before .before .before .before .before .asked .given .1 ∙ ap Run (c .before .before .before .before .before .before .before .before .e3 .given .1)) .held, c .before .before .before .before .before .before .before .before .before .before .before .before .before .before .before .before .before .before .before .before .before .before .loop .inv .going .used-fits, c .before .before .before .before .before .before .before .before .before .before .before .before .before .before .before .before .before .before .before .before .before .before .loop .inv .going .same-room, c .before .before .before .before .before .before .before .before .before .before .before .before .before .before .before .before .before .before .before .before .before .before .before .before .before .before .before .good .1 .0)
+add-used c = omega (arith, ran ofTray (at-front (c .before .before .before .before .before .before .before .before .before .before .before .before .before .before)) (c .before .before .before .before .before .before .before .before .before .before .before .asked .given .1 ∙ ap Run (c .before .before .before .before .before .before .before .before .event3 .given .1)) .held, c .before .before .before .before .before .before .before .before .before .before .before .before .before .before .before .before .before .before .before .before .before .before .loop .inv .going .used-fits, c .before .before .before .before .before .before .before .before .before .before .before .before .before .before .before .before .before .before .before .before .before .before .loop .inv .going .same-room, c .before .before .before .before .before .before .before .before .before .before .before .before .before .before .before .before .before .before .before .before .before .before .before .before .before .before .before .good .1 .0)
 
 mul-answers : tie.Need-mul-answers Inv-loop μ-loop
 mul-answers c = omega (arith, c .before .before .before .before .before .before .before .before .before .before .loop .inv .going .slots (more (c .before .before .before .before .before .before .before)), c .before .before .before .before .before .before .before .before .before .before .loop .inv .going .at-fits, c .before .before .before .before .before .before .before .before .before .before .before .before .before .before .before .pre .0)
@@ -258,7 +258,7 @@ loop-less c = omega (arith, front-within ofTray trayDid did-same TrayWF (c .befo
 loop-again : tie.Need-loop-again Inv-loop μ-loop
 loop-again c =
     let t = turned c in
-    record { going = going-more trayDid emptyTray (c .before .before .before .before .before .before .before .before .before .before .loop .inv .going) (more (c .before .before .before .before .before .before .before)) did-fits (part-rest (now (c .before .before .before .before .before .before .before .before .before .before .before .before .before .before .before .args .s)) (c .before .before .before .before .before .before .before .before .before .before .loop .at)) (at-front (c .before .before) .used) (t .left); wf = t .kept }
+    record { going = going-more trayDid emptyTray (c .before .before .before .before .before .before .before .before .before .before .loop .inv .going) (more (c .before .before .before .before .before .before .before)) did-fits (part-rest (now (c .before .before .before .before .before .before .before .before .before .before .before .before .before .before .before .args .bytes)) (c .before .before .before .before .before .before .before .before .before .before .loop .at)) (at-front (c .before .before) .used) (t .left); wf = t .kept }
 
 mul-answers-2 : tie.Need-mul-answers-2 Inv-loop μ-loop
 mul-answers-2 c =
@@ -322,28 +322,28 @@ run-all-spec =
     pack-joined-requires
     (λ c. search needs)
     (λ c. search needs)
-    mul-m
-    element-copy-out-m
+    mul-old-meter
+    element-copy-out-old-meter
     read-requires
     mul-next
     element-set-from-next
     (λ c. search needs)
-    mul-m-2
-    element-copy-out-m-2
+    mul-old-meter-2
+    element-copy-out-old-meter-2
     convert-requires
     mul-next-2
     element-set-from-next-2
     (λ c. search needs)
-    mul-m-3
-    element-copy-out-m-3
+    mul-old-meter-3
+    element-copy-out-old-meter-3
     sample-requires
     mul-next-3
     element-set-from-next-3
     (λ c. search needs)
-    mul-k
-    element-copy-out-k
-    mul-m-4
-    element-copy-out-m-4
+    mul-old-label
+    element-copy-out-old-label
+    mul-old-meter-4
+    element-copy-out-old-meter-4
     (λ c κs. search needs)
     (λ c κs. search needs)
     mul-label

@@ -48,8 +48,8 @@ returns c =
     let inside : i < 8 = omega (arith, c .before .before .before .before .before .before .before .before .before .before .before .before .wide .ensures .0, below (c .before .before .before .before .before .before .before .before .before .before .before .before .before .before .before .before .before .args .tray) (c .before .before .before .before .before .before .before .before .before .before .before .before .before .before .before .before .before .args .slot) (sym (c .before .before .before .before .before .before .before .before .before .before .before .before .before .before .and .ensures) ∙ c .before .before .before .before .before .before .before .before .before .before .before .before .before .if1 .taken)) in
     slot-out (a .tray) (a .slot) (sym (c .before .before .before .before .before .before .before .before .before .before .before .before .before .before .and .ensures) ∙ c .before .before .before .before .before .before .before .before .before .before .before .before .before .if1 .taken) (pack-at (a .tray) i _ _ _ (c .before .before .before .before .before .before .before .before .sized .ensures) inside ∙ ap (packOf (a .tray)) (c .before .before .before .before .before .before .before .before .before .before .before .before .wide .ensures .0)) (c .before .before .before .image-out .ensures) (rw (c .if2 .taken) refl)
 
-number-requires : tie.Need-number-requires
-number-requires c κs = search needs
+taken-number-requires : tie.Need-taken-number-requires
+taken-number-requires c κs = search needs
 
 same-length-2 : tie.Need-same-length-2
 same-length-2 c = search needs
@@ -59,13 +59,13 @@ returns-2 c =
     let a = c .before .before .before .before .before .before .before .before .before .before .before .before .before .before .before .before .before .before .args in
     let i = c .before .before .before .before .before .before .before .before .before .before .before .before .before .wide .result in
     let inside : i < 8 = omega (arith, c .before .before .before .before .before .before .before .before .before .before .before .before .before .wide .ensures .0, below (c .before .before .before .before .before .before .before .before .before .before .before .before .before .before .before .before .before .before .args .tray) (c .before .before .before .before .before .before .before .before .before .before .before .before .before .before .before .before .before .before .args .slot) (sym (c .before .before .before .before .before .before .before .before .before .before .before .before .before .before .before .and .ensures) ∙ c .before .before .before .before .before .before .before .before .before .before .before .before .before .before .if1 .taken)) in
-    slot-out (a .tray) (a .slot) (sym (c .before .before .before .before .before .before .before .before .before .before .before .before .before .before .before .and .ensures) ∙ c .before .before .before .before .before .before .before .before .before .before .before .before .before .before .if1 .taken) (pack-at (a .tray) i _ _ _ (c .before .before .before .before .before .before .before .before .before .sized .ensures) inside ∙ ap (packOf (a .tray)) (c .before .before .before .before .before .before .before .before .before .before .before .before .before .wide .ensures .0)) (c .before .before .before .before .image-out .ensures) (c .number .ensures ∙ rw (c .before .if2 .left) refl)
+    slot-out (a .tray) (a .slot) (sym (c .before .before .before .before .before .before .before .before .before .before .before .before .before .before .before .and .ensures) ∙ c .before .before .before .before .before .before .before .before .before .before .before .before .before .before .if1 .taken) (pack-at (a .tray) i _ _ _ (c .before .before .before .before .before .before .before .before .before .sized .ensures) inside ∙ ap (packOf (a .tray)) (c .before .before .before .before .before .before .before .before .before .before .before .before .before .wide .ensures .0)) (c .before .before .before .before .image-out .ensures) (c .taken-number .ensures ∙ rw (c .before .if2 .left) refl)
 
-number-requires-2 : tie.Need-number-requires-2
-number-requires-2 c κs = search needs
+taken-number-requires-2 : tie.Need-taken-number-requires-2
+taken-number-requires-2 c κs = search needs
 
 returns-3 : tie.Need-returns-3
-returns-3 c = record { number = c .number2 .ensures ∙ simp (sym (c .before .before .and .ensures) ∙ c .before .if1 .left); written = simp (sym (c .before .before .and .ensures) ∙ c .before .if1 .left) }
+returns-3 c = record { number = c .taken-number2 .ensures ∙ simp (sym (c .before .before .and .ensures) ∙ c .before .if1 .left); written = simp (sym (c .before .before .and .ensures) ∙ c .before .if1 .left) }
 
 pub take-out-spec : {M : Type 1} → statement M
 take-out-spec =
@@ -83,8 +83,8 @@ take-out-spec =
     image-out-requires
     same-length
     returns
-    number-requires
+    taken-number-requires
     same-length-2
     returns-2
-    number-requires-2
+    taken-number-requires-2
     returns-3)

@@ -1,8 +1,8 @@
 -- `hex::whole` meets its contract.
-use Rattle.hex.specs.Import.{wholeOf}
+use Rattle.hex.specs.Import.{wholeText}
 use borrow.Author.Needs.{needs}
-use Rattle.hex.proofs.whole.Statement.{statement}
-use Rattle.hex.proofs.whole.Tie as tie
+use Rattle.hex.proofs.whole_text.Statement.{statement}
+use Rattle.hex.proofs.whole_text.Tie as tie
 
 count-requires : tie.Need-count-requires
 count-requires c κs = search needs
@@ -16,8 +16,8 @@ and-requires c κs = search needs
 count-requires-3 : tie.Need-count-requires-3
 count-requires-3 c κs = search needs
 
-last-requires : tie.Need-last-requires
-last-requires c κs = search needs
+last-address-requires : tie.Need-last-address-requires
+last-address-requires c κs = search needs
 
 and-requires-2 : tie.Need-and-requires-2
 and-requires-2 c κs = search needs
@@ -32,18 +32,18 @@ and-requires-4 : tie.Need-and-requires-4
 and-requires-4 c κs = search needs
 
 returns : tie.Need-returns
-unfolding wholeOf
+unfolding wholeText
 returns c = cc
 
-pub whole-spec : {M : Type 1} → statement M
-whole-spec =
+pub whole-text-spec : {M : Type 1} → statement M
+whole-text-spec =
     tie.close
     (tie.spec
     count-requires
     count-requires-2
     and-requires
     count-requires-3
-    last-requires
+    last-address-requires
     and-requires-2
     count-requires-4
     and-requires-3

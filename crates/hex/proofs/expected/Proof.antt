@@ -1,8 +1,8 @@
 -- `hex::known` meets its contract.
 use Rattle.hex.specs.Line.{expectedOf}
 use borrow.Author.Needs.{needs}
-use Rattle.hex.proofs.known.Statement.{statement}
-use Rattle.hex.proofs.known.Tie as tie
+use Rattle.hex.proofs.expected.Statement.{statement}
+use Rattle.hex.proofs.expected.Tie as tie
 
 address-requires : tie.Need-address-in-requires
 address-requires c κs = search needs
@@ -29,8 +29,8 @@ returns : tie.Need-returns
 unfolding expectedOf
 returns c = cc
 
-pub known-spec : {M : Type 1} → statement M
-known-spec =
+pub expected-spec : {M : Type 1} → statement M
+expected-spec =
     tie.close
     (tie.spec
     address-requires

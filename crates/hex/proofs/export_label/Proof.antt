@@ -7,11 +7,11 @@ use native.Mathlib.Omega.{arith}
 use borrow.Author.Tests.{eq-eqb, ne-eqb}
 use denote.Ref.{now}
 use Rattle.record.specs.Image.{imageLabel, imageBl0}
-use Rattle.hex.specs.Export.{bothAccepted, labelOf}
+use Rattle.hex.specs.Export.{bothAccepted, exportLabel}
 use Rattle.hex.proofs.Texts.{pack-sized, factory-sized}
 use borrow.Author.Needs.{needs}
-use Rattle.hex.proofs.label.Statement.{statement}
-use Rattle.hex.proofs.label.Tie as tie
+use Rattle.hex.proofs.export_label.Statement.{statement}
+use Rattle.hex.proofs.export_label.Tie as tie
 
 both-accepted-requires : tie.Need-both-accepted-requires
 both-accepted-requires c κs = search needs
@@ -29,8 +29,8 @@ part-result-end : tie.Need-part-result-end
 part-result-end c = omega (arith, pack-sized (now (c .before .before .before .before .before .before .args .pack)) (now (c .before .before .before .before .before .before .args .factory)) (sym (c .before .before .before .both-accepted .ensures) ∙ c .before .before .if1 .taken))
 
 -- the label is the pack's where block 0 is locked there
-own : (pack factory : List ℕ) → bothAccepted pack factory ≡ true → imageBl0 pack ≡ true → labelOf pack factory ≡ imageLabel pack
-unfolding labelOf
+own : (pack factory : List ℕ) → bothAccepted pack factory ≡ true → imageBl0 pack ≡ true → exportLabel pack factory ≡ imageLabel pack
+unfolding exportLabel
 own pack factory accepted lock = rw (accepted, lock) refl
 
 -- so it is in the first arm
@@ -52,7 +52,7 @@ part-result-end-2 : tie.Need-part-result-end-2
 part-result-end-2 c = omega (arith, factory-sized (now (c .before .before .before .before .before .before .args .pack)) (now (c .before .before .before .before .before .before .args .factory)) (sym (c .before .before .before .both-accepted .ensures) ∙ c .before .before .if1 .taken))
 
 returns-2 : tie.Need-returns-2
-unfolding labelOf
+unfolding exportLabel
 returns-2 c = rw (sym (c .before .before .before .before .both-accepted .ensures) ∙ c .before .before .before .if1 .taken, ne-eqb _ _ (c .before .if2 .left)) refl
 
 sub-result-3 : tie.Need-sub-result-3
@@ -65,11 +65,11 @@ part-result-end-3 : tie.Need-part-result-end-3
 part-result-end-3 c = search needs
 
 returns-3 : tie.Need-returns-3
-unfolding labelOf
+unfolding exportLabel
 returns-3 c = rw (sym (c .before .before .both-accepted .ensures) ∙ c .before .if1 .left) refl
 
-pub label-spec : {M : Type 1} → statement M
-label-spec =
+pub export-label-spec : {M : Type 1} → statement M
+export-label-spec =
     tie.close
     (tie.spec
     both-accepted-requires

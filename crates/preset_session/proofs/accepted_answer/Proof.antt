@@ -4,8 +4,8 @@ use borrow.Author.Tests.{eq-eqb, ne-eqb, lt-ltb, le-ltb}
 use lib.Dec.{ltb}
 use Rattle.preset_session.specs.PresetSession.{programmingSize}
 use borrow.Author.Needs.{needs}
-use Rattle.preset_session.proofs.accepted.Statement.{statement}
-use Rattle.preset_session.proofs.accepted.Tie as tie
+use Rattle.preset_session.proofs.accepted_answer.Statement.{statement}
+use Rattle.preset_session.proofs.accepted_answer.Tie as tie
 
 returns : tie.Need-returns
 returns c = simp (ne-eqb _ _ (c .if1 .taken))
@@ -23,5 +23,5 @@ enough c = le-ltb _ _ (c .if3 .left)
 returns-4 : tie.Need-returns-4
 returns-4 c = simp (eq-eqb _ _ (c .before .before .before .if1 .left), ne-eqb _ _ (c .before .if2 .left), enough c)
 
-pub accepted-spec : {M : Type 1} → statement M
-accepted-spec = tie.close (tie.spec returns (λ c. search needs) returns-2 returns-3 returns-4)
+pub accepted-answer-spec : {M : Type 1} → statement M
+accepted-answer-spec = tie.close (tie.spec returns (λ c. search needs) returns-2 returns-3 returns-4)

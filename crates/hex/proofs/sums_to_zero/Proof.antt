@@ -7,10 +7,10 @@ use lib.ListN.{length}
 use denote.Ref.{now}
 use Rattle.slices.specs.Slices.{part}
 use Rattle.digits.specs.Digits.{upper, hexBytes}
-use Rattle.hex.specs.Line.{sumOf, summedOf}
+use Rattle.hex.specs.Line.{byteSum, sumsToZero}
 use borrow.Author.Needs.{needs}
-use Rattle.hex.proofs.summed.Statement.{statement}
-use Rattle.hex.proofs.summed.Tie as tie
+use Rattle.hex.proofs.sums_to_zero.Statement.{statement}
+use Rattle.hex.proofs.sums_to_zero.Tie as tie
 
 sub-end : tie.Need-sub-end
 sub-end c = search needs
@@ -28,14 +28,14 @@ total-read-requires : tie.Need-total-read-requires
 total-read-requires c κs = search needs
 
 returns : tie.Need-returns
-unfolding summedOf
+unfolding sumsToZero
 returns c =
-    let l = now (c .before .before .before .args .l) in
+    let l = now (c .before .before .before .args .line) in
     let same : length l - 1 - 1 ≡ length l - 2 = omega arith in
-    ap (λ (x : ℕ). eqb x 0) (c .total-read .ensures ∙ ap (λ (n : ℕ). sumOf (hexBytes upper (part n l 1)) % 256) same)
+    ap (λ (x : ℕ). eqb x 0) (c .total-read .ensures ∙ ap (λ (n : ℕ). byteSum (hexBytes upper (part n l 1)) % 256) same)
 
-pub summed-spec : {M : Type 1} → statement M
-summed-spec =
+pub sums-to-zero-spec : {M : Type 1} → statement M
+sums-to-zero-spec =
     tie.close
     (tie.spec
     sub-end

@@ -5,8 +5,8 @@ use native.Mathlib.Omega.{arith}
 use lib.ListN.{length}
 use Rattle.replies.proofs.Listed.{Filling, filling-start, filling-more, filling-end}
 use borrow.Author.Needs.{needs}
-use Rattle.replies.proofs.idle.Statement.{statement}
-use Rattle.replies.proofs.idle.Tie as tie
+use Rattle.replies.proofs.fill_ones.Statement.{statement}
+use Rattle.replies.proofs.fill_ones.Tie as tie
 
 abbrev Inv-loop : tie.InvT-loop
 Inv-loop room₀ i₀ room i = Filling (λ i. 0xff) room₀ room i
@@ -26,8 +26,8 @@ same-length c = c .before .loop .inv .same
 returns : tie.Need-returns Inv-loop μ-loop
 returns c = filling-end _ _ _ _ (c .before .loop .inv) (omega arith)
 
-pub idle-spec : {M : Type 1} → statement M
-idle-spec =
+pub fill-ones-spec : {M : Type 1} → statement M
+fill-ones-spec =
     tie.close
     (tie.spec
     Inv-loop

@@ -4,14 +4,14 @@ use Prim.Native.Nat.{ℕ, _-_, _≤_}
 use native.Mathlib.Omega.{arith}
 use lib.ListN.{length, drop, drop-of-length-le}
 use denote.Ref.{now}
-use Rattle.hex.specs.Import.{linesOf, lastOf}
+use Rattle.hex.specs.Import.{textLines, lastAddress}
 use Rattle.hex.proofs.Lines.{last-more}
 use borrow.Author.Needs.{needs}
-use Rattle.hex.proofs.last.Statement.{statement}
-use Rattle.hex.proofs.last.Tie as tie
+use Rattle.hex.proofs.last_address.Statement.{statement}
+use Rattle.hex.proofs.last_address.Tie as tie
 
 abbrev Inv-loop : tie.InvT-loop
-Inv-loop text address₀ at₀ address at = (at ≤ length text) × (lastOf address (linesOf (drop at text)) ≡ lastOf 1 (linesOf text))
+Inv-loop text address₀ at₀ address at = (at ≤ length text) × (lastAddress address (textLines (drop at text)) ≡ lastAddress 1 (textLines text))
 
 abbrev μ-loop : tie.MeasureT-loop
 μ-loop text address₀ at₀ address at = length text - at
@@ -41,15 +41,15 @@ loop-again : tie.Need-loop-again Inv-loop μ-loop
 loop-again c =
     let text = now (c .before .before .before .before .before .before .args .text) in (
       c .before .before .line-end .ensures .within,
-      ap (λ (a : ℕ). lastOf a (linesOf (drop (c .before .before .line-end .result) text))) (c .address-in .ensures)
+      ap (λ (a : ℕ). lastAddress a (textLines (drop (c .before .before .line-end .result) text))) (c .address-in .ensures)
           ∙ sym (last-more (c .before .before .line-end .ensures) (c .before .before .before .before .loop .address)) ∙ c .before .before .before .before .loop .inv .1,
     )
 
 returns : tie.Need-returns Inv-loop μ-loop
 returns c = rw (drop-of-length-le (now (c .before .before .before .args .text)) (c .loop-test .left)) at (c .before .loop .inv .1)
 
-pub last-spec : {M : Type 1} → statement M
-last-spec =
+pub last-address-spec : {M : Type 1} → statement M
+last-address-spec =
     tie.close
     (tie.spec
     Inv-loop

@@ -6,13 +6,13 @@ use lib.ListN.{length}
 use denote.Ref.{now}
 use Rattle.state.specs.declared.Profile.the-variants.{Ds2781}
 use Rattle.record.proofs.Fits.{judged-sized}
-use Rattle.preset_session.specs.declared.Why.{Why}
+use Rattle.preset_session.specs.declared.PresetRefusal.{PresetRefusal}
 use Rattle.preset_session.specs.declared.Written.the-variants.{Refused}
 use Rattle.preset_session.specs.PresetSession.{writtenNumber, roomBy}
 use Rattle.preset_session.proofs.Laws.{granted}
 use borrow.Author.Needs.{needs}
-use Rattle.preset_session.proofs.write.Statement.{statement}
-use Rattle.preset_session.proofs.write.Tie as tie
+use Rattle.preset_session.proofs.write_session.Statement.{statement}
+use Rattle.preset_session.proofs.write_session.Tie as tie
 
 put-session-requires : tie.Need-put-session-requires
 put-session-requires c κs =
@@ -26,7 +26,7 @@ returns c =
     record { number = ap writtenNumber (sym found); answer = sym found; written = rw found (c .before .before .put-session .ensures) }
 
 -- a refusal leaves the room as it is
-untouched : (why : Why) (image wanted room : List ℕ) → roomBy (Refused why) image wanted room ≡ room
+untouched : (why : PresetRefusal) (image wanted room : List ℕ) → roomBy (Refused why) image wanted room ≡ room
 untouched why image wanted room = refl
 
 returns-2 : tie.Need-returns-2
@@ -35,8 +35,8 @@ returns-2 c =
     let found = sym (c .before .before .before .answer .ensures) ∙ c .before .found .given .1 in
     record { number = ap writtenNumber (sym found); answer = sym found; written = rw found (sym (untouched (c .before .found .given .0 .0) (now (a .image)) (now (a .wanted)) (now (a .room)))) }
 
-pub write-spec : {M : Type 1} → statement M
-write-spec =
+pub write-session-spec : {M : Type 1} → statement M
+write-session-spec =
     tie.close
     (tie.spec
     (λ c κs. search needs)
