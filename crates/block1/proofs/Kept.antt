@@ -15,7 +15,8 @@ use Rattle.state.specs.declared.Cycles.{Cycles}
 use Rattle.state.specs.declared.Block.{Block}
 use Rattle.state.specs.declared.Cells.{Cells}
 use Rattle.state.specs.declared.Meter.{Meter}
-use Rattle.block1.specs.Block1.{withCells, reachesOf, porfWrittenOf, acrWrittenOf, lockWrittenOf, cyclesWrittenOf, blockWrittenOf, cellsWrittenOf, meterWrittenOf, blockCopiedOf, blockRecalledOf, meterCopiedOf, meterRecalledOf, meterLockedOf, BlockSized}
+use Rattle.block1.specs.Block1.{withCells, reachesOf, porfWrittenOf, acrWrittenOf, lockWrittenOf, cyclesWrittenOf, blockWrittenOf, cellsWrittenOf}
+use Rattle.block1.specs.Block1.{meterWrittenOf, blockCopiedOf, blockRecalledOf, meterCopiedOf, meterRecalledOf, meterLockedOf, BlockSized}
 use Rattle.label.specs.Label.{inLabel, inBlock}
 use Rattle.label.proofs.Kept.{but-none, or-none}
 

@@ -98,7 +98,8 @@ offsetFigures =
     -- W7.5. The 1024th shows what the 1023rd did: neither its raw value nor COB is used
     (shown at1023 ∷ shown at1024 ∷ shown at1025 ∷ [] is (zeroAt 15 + 2000) ∷ (zeroAt 15 + 2000) ∷ (zeroAt 15 + 3000) ∷ []) ∷
     -- W7.6. It is counted, with AB, and averaged: six c of 1,000 and two of 2,000; and it is one of the last two
-    (count at1023 ∷ count at1024 ∷ count at1025 ∷ [] is (5000 * 4096 + 2003) ∷ (5000 * 4096 + 2003 + 2003) ∷ (5000 * 4096 + 2003 + 2003 + 3003) ∷ []) ∷
+    (count at1023 ∷ count at1024 ∷ count at1025 ∷ [] is (5000 * 4096 + 2003) ∷ (5000 * 4096 + 2003 + 2003)
+    ∷ (5000 * 4096 + 2003 + 2003 + 3003) ∷ []) ∷
     (at1024 .flow .average .iavg ∷ at1025 .flow .trace .before ∷ [] is (zeroAt 15 + 1250) ∷ (zeroAt 15 + 2000) ∷ []) ∷
     -- W7.2, W7.9. The write sets the mark and the conversion after it uses it up
     (mark wrote ∷ mark after1 ∷ mark after2 ∷ [] is 1 ∷ 0 ∷ 0 ∷ []) ∷
@@ -116,7 +117,8 @@ offsetFigures =
     []
 
 pub offset-figures-hold : Hold offsetFigures
-unfolding laidOf reachesOf acrWrittenOf blockWrittenOf meterWrittenOf poweredOf countedOf averagedOf foundOf settledOf flowedOf convertOf emptiedOf seenOf drainedOf resultsShown readOf
+unfolding laidOf reachesOf acrWrittenOf blockWrittenOf meterWrittenOf poweredOf countedOf averagedOf foundOf settledOf flowedOf convertOf emptiedOf seenOf
+    drainedOf resultsShown readOf
 offset-figures-hold = (refl, (refl, (refl, (refl, (refl, (refl, (refl, (refl, (refl, (refl, (refl, (refl, tt))))))))))))
 
 -- ---- a write

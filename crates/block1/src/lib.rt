@@ -9,7 +9,9 @@ ghost use mathlib.Core.Path.{_≡_};
 ghost use mathlib.Core.Bool.{true};
 ghost use Prim.Native.Nat.{_<_};
 ghost use Rattle.state.specs.State.{ChargeWF, MeterWF};
-ghost use Rattle.block1.specs.Block1.{reachesOf, byteFor, porfWrittenOf, acrWrittenOf, lockWrittenOf, cyclesWrittenOf, blockWrittenOf, cellsWrittenOf, meterWrittenOf, blockCopiedOf, blockRecalledOf, reblockedOf, meterCopiedOf, meterRecalledOf, locksLockedOf, meterLockedOf};
+ghost use Rattle.block1.specs.Block1.{reachesOf, byteFor, porfWrittenOf, acrWrittenOf, lockWrittenOf, cyclesWrittenOf};
+ghost use Rattle.block1.specs.Block1.{blockWrittenOf, cellsWrittenOf, meterWrittenOf, blockCopiedOf, blockRecalledOf};
+ghost use Rattle.block1.specs.Block1.{reblockedOf, meterCopiedOf, meterRecalledOf, locksLockedOf, meterLockedOf};
 
 // ---- 6Ch: bytes written from the address a upward
 

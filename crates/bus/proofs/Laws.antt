@@ -36,7 +36,8 @@ same-equal (x ∷ xs) (y ∷ ys) e =
     let others = same-equal xs ys (parts .1) in cc
 
 -- from one place on: the byte there, and the bytes from the next place on
-pub same-more : (a b : List ℕ) (i : ℕ) → i < length a → i < length b → sameBytes (drop i a) (drop i b) ≡ both (eqb (getD a i 0) (getD b i 0)) (sameBytes (drop (i + 1) a) (drop (i + 1) b))
+pub same-more : (a b : List ℕ) (i : ℕ) → i < length a → i < length b →
+    sameBytes (drop i a) (drop i b) ≡ both (eqb (getD a i 0) (getD b i 0)) (sameBytes (drop (i + 1) a) (drop (i + 1) b))
 same-more a b i h k = rw (drop-cons a i 0, drop-cons b i 0, add-one)
 
 -- a byte differs, a byte agrees, none is left
@@ -70,7 +71,18 @@ pub number-eight : (s : List ℕ) → length s ≡ 8
     + 0x100000000000000 * getD s 7 0
 number-eight s e =
     let none = ap littleEndian (drop-of-length-le s {i = 8} (omega arith)) in
-    omega (arith, none, number-more s 0 (omega arith), number-more s 1 (omega arith), number-more s 2 (omega arith), number-more s 3 (omega arith), number-more s 4 (omega arith), number-more s 5 (omega arith), number-more s 6 (omega arith), number-more s 7 (omega arith))
+    omega (
+      arith,
+      none,
+      number-more s 0 (omega arith),
+      number-more s 1 (omega arith),
+      number-more s 2 (omega arith),
+      number-more s 3 (omega arith),
+      number-more s 4 (omega arith),
+      number-more s 5 (omega arith),
+      number-more s 6 (omega arith),
+      number-more s 7 (omega arith),
+    )
 
 -- two numbers are equal where their low bytes are, and the numbers above them
 low-same : (x y m n : ℕ) → x < 256 → y < 256 → eqb (x + 256 * m) (y + 256 * n) ≡ both (eqb x y) (eqb m n)
@@ -125,7 +137,8 @@ module _
     (start count : ℕ)
     (master : List ℕ)
     (none : (rom : Rom) → P (plainOf start count rom))
-    (some : (rom : Rom) (at : ℕ) → (at ≡ 1) ⊎ (at ≡ 9) → at + 2 ≤ length master → P (record { start = start; from = at + 2; address = getD master (at + 1) 0; rom = rom; command = commandOf (getD master at 0); count = count }))
+    (some : (rom : Rom) (at : ℕ) → (at ≡ 1) ⊎ (at ≡ 9) → at + 2 ≤ length master →
+    P (record { start = start; from = at + 2; address = getD master (at + 1) 0; rom = rom; command = commandOf (getD master at 0); count = count }))
   where
     at-holds : (rom : Rom) (at : ℕ) → (at ≡ 1) ⊎ (at ≡ 9) → P (askedAt start count rom at master)
     unfolding askedAt

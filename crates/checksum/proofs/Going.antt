@@ -38,7 +38,8 @@ more {s} {room = room} {line = line} {at = at} {used = used} {next = next} g a e
           ∙ g .written);
     }
 
-pub ended : {s before room : List ℕ} {at used : ℕ} → Going s before room at used → length s ≤ at → Writing (3 * length s) (sumsText s) before 0 used room
+pub ended : {s before room : List ℕ} {at used : ℕ} → Going s before room at used → length s ≤ at →
+    Writing (3 * length s) (sumsText s) before 0 used room
 ended {s} {at = at} g e =
     let none = drop-of-length-le s e in
     record { onward = omega (arith, rw none at (g .counted)); written = rw none at (g .written); within = omega (arith, g .within, g .short) }

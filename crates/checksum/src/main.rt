@@ -81,7 +81,8 @@ fn put_checked(bytes: &[u8], out: &mut [u8]) -> usize
 
 // What the program says. A byte more than may be there is enough to know of any input. (That the room keeps its length is said for `main`.)
 fn summed(input: &[u8; 65537], got: Input, room: &mut [u8; 196608]) -> Said
-    ensures { λ r. ⌜ ((s : List ℕ) → Front s (now (input .entry)) (got .count) → Saying (summedOf (got .failed) s) (now (room .entry)) r (now (room .exit))) ⌝ }
+    ensures { λ r. ⌜ ((s : List ℕ) → Front s (now (input .entry)) (got .count) →
+        Saying (summedOf (got .failed) s) (now (room .entry)) r (now (room .exit))) ⌝ }
     ensures { λ _. ⌜ 196608 ≡ length (now (room .exit)) ⌝ }
 {
     if got.failed {

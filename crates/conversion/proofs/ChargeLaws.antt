@@ -14,7 +14,8 @@ use Rattle.state.specs.declared.Profile.{Profile}
 use Rattle.state.specs.State.{blankingEdgeOf, ChargeWF, acrOf}
 use Rattle.state.specs.declared.Charge.{Charge}
 use Rattle.conversion.specs.declared.Age.{Age}
-use Rattle.conversion.specs.Conversion.{setOf, withAs, markedOf, turnedOf, learningOf, blankedOf, grownOf, addedOf, fallOf, agedOf, newCount, newAge, countedOf, agedFullOf, shareOf, shareUpOf}
+use Rattle.conversion.specs.Conversion.{setOf, withAs, markedOf, turnedOf, learningOf, blankedOf, grownOf, addedOf, fallOf}
+use Rattle.conversion.specs.Conversion.{agedOf, newCount, newAge, countedOf, agedFullOf, shareOf, shareUpOf}
 
 pub set-wf : (g : Charge) (acr : ℕ) (learnf : Bool) → acr ≤ 65535 → ChargeWF g → ChargeWF (setOf g acr learnf)
 set-wf g acr learnf h w = record { count = omega arith; age = w .age; low = w .low; high = w .high }
@@ -139,7 +140,13 @@ module _ (edge c : ℕ) (near : edge ≤ 17) where
   below : (nben : Bool) → c < zeroAt 15 → InRange nben
   below true h =
       order (zeroAt 15 - edge) c _
-      (λ k. simp (lt-ltb c (zeroAt 15 + 64) (omega arith), le-ltb (zeroAt 15) c (omega arith), lt-ltb c (zeroAt 15) h, lt-ltb (zeroAt 15 - edge) c k, le-leb (zeroAt 15 + 1 - edge) c (omega arith)))
+      (λ k. simp (
+        lt-ltb c (zeroAt 15 + 64) (omega arith),
+        le-ltb (zeroAt 15) c (omega arith),
+        lt-ltb c (zeroAt 15) h,
+        lt-ltb (zeroAt 15 - edge) c k,
+        le-leb (zeroAt 15 + 1 - edge) c (omega arith),
+      ))
       (λ k. simp (le-ltb (zeroAt 15) c (omega arith), le-ltb (zeroAt 15 - edge) c k, lt-leb (zeroAt 15 + 1 - edge) c (omega arith)))
   below false h = simp (le-ltb (zeroAt 15) c (omega arith), lt-leb (zeroAt 15) c h)
 
@@ -148,7 +155,14 @@ module _ (edge c : ℕ) (near : edge ≤ 17) where
       let reached = le-leb (pick nben (zeroAt 15 + 1 - edge) (zeroAt 15)) c (picked (λ (x : ℕ). x ≤ c) nben _ _ (λ d. omega arith) (λ d. omega arith)) in
       order c (zeroAt 15 + 64) _
       (λ k. simp (reached, lt-ltb (zeroAt 15) c h, lt-ltb c (zeroAt 15 + 64) k))
-      (λ k. simp (reached, le-ltb c (zeroAt 15 + 64) k, lt-ltb (zeroAt 15 - edge) c (omega arith), le-ltb c (zeroAt 15) (omega arith), lt-ltb (zeroAt 15) c h, not-both nben))
+      (λ k. simp (
+        reached,
+        le-ltb c (zeroAt 15 + 64) k,
+        lt-ltb (zeroAt 15 - edge) c (omega arith),
+        le-ltb c (zeroAt 15) (omega arith),
+        lt-ltb (zeroAt 15) c h,
+        not-both nben,
+      ))
 
   in-range : (nben : Bool) → InRange nben
   in-range nben =

@@ -13,7 +13,8 @@ use Rattle.conversion.specs.Conversion.{stepsOf, restOf, advancedOf, cyc
 -- what a first fall leaves, with a second: the same rest, and together as many steps
 module _ (full40 t b : ℕ) where
   abbrev Joins : Type 0
-  Joins = (restOf full40 (restOf full40 t + b) ≡ restOf full40 (t + b)) × (stepsOf full40 t + stepsOf full40 (restOf full40 t + b) ≡ stepsOf full40 (t + b))
+  Joins =
+      (restOf full40 (restOf full40 t + b) ≡ restOf full40 (t + b)) × (stepsOf full40 t + stepsOf full40 (restOf full40 t + b) ≡ stepsOf full40 (t + b))
 
   joins-none : full40 ≡ 0 → Joins
   joins-none e = (simp e, simp (e, div-zero))

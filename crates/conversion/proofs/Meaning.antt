@@ -20,7 +20,8 @@ use Rattle.state.specs.declared.Charge.{Charge}
 use Rattle.state.specs.declared.Profile.{Profile}
 use Rattle.state.specs.declared.Profile.the-variants.{Ds2781, Ds2775}
 use Rattle.state.specs.State.{blankingEdgeOf, acrOf, runOf}
-use Rattle.conversion.specs.Conversion.{currentOf, negative, turnedOf, blankedOf, grownOf, newCount, fallOf, nextMade, averagedOf, tapersOf, currentZ, negativeZ, turnedZ, slightZ, blankedZ, grownZ, addedZ, fallZ, sumZ, meanZ, tapersZ, averagedOver}
+use Rattle.conversion.specs.Conversion.{currentOf, negative, turnedOf, blankedOf, grownOf, newCount, fallOf, nextMade, averagedOf, tapersOf, currentZ}
+use Rattle.conversion.specs.Conversion.{negativeZ, turnedZ, slightZ, blankedZ, grownZ, addedZ, fallZ, sumZ, meanZ, tapersZ, averagedOver}
 use Rattle.state.specs.declared.Average.{Average}
 
 -- ---- differences

@@ -13,7 +13,9 @@ use state::Trace;
 ghost use mathlib.Core.Path.{_≡_};
 ghost use Prim.Native.Nat.{_*_, _≤_, _+_};
 ghost use Rattle.state.specs.State.{ChargeWF, AverageWF, MeterWF};
-ghost use Rattle.conversion.specs.Conversion.{currentOf, tracedOf, blankedOf, grownOf, addedOf, fallOf, agedOf, learningOf, countedOf, steppedOf, setOf, agedFullOf, shareOf, shareUpOf, restOf, advancedOf, averagedOf, tapersOf, foundOf, learntOf, filledOf, convertedOf, flowedOf, chargedOf, convertOf};
+ghost use Rattle.conversion.specs.Conversion.{currentOf, tracedOf, blankedOf, grownOf, addedOf, fallOf, agedOf, learningOf, countedOf};
+ghost use Rattle.conversion.specs.Conversion.{steppedOf, setOf, agedFullOf, shareOf, shareUpOf, restOf, advancedOf, averagedOf, tapersOf};
+ghost use Rattle.conversion.specs.Conversion.{foundOf, learntOf, filledOf, convertedOf, flowedOf, chargedOf, convertOf};
 ghost use Rattle.params.specs.Params.{limitsOf, capacityOf};
 
 // The age counter and AS.

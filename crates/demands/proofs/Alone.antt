@@ -97,7 +97,8 @@ module _ (τ : Tray) (i j : ℕ) (other : j ≡ i → ⊥) (p : List ℕ) where
 pub alone : Alone
 unfolding trayDid
 alone τ room r i j (slotted {n} {p} e slot) other =
-    fitted-has (Stays τ i j other p) refl room (trayTold τ n p) (slot-stays τ i j other p (trayKindOf n) (slot-ahead n e) slot (trayTold τ n p) (tray-asks τ n p))
+    fitted-has (Stays τ i j other p) refl room (trayTold τ n p)
+    (slot-stays τ i j other p (trayKindOf n) (slot-ahead n e) slot (trayTold τ n p) (tray-asks τ n p))
 alone τ room r i j (matched f {p} reach) other =
     let n = formKind f in
     fitted-has (Stays τ i j other p) refl room (trayTold τ n p)

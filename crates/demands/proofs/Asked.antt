@@ -31,7 +31,8 @@ use Rattle.record.proofs.Fits.{Taking, timed-by, judged-alone}
 use Rattle.tray_record.specs.declared.Tray.{Tray}
 use Rattle.tray_record.specs.declared.Found.{Found}
 use Rattle.tray_record.specs.declared.Found.the-variants.{At, Nowhere}
-use Rattle.tray_record.specs.Tray.{noGauge, searchOf, trayKindOf, aheadOf, slotIn, acceptedFor, trayAskedBy, againOf, slotTick, trayTold, reachFound, matchedOf, aimedBy, trayReach}
+use Rattle.tray_record.specs.Tray.{noGauge, searchOf, trayKindOf, aheadOf, slotIn, acceptedFor, trayAskedBy, againOf}
+use Rattle.tray_record.specs.Tray.{slotTick, trayTold, reachFound, matchedOf, aimedBy, trayReach}
 use Rattle.demands.proofs.Choice.{contrary}
 use Rattle.demands.proofs.Packs.{There, FoundAt, search-found}
 
@@ -39,7 +40,8 @@ use Rattle.demands.proofs.Packs.{There, FoundAt, search-found}
 
 module _ (count : ℕ) (closed again : Bool) (last : Tick) (p : List ℕ) (P : Taken → Type 0) (refused : (r : Refusal) → P (Refused r)) where
   pub asked-has : (k : Kind)
-      → (sizedOf k (length (drop (aheadOf k) p)) ≡ true → dueOf k (acceptedFor count closed k p) ≡ true → P (timedOf last (eventOf again k (drop (aheadOf k) p))))
+      → (sizedOf k (length (drop (aheadOf k) p)) ≡ true → dueOf k (acceptedFor count closed k p) ≡ true →
+      P (timedOf last (eventOf again k (drop (aheadOf k) p))))
       → P (trayAskedBy count closed again last k p)
   asked-has k h =
       let Timed : Taken → Type 0 = λ t. P (timedOf last t) in
@@ -80,7 +82,8 @@ Asks τ k p (Run (Transact t)) = Heard τ k p t
 Asks τ k p (Refused r) = Unit
 
 module _ (τ : Tray) (p : List ℕ) (last : Tick) where
-  image-asks : (f : Profile) (t : Taken) → Taking (againOf τ p) false p t → not (either (τ .closed) (leb 8 (τ .count))) ≡ true → Asks τ (kind.Image f) p t
+  image-asks : (f : Profile) (t : Taken) → Taking (againOf τ p) false p t → not (either (τ .closed) (leb 8 (τ .count))) ≡ true →
+      Asks τ (kind.Image f) p t
   image-asks f (Run (Image g)) h due =
       let j = judged-alone g (againOf τ p) p (h .1) in
       let e = not-true (either (τ .closed) (leb 8 (τ .count))) due in
@@ -114,7 +117,8 @@ module _ (τ : Tray) (p : List ℕ) (last : Tick) where
 
 pub tray-asks : (τ : Tray) (n : ℕ) (p : List ℕ) → Asks τ (trayKindOf n) p (trayTold τ n p)
 tray-asks τ n p =
-    asked-has (τ .count) (τ .closed) (againOf τ p) (slotTick τ p) p (Asks τ (trayKindOf n) p) (λ r. tt) (trayKindOf n) (event-asks τ p (slotTick τ p) (trayKindOf n))
+    asked-has (τ .count) (τ .closed) (againOf τ p) (slotTick τ p) p (Asks τ (trayKindOf n) p) (λ r. tt) (trayKindOf n)
+    (event-asks τ p (slotTick τ p) (trayKindOf n))
 
 -- The event that a record asks is that of its kind, whatever the tray's state, but for a repeated address
 
@@ -125,11 +129,13 @@ madeOf again n p = eventOf again (trayKindOf n) (drop (aheadOf (trayKindOf n)) p
 pub told-event : (τ : Tray) (n : ℕ) (p : List ℕ) (e : Event) → trayTold τ n p ≡ Run e → madeOf (againOf τ p) n p ≡ Run e
 told-event τ n p e =
     let made = madeOf (againOf τ p) n p in
-    asked-has (τ .count) (τ .closed) (againOf τ p) (slotTick τ p) p (λ t. t ≡ Run e → made ≡ Run e) (λ r f. contrary cc) (trayKindOf n) (λ sized due. timed made)
+    asked-has (τ .count) (τ .closed) (againOf τ p) (slotTick τ p) p (λ t. t ≡ Run e → made ≡ Run e) (λ r f. contrary cc) (trayKindOf n)
+    (λ sized due. timed made)
   where
     timed : (t : Taken) → timedOf (slotTick τ p) t ≡ Run e → t ≡ Run e
     timed (Run x) =
-        picked (λ t. t ≡ Run e → Run x ≡ Run e) (eventTimely (slotTick τ p) x) (Run x) (Refused refusal.Interval) (λ timely f. f) (λ other f. contrary cc)
+        picked (λ t. t ≡ Run e → Run x ≡ Run e) (eventTimely (slotTick τ p) x) (Run x) (Refused refusal.Interval) (λ timely f. f)
+        (λ other f. contrary cc)
     timed (Refused r) = λ f. f
 
 -- Whom a transaction reaches

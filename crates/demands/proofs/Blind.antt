@@ -15,7 +15,8 @@ use Rattle.conversion.specs.Conversion.{flowedOf, convertOf}
 use Rattle.reading.specs.Reading.{resultsShown, readOf}
 use Rattle.samples.specs.Samples.{sampledOf, sampleOf}
 use Rattle.label.specs.Label.{commonLockedOf}
-use Rattle.block1.specs.Block1.{lockWrittenOf, blockWrittenOf, blockCopiedOf, blockRecalledOf, locksLockedOf, meterWrittenOf, meterCopiedOf, meterRecalledOf, meterLockedOf}
+use Rattle.block1.specs.Block1.{lockWrittenOf, blockWrittenOf, blockCopiedOf, blockRecalledOf, locksLockedOf}
+use Rattle.block1.specs.Block1.{meterWrittenOf, meterCopiedOf, meterRecalledOf, meterLockedOf}
 use Rattle.bus.specs.declared.Command.{Command}
 use Rattle.bus.specs.declared.Command.the-variants.{Read, Write, Copy, Recall, Lock, Nothing}
 use Rattle.replies.specs.Reply.{selectedOf}
@@ -81,7 +82,8 @@ parts-after g (imaged f p) = refl
 parts-after g (changed (Reading volt temp)) = refl
 parts-after g (changed (Conversion raw)) = refl
 parts-after g (changed (Sample raw tick)) =
-    ap (λ (c : Cells). record { address = g .common .address; block = c .block; locks = c .locks }) (sampled-cells (g .meter) raw (elapsedOf (g .meter .flow .tick) tick))
+    ap (λ (c : Cells). record { address = g .common .address; block = c .block; locks = c .locks })
+    (sampled-cells (g .meter) raw (elapsedOf (g .meter .flow .tick) tick))
 parts-after g (changed PowerOn) = refl
 parts-after g (transacted t master) =
     let s = selectedOf (g .common .address) t master in
@@ -94,4 +96,5 @@ entries-same (h ∷ hs) g f e =
     λ i. record { what = h; shadow = e i .block .shadow } ∷ later i
 
 pub from-events : FromEvents
-from-events g n hs = ap (λ (es : List Entry). bookedSum (ledgerOf (g .meter)) (conversionsIn (g .meter .flow .tick) es)) (entries-same hs (recounted g n) g refl)
+from-events g n hs =
+    ap (λ (es : List Entry). bookedSum (ledgerOf (g .meter)) (conversionsIn (g .meter .flow .tick) es)) (entries-same hs (recounted g n) g refl)

@@ -34,7 +34,8 @@ use Rattle.gauge.specs.Gauge.{conversionOf, samplingOf, readingOf, writtenOf, c
 use Rattle.gauge.specs.Act.{ranBy, ranOf, actOf}
 use Rattle.record.specs.declared.Change.the-variants.{Reading, Conversion, Sample, PowerOn}
 use Rattle.demands.specs.History.{Happening, imaged, changed, transacted, happened, lived}
-use Rattle.demands.specs.Books.{Converts, conversionsBy, tickAfter, conversionsIn, Ledger, bookedC, booked, ledgerAfter, bookedSum, entriesOf, ledgerOf, sumOver, countIn, unclamped, convertsNow, steady, isWrite, writesAcr, acrWritten, keepsBooks, NoWider, BooksKept}
+use Rattle.demands.specs.Books.{Converts, conversionsBy, tickAfter, conversionsIn, Ledger, bookedC, booked, ledgerAfter, bookedSum, entriesOf, ledgerOf}
+use Rattle.demands.specs.Books.{sumOver, countIn, unclamped, convertsNow, steady, isWrite, writesAcr, acrWritten, keepsBooks, NoWider, BooksKept}
 use Rattle.demands.proofs.Choice.{contrary}
 
 -- The count is ACR × 4,096 + fraction
@@ -137,7 +138,8 @@ record Sampled (m : Meter) (raw n : ℕ) (f : Meter) : Type 0 where
   tick : f .flow .tick ≡ m .flow .tick
 
 -- one more before them
-one-more : (m : Meter) (raw n : ℕ) (f : Meter) → correctsFull m raw ≡ false → unclamped (countIn m +ℤ booked (ledgerOf m) (convertsNow m raw)) ≡ true
+one-more : (m : Meter) (raw n : ℕ) (f : Meter) → correctsFull m raw ≡ false →
+    unclamped (countIn m +ℤ booked (ledgerOf m) (convertsNow m raw)) ≡ true
     → Sampled (convertOf m raw) raw n f → Sampled m raw (suc n) f
 unfolding ledgerOver
 one-more m raw n f found inside s =
@@ -200,13 +202,15 @@ read-apart m volt temp h =
 same-meter : (m : Meter) → Apart m m
 same-meter m = record { profile = refl; count = refl; mark = refl; last = refl; made = refl; tick = refl }
 
-written-apart : (m : Meter) (a : ℕ) (bytes : List ℕ) → both (reachesOf a bytes 0x10) (reachesOf a bytes 0x11) ≡ false → Apart m (meterWrittenOf m a bytes)
+written-apart : (m : Meter) (a : ℕ) (bytes : List ℕ) → both (reachesOf a bytes 0x10) (reachesOf a bytes 0x11) ≡ false →
+    Apart m (meterWrittenOf m a bytes)
 unfolding meterWrittenOf acrWrittenOf
 written-apart m a bytes h =
     let e : acrWrittenOf (m .charge) a bytes ≡ m .charge = rw h refl in
     record { profile = refl; count = ap (λ (g : Charge). g .count) e; mark = ap (λ (g : Charge). g .mark) e; last = refl; made = refl; tick = refl }
 
-ran-apart : (command : Command) (g : Gauge) (a : ℕ) (bytes : List ℕ) → both (isWrite command) (both (reachesOf a bytes 0x10) (reachesOf a bytes 0x11)) ≡ false
+ran-apart : (command : Command) (g : Gauge) (a : ℕ) (bytes : List ℕ) →
+    both (isWrite command) (both (reachesOf a bytes 0x10) (reachesOf a bytes 0x11)) ≡ false
     → Apart (g .meter) (ranBy command g a bytes .meter)
 unfolding writtenOf copiedOf recalledOf lockedOf meterCopiedOf meterRecalledOf meterLockedOf
 ran-apart Read g a bytes h = same-meter (g .meter)
@@ -224,7 +228,8 @@ acted-apart g t master h =
     (λ e. same-meter (g .meter))
 
 -- and one that does sets it
-writes-sets : (command : Command) (g : Gauge) (a : ℕ) (bytes : List ℕ) → both (isWrite command) (both (reachesOf a bytes 0x10) (reachesOf a bytes 0x11)) ≡ true
+writes-sets : (command : Command) (g : Gauge) (a : ℕ) (bytes : List ℕ) →
+    both (isWrite command) (both (reachesOf a bytes 0x10) (reachesOf a bytes 0x11)) ≡ true
     → ranBy command g a bytes .meter .charge ≡ markedOf (setOf (g .meter .charge) (joinedOf (byteFor a bytes 0x10) (byteFor a bytes 0x11)) false)
 unfolding writtenOf meterWrittenOf acrWrittenOf
 writes-sets Read g a bytes h = contrary cc
@@ -283,4 +288,5 @@ grown (h ∷ hs) g k =
 
 pub books-close : (g : Gauge) (hs : List Happening) → BooksKept g hs → countIn (lived g hs .meter) -ℤ countIn (g .meter) ≡ sumOver g hs
 books-close g hs k =
-    ap (λ (z : ℤ). z -ℤ countIn (g .meter)) (grown hs g k ∙ +ℤ-comm (countIn (g .meter)) (sumOver g hs)) ∙ +ℤ-negℤ-cancel (sumOver g hs) (countIn (g .meter))
+    ap (λ (z : ℤ). z -ℤ countIn (g .meter)) (grown hs g k ∙ +ℤ-comm (countIn (g .meter)) (sumOver g hs))
+    ∙ +ℤ-negℤ-cancel (sumOver g hs) (countIn (g .meter))

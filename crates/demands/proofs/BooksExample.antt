@@ -13,7 +13,8 @@ use Rattle.conversion.specs.Conversion.{countedOf, shareOf, averagedOf, foundOf
 use Rattle.reading.specs.Reading.{slopesOver, modelLines, drainingOf, pointOf, emptiedOf, seenOf, drainedOf, resultsShown, readOf}
 use Rattle.numbers.specs.Offset.{minus}
 use Rattle.samples.specs.Samples.{sampledOf, sampleOf}
-use Rattle.block1.specs.Block1.{reachesOf, acrWrittenOf, lockWrittenOf, meterWrittenOf, blockWrittenOf, meterCopiedOf, blockCopiedOf, meterRecalledOf, blockRecalledOf, meterLockedOf}
+use Rattle.block1.specs.Block1.{reachesOf, acrWrittenOf, lockWrittenOf, meterWrittenOf, blockWrittenOf, meterCopiedOf}
+use Rattle.block1.specs.Block1.{blockCopiedOf, meterRecalledOf, blockRecalledOf, meterLockedOf}
 use Rattle.label.specs.Label.{inLabel, inBlock, labelWrittenOf, labelCopiedOf, labelRecalledOf, commonLockedOf}
 use Rattle.bus.specs.Ask.{romBy, commandOf, askedAt, askedOf, ownOf}
 use Rattle.gauge.specs.Gauge.{conversionOf, samplingOf, readingOf, powerOnOf, writtenOf, copiedOf, recalledOf, lockedOf}
@@ -105,17 +106,21 @@ call-within rs short = called-within didOf emptyOf (packed (earlier ++ rs)) [] (
 -- -997 + 5, ten times -2, and -997 + 5
 sums : sumOver (leftBy ofGauge (first later)) (heardSince ofGauge didOf 7 (first later) (call later)) ≡ minus 2004
 unfolding recOf sizeOf wholeOf didOf takenOf kindOf judgedAmong addressedOf orderedOf crc.bitOf crc.eightOf crc.nextOf
-    imageOf poweredOf readingOf readOf resultsShown drainedOf emptiedOf seenOf pointOf drainingOf modelLines slopesOver shareOf conversionOf convertOf flowedOf samplingOf sampleOf sampledOf timelyOf countedOf averagedOf foundOf settledOf
+    imageOf poweredOf readingOf readOf resultsShown drainedOf emptiedOf seenOf pointOf drainingOf modelLines slopesOver shareOf conversionOf convertOf
+    flowedOf samplingOf sampleOf sampledOf timelyOf countedOf averagedOf foundOf settledOf
     askedOf askedAt romBy commandOf selectedOf actOf ranOf writtenOf labelWrittenOf laidOf meterWrittenOf blockWrittenOf acrWrittenOf lockWrittenOf reachesOf
-    copiedOf labelCopiedOf meterCopiedOf blockCopiedOf recalledOf labelRecalledOf meterRecalledOf blockRecalledOf lockedOf meterLockedOf commonLockedOf replyOf inLabel inBlock
+    copiedOf labelCopiedOf meterCopiedOf blockCopiedOf recalledOf labelRecalledOf meterRecalledOf blockRecalledOf lockedOf meterLockedOf commonLockedOf
+    replyOf inLabel inBlock
 sums = refl
 
 -- THE HYPOTHESES CAN BE MET IN A SESSION
 pub books-met : BooksMet didOf emptyOf ofGauge
 unfolding recOf sizeOf wholeOf didOf takenOf kindOf judgedAmong addressedOf orderedOf crc.bitOf crc.eightOf crc.nextOf
-    imageOf poweredOf readingOf readOf resultsShown drainedOf emptiedOf seenOf pointOf drainingOf modelLines slopesOver shareOf conversionOf convertOf flowedOf samplingOf sampleOf sampledOf timelyOf countedOf averagedOf foundOf settledOf
+    imageOf poweredOf readingOf readOf resultsShown drainedOf emptiedOf seenOf pointOf drainingOf modelLines slopesOver shareOf conversionOf convertOf
+    flowedOf samplingOf sampleOf sampledOf timelyOf countedOf averagedOf foundOf settledOf
     askedOf askedAt romBy commandOf selectedOf actOf ranOf writtenOf labelWrittenOf laidOf meterWrittenOf blockWrittenOf acrWrittenOf lockWrittenOf reachesOf
-    copiedOf labelCopiedOf meterCopiedOf blockCopiedOf recalledOf labelRecalledOf meterRecalledOf blockRecalledOf lockedOf meterLockedOf commonLockedOf replyOf inLabel inBlock
+    copiedOf labelCopiedOf meterCopiedOf blockCopiedOf recalledOf labelRecalledOf meterRecalledOf blockRecalledOf lockedOf meterLockedOf commonLockedOf
+    replyOf inLabel inBlock
 books-met = record {
   taken = 7;
   first = first later;

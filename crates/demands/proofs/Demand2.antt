@@ -32,7 +32,8 @@ use Rattle.tray_record.specs.declared.Tray.{Tray}
 use Rattle.tray_record.specs.Tray.{emptyTray, packOf, trayKindOf, trayDid}
 use Rattle.tray_run.specs.TrayRun.{slotHeld}
 use Rattle.demands.specs.Call.{Call, Within}
-use Rattle.demands.specs.Demand2.{Fresh, eepromBreaks, Crossed, AnswersImage, PoweredOn, Restored, ReadBack, Carried, PowersOn, SlotCarried, SlotPowersOn, Demand2, TrayDemand2}
+use Rattle.demands.specs.Demand2.{Fresh, eepromBreaks, Crossed, AnswersImage, PoweredOn, Restored, ReadBack, Carried}
+use Rattle.demands.specs.Demand2.{PowersOn, SlotCarried, SlotPowersOn, Demand2, TrayDemand2}
 use Rattle.demands.proofs.Choice.{contrary, pick-twice}
 use Rattle.runs.proofs.Records.{recs-record}
 use Rattle.demands.proofs.Reached.{end-reached}
@@ -60,7 +61,8 @@ did-power-on σ room loaded = rw (loaded, le-ltb room 0 zero-le) refl
 -- The image taken out
 
 -- no session has two answers
-never-both : {kind : ℕ} {ls : List Line} → ls ≡ record { kind = kind; answer = 10; reply = [] } ∷ [] → ls ≡ record { kind = kind; answer = 0; reply = [] } ∷ [] → ⊥
+never-both : {kind : ℕ} {ls : List Line} → ls ≡ record { kind = kind; answer = 10; reply = [] } ∷ [] →
+    ls ≡ record { kind = kind; answer = 0; reply = [] } ∷ [] → ⊥
 never-both a b = let z : _≡_ {A = ℕ} 10 0 = ap (λ (ls : List Line). getD (map (λ l. l .answer) ls) 0 0) (sym a ∙ b) in omega arith
 
 -- what an image record gets is what the judge says, of any size
@@ -69,7 +71,8 @@ unfolding takenOf judgedAmong
 taken-image f p = rw (session-image f) (pick-twice (eqb (length p) (imageSizeOf f)) _ _)
 
 -- of any gauge that events reach, whose image the room holds
-module _ (g : Gauge) (reached : Reached g) {after : List ℕ} (written : take (sizeFor g) after ≡ bytesOf g) {e : Call Session} (k : Fresh (profileOf g) after e) where
+module _ (g : Gauge) (reached : Reached g) {after : List ℕ} (written : take (sizeFor g) after ≡ bytesOf g) {e : Call Session}
+    (k : Fresh (profileOf g) after e) where
   abbrev f : Profile
   f = profileOf g
 
@@ -85,7 +88,8 @@ module _ (g : Gauge) (reached : Reached g) {after : List ℕ} (written : take (s
   judged h = taken-image f p ∙ out-judged g reached ∙ rw h refl
 
   -- what the image does is what the fresh session does
-  gives : {τ : Session} {n : ℕ} → didOf emptyOf (length (e .room)) (whole (imageKind f) p) ≡ silently τ n → AnswersImage f e n × (e .ran .state ≡ τ)
+  gives : {τ : Session} {n : ℕ} → didOf emptyOf (length (e .room)) (whole (imageKind f) p) ≡ silently τ n →
+      AnswersImage f e n × (e .ran .state ≡ τ)
   gives does = (
     rw (records, does) refl,
     running didOf emptyOf (k .run) .state ∙ ap (endAfter didOf emptyOf (length (e .room))) records ∙ ap (λ (x : Did Session). x .state) does,
@@ -128,7 +132,8 @@ powered-state {S} {did} {start} {r} {Leaves} {d} {h} w x =
     ∙ ap (λ (τ : S). did τ n r .state) (sym (running did start w .state))
 
 -- what stands in the room after an image was written into it
-room-written : (g : Gauge) → Reached g → (room : List ℕ) → sizeFor g ≤ length room → take (sizeFor g) (roomAfter (leb (sizeFor g) (length room)) g room) ≡ bytesOf g
+room-written : (g : Gauge) → Reached g → (room : List ℕ) → sizeFor g ≤ length room →
+    take (sizeFor g) (roomAfter (leb (sizeFor g) (length room)) g room) ≡ bytesOf g
 room-written g reached room fits =
     rw (le-leb (sizeFor g) (length room) fits) (take-at (bytesOf g) (drop (sizeFor g) room) (sizeFor g) (image-length g (reached-sized g reached)))
 
@@ -151,7 +156,8 @@ module _ {d : Call Session} {room : List ℕ} {answer : ℕ} {after : List ℕ} 
   session-images : (answer ≡ 0) × ((e : Call Session) → Fresh (profileOf (σ .gauge)) after e → ReadBack (σ .gauge) (PowersOn d) e)
   session-images = (
     k .out .number ∙ rw (k .loaded, le-leb (sizeFor (σ .gauge)) (length room) (k .fits)) refl,
-    λ e f. read-back (σ .gauge) session-reached (ap (take (sizeFor (σ .gauge))) (k .out .written) ∙ rw (k .loaded) (room-written (σ .gauge) session-reached room (k .fits))) f session-powered,
+    λ e f. read-back (σ .gauge) session-reached
+        (ap (take (sizeFor (σ .gauge))) (k .out .written) ∙ rw (k .loaded) (room-written (σ .gauge) session-reached room (k .fits))) f session-powered,
   )
 
 pub demand-2 : Demand2
@@ -160,7 +166,8 @@ demand-2 = record { events = run-exact didOf emptyOf; images = λ d room answer 
 -- Slots
 
 -- a power-on of a slot that has a pack
-did-slot-power-on : (τ : Tray) (room i : ℕ) → Eight τ → i < τ .count → packOf (trayDid τ room (whole 21 (i ∷ [])) .state) i ≡ powerOnOf (packOf τ i)
+did-slot-power-on : (τ : Tray) (room i : ℕ) → Eight τ → i < τ .count →
+    packOf (trayDid τ room (whole 21 (i ∷ [])) .state) i ≡ powerOnOf (packOf τ i)
 unfolding trayDid trayKindOf
 did-slot-power-on τ room i h low =
     rw (lt-ltb i (τ .count) low, le-ltb room 0 zero-le) (stored-here τ i (powerOnOf (packOf τ i)) h (omega (arith, h .few)))

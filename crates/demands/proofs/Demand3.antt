@@ -112,7 +112,8 @@ image-class : (f : Profile) (address p : List ℕ) → takenOf (imageKind f) fal
 unfolding takenOf
 image-class f address p e = rw (session-image f) (go (eqb (length p) (imageSizeOf f)) (rw (session-image f) at e))
   where
-    go : (t : Bool) → pick t (judgedBy f p) (Refused Size) ≡ Run (Image f) → takenClass (selectedOf address) p (pick t (Refused Order) (Refused Size)) ≡ fence
+    go : (t : Bool) → pick t (judgedBy f p) (Refused Size) ≡ Run (Image f) →
+        takenClass (selectedOf address) p (pick t (Refused Order) (Refused Size)) ≡ fence
     go true f = refl
     go false f = contrary cc
 
@@ -130,5 +131,6 @@ demand-3 f p xs ys a b accepted m =
 -- so of each class the whole session's events, with what they got, are the same list
 pub demand-3-by-class : (f : Profile) (p : List ℕ) (xs ys : List Rec) (a b : Call Session) → takenOf (imageKind f) false p ≡ Run (Image f)
     → SessionsMixed f p xs ys a b
-    → (k : Class) → only (λ e. classOf (imageAddress p) (e .0)) k (gotOf didOf emptyOf a) ≡ only (λ e. classOf (imageAddress p) (e .0)) k (gotOf didOf emptyOf b)
+    → (k : Class) → only (λ e. classOf (imageAddress p) (e .0)) k (gotOf didOf emptyOf a)
+    ≡ only (λ e. classOf (imageAddress p) (e .0)) k (gotOf didOf emptyOf b)
 demand-3-by-class f p xs ys a b accepted m k = sections-only _ k (demand-3 f p xs ys a b accepted m .events)

@@ -17,7 +17,8 @@ use Rattle.demands.specs.Demand1 as demand
 use Rattle.demands.specs.Demand1.{Header, headersFrom, headersOf, Numbered, Answered, none, stops, next, Demand1}
 use Rattle.demands.specs.Demand2.{Moment, didAfter, Exact, AfterEach}
 use Rattle.demands.proofs.Headers.{recs-kind, recs-cut}
-use Rattle.demands.proofs.Moments.{leftOf, lines-append, end-append, replies-append, codes-append, codes-length, got-take, got-next, running, tells, stopped-within, stopped-recs}
+use Rattle.demands.proofs.Moments.{leftOf, lines-append, end-append, replies-append, codes-append, codes-length}
+use Rattle.demands.proofs.Moments.{got-take, got-next, running, tells, stopped-within, stopped-recs}
 
 -- Where a run stands that is stopped
 
@@ -119,7 +120,8 @@ module _ {S : Type 0} (did : S → ℕ → Rec → Did S) (start : S) where
         → Answered most (headersOf (n ∷ m ∷ i ∷ j ∷ s)) (linesAfter did σ room (recsOf (n ∷ m ∷ i ∷ j ∷ s)))
     four σ room n m i j s rest true e =
         rw e
-        (subst (λ (rs : List Rec). Answered most (demand.kind (i + 256 * j) ∷ headersFrom (n + 256 * m) s) (linesAfter did σ room rs)) (sym (recs-kind n m i j s e))
+        (subst (λ (rs : List Rec). Answered most (demand.kind (i + 256 * j) ∷ headersFrom (n + 256 * m) s) (linesAfter did σ room rs))
+        (sym (recs-kind n m i j s e))
         (next refl (law .numbered σ room (i + 256 * j) _) (rest _ _)))
     four σ room n m i j s rest false e =
         rw e (subst (λ (rs : List Rec). Answered most (demand.cut ∷ []) (linesAfter did σ room rs)) (sym (recs-cut n m i j s e)) (cut-answered σ room))
@@ -132,12 +134,14 @@ module _ {S : Type 0} (did : S → ℕ → Rec → Did S) (start : S) where
     answered σ room zero (n ∷ []) = cut-answered σ room
     answered σ room zero (n ∷ m ∷ []) = cut-answered σ room
     answered σ room zero (n ∷ m ∷ i ∷ []) = cut-answered σ room
-    answered σ room zero (n ∷ m ∷ i ∷ j ∷ s) = four σ room n m i j s (λ τ left. answered τ left (n + 256 * m) s) (leb (n + 256 * m) (length s)) refl
+    answered σ room zero (n ∷ m ∷ i ∷ j ∷ s) =
+        four σ room n m i j s (λ τ left. answered τ left (n + 256 * m) s) (leb (n + 256 * m) (length s)) refl
 
     pub run-sound : Demand1 most did start
     run-sound = record {
       answers = λ c w.
-          let h : Answered most (headersOf (c .bytes)) (linesAfter did start (length (c .room)) (recsOf (c .bytes))) = answered start (length (c .room)) 0 (c .bytes) in
+          let h : Answered most (headersOf (c .bytes)) (linesAfter did start (length (c .room)) (recsOf (c .bytes))) =
+          answered start (length (c .room)) 0 (c .bytes) in
           record { told = tells did start w; count = running did start w .lines ∙ answered-length _ _ h; answered = h };
       refusals = λ c w r l a b t other.
           let e = exact w t in

@@ -41,7 +41,8 @@ use Rattle.demands.proofs.Called.{packed, called, called-within}
 use Rattle.demands.proofs.Demand2.{demand-2}
 
 -- An image can be taken out of the state that is left, and given to a fresh gauge
-module _ (d : Call Session) (w : Within didOf emptyOf d) (loaded : d .ran .state .loaded ≡ true) (room : List ℕ) (fits : sizeFor (d .ran .state .gauge) ≤ length room) where
+module _ (d : Call Session) (w : Within didOf emptyOf d) (loaded : d .ran .state .loaded ≡ true) (room : List ℕ)
+    (fits : sizeFor (d .ran .state .gauge) ≤ length room) where
   abbrev bytes : List ℕ
   bytes = recordOf (imageKind (profileOf (d .ran .state .gauge))) (take (sizeFor (d .ran .state .gauge)) (takeOutRoom (d .ran .state) room))
 
@@ -124,7 +125,8 @@ call = callFor Ds2781
 call-within : (f : Profile) (rs : List Rec) → length (packed (imaging f ∷ rs)) ≤ 128 → Within didOf emptyOf (callFor f rs)
 call-within f rs short = called-within didOf emptyOf (packed (imaging f ∷ rs)) (replicate 4 0) (replicate 32 0) (omega arith) (omega arith)
 
-call-starts : (f : Profile) (rs : List Rec) → length (packed (imaging f ∷ rs)) ≤ 128 → asksAll sessionAsked rs ≤ 4 → recsOf (packed (imaging f ∷ rs)) ≡ imaging f ∷ rs
+call-starts : (f : Profile) (rs : List Rec) → length (packed (imaging f ∷ rs)) ≤ 128 → asksAll sessionAsked rs ≤ 4 →
+    recsOf (packed (imaging f ∷ rs)) ≡ imaging f ∷ rs
     → Starts didOf emptyOf sessionAsked (selectedOf (imageAddress (imageFor f))) (imaging f ∷ []) rs (callFor f rs)
 call-starts f rs short asks holds = record {
   within = call-within f rs short;
@@ -175,10 +177,12 @@ demand-3-met Ds2775 = record {
 
 -- and their events do something: after the power-on the label that was written and copied is read back, and so is CURRENT
 pub answers : sessionOf (call ones .bytes) 4
-    ≡ line 1 0 [] ∷ line 4 0 [] ∷ line 4 0 [] ∷ line 3 0 [] ∷ line 5 0 [] ∷ line 4 0 (0x5a ∷ 0xa5 ∷ []) ∷ line 3 0 [] ∷ line 4 0 (0xfc ∷ 0x18 ∷ []) ∷ []
+    ≡ line 1 0 [] ∷ line 4 0 [] ∷ line 4 0 [] ∷ line 3 0 [] ∷ line 5 0 [] ∷ line 4 0 (0x5a ∷ 0xa5 ∷ []) ∷ line 3 0 []
+    ∷ line 4 0 (0xfc ∷ 0x18 ∷ []) ∷ []
 unfolding sessionOf recOf sizeOf wholeOf didOf takenOf kindOf judgedAmong addressedOf orderedOf crc.bitOf crc.eightOf crc.nextOf
     imageOf poweredOf conversionOf convertOf flowedOf powerOnOf
-    askedOf askedAt romBy commandOf selectedOf actOf ranOf writtenOf labelWrittenOf laidOf meterWrittenOf blockWrittenOf copiedOf labelCopiedOf meterCopiedOf blockCopiedOf
+    askedOf askedAt romBy commandOf selectedOf actOf ranOf writtenOf labelWrittenOf laidOf meterWrittenOf blockWrittenOf copiedOf labelCopiedOf
+    meterCopiedOf blockCopiedOf
     replyOf sourceByte readByte inLabel inBlock labelByte meterByte registersOf
 answers = refl
 
@@ -203,15 +207,18 @@ crossing = whole 4 (0 ∷ 0xcc ∷ 0x6c ∷ 0x7c ∷ 0xff ∷ []) ∷ whole 4 (0
 pub in-order : orderedOf (eepromBreaks (call ones .ran .state .gauge)) ≡ true
 unfolding recOf sizeOf wholeOf didOf takenOf kindOf judgedAmong addressedOf orderedOf crc.bitOf crc.eightOf crc.nextOf
     imageOf poweredOf conversionOf convertOf flowedOf powerOnOf
-    askedOf askedAt romBy commandOf selectedOf actOf ranOf writtenOf meterWrittenOf blockWrittenOf laidOf copiedOf meterCopiedOf blockCopiedOf replyOf inLabel inBlock
+    askedOf askedAt romBy commandOf selectedOf actOf ranOf writtenOf meterWrittenOf blockWrittenOf laidOf copiedOf meterCopiedOf blockCopiedOf replyOf
+    inLabel inBlock
 in-order = refl
 
 pub crosses : (call crossing .ran .state .loaded ≡ true) × Crossed (call crossing .ran .state .gauge)
 unfolding recOf sizeOf wholeOf didOf takenOf kindOf judgedAmong addressedOf orderedOf crc.bitOf crc.eightOf crc.nextOf
-    imageOf poweredOf askedOf askedAt romBy commandOf selectedOf actOf ranOf writtenOf meterWrittenOf blockWrittenOf laidOf copiedOf meterCopiedOf blockCopiedOf replyOf inLabel inBlock
+    imageOf poweredOf askedOf askedAt romBy commandOf selectedOf actOf ranOf writtenOf meterWrittenOf blockWrittenOf laidOf copiedOf meterCopiedOf
+    blockCopiedOf replyOf inLabel inBlock
 crosses = (refl, refl)
 
-pub image-declined : (room : List ℕ) (answer : ℕ) (after : List ℕ) (e : Call Session) → Carried (call crossing) room answer after → Fresh (profileOf (call crossing .ran .state .gauge)) after e
+pub image-declined : (room : List ℕ) (answer : ℕ) (after : List ℕ) (e : Call Session) → Carried (call crossing) room answer after →
+    Fresh (profileOf (call crossing .ran .state .gauge)) after e
     → AnswersImage (profileOf (call crossing .ran .state .gauge)) e 10
 image-declined room answer after e k f = demand-2 .images _ room answer after k .1 e f .declined (crosses .1) .refused
 

@@ -51,7 +51,8 @@ module _ (τ : Tray) (h : Eight τ) (k : Kind) (p : List ℕ) where
   event-pack (Change c) a j =
       stored-pack τ (slotIn p) j (changedOf (packOf τ (slotIn p)) c) h (omega (arith, a .pack, h .few)) ∙ here (eqb j (slotIn p)) refl
     where
-      here : (s : Bool) → eqb j (slotIn p) ≡ s → pick s (changedOf (packOf τ (slotIn p)) c) (packOf τ j) ≡ pick s (changedOf (packOf τ j) c) (packOf τ j)
+      here : (s : Bool) → eqb j (slotIn p) ≡ s →
+          pick s (changedOf (packOf τ (slotIn p)) c) (packOf τ j) ≡ pick s (changedOf (packOf τ j) c) (packOf τ j)
       here true e = ap (λ (i : ℕ). changedOf (packOf τ i) c) (sym (eqb-true j (slotIn p) e))
       here false e = refl
   event-pack (Transact t) a j = acted-pack t (masterOf t p) τ h (trayReach τ t (masterOf t p)) (reach-there τ t (masterOf t p)) j
@@ -73,9 +74,11 @@ module _ (τ : Tray) (h : Eight τ) (k : Kind) (p : List ℕ) where
       record { few = s .few; commons = s .commons; labels = s .labels; meters = s .meters }
 
 -- no event changes the address of a pack that is there
-pub address-after : (τ : Tray) (p : List ℕ) (e : Event) (j : ℕ) → ((f : Profile) → e ≡ Image f → j ≡ τ .count → ⊥) → packAfter τ p e j .common .address ≡ packOf τ j .common .address
+pub address-after : (τ : Tray) (p : List ℕ) (e : Event) (j : ℕ) → ((f : Profile) → e ≡ Image f → j ≡ τ .count → ⊥) →
+    packAfter τ p e j .common .address ≡ packOf τ j .common .address
 address-after τ p (Image f) j old =
-    picked (λ (g : Gauge). g .common .address ≡ packOf τ j .common .address) (eqb j (τ .count)) _ _ (λ e. absurd (old f refl (eqb-true j (τ .count) e))) (λ e. refl)
+    picked (λ (g : Gauge). g .common .address ≡ packOf τ j .common .address) (eqb j (τ .count)) _ _
+    (λ e. absurd (old f refl (eqb-true j (τ .count) e))) (λ e. refl)
 address-after τ p (Change c) j old =
     picked (λ (g : Gauge). g .common .address ≡ packOf τ j .common .address) (eqb j (slotIn p)) _ _
     (λ e. address-kept (λ f a. a ≡ packOf τ j .common .address) .change (packOf τ j) c refl)

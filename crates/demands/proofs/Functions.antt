@@ -38,7 +38,8 @@ use Rattle.demands.proofs.Blind.{from-events}
 use Rattle.demands.proofs.Booked.{no-wider}
 use Rattle.demands.proofs.History.{session-history, session-books, session-eeprom, slot-history, slot-books, slot-eeprom}
 
-module _ (κs : Lfts (run.ended .signature .lifetimes)) (a : Args (run.ended .signature) κs) (r : Res (run.ended .signature) κs) (w : Lasts run.ended κs a) where
+module _ (κs : Lfts (run.ended .signature .lifetimes)) (a : Args (run.ended .signature) κs) (r : Res (run.ended .signature) κs)
+    (w : Lasts run.ended κs a) where
   -- what was passed and lent, what came back, and what room and answers hold at the end
   abbrev pub callOf : Call Session
   callOf = record {
@@ -65,7 +66,8 @@ take-out-taken κs a r w h = h
 -- and what a caller learns from `programming::write` is what the theorem on programming is stated of
 pub write-wrote : (κs : Lfts («write_session».ended .signature .lifetimes)) (a : Args («write_session».ended .signature) κs)
     (r : Res («write_session».ended .signature) κs) (w : Lasts «write_session».ended κs a)
-    → «write_session».Reads.Learnt κs a r (atExit «write_session».ended κs a w) → Programming (now (a .0)) (now (a .1 .0)) (now (a .1 .1 .0)) r (w .1 .1 .0)
+    → «write_session».Reads.Learnt κs a r (atExit «write_session».ended κs a w) →
+    Programming (now (a .0)) (now (a .1 .0)) (now (a .1 .1 .0)) r (w .1 .1 .0)
 write-wrote κs a r w h = h
 
 -- and of `mending::mend` that on mended images

@@ -28,7 +28,8 @@ use Rattle.session_run.specs.SessionRun.{emptyOf}
 use Rattle.tray_record.specs.declared.Tray.{Tray}
 use Rattle.tray_record.specs.Tray.{emptyTray, packOf, trayKindOf, slotIn, Reach, one, every, trayReach, trayTold, trayEvent, ofTray, trayDid}
 use Rattle.demands.specs.Call.{Call, Within, Stopped}
-use Rattle.demands.specs.History.{Happening, imaged, lived, Imageless, hearsOf, Pack, ofGauge, slotHears, ofSlot, eventHappens, heardBy, heardIn, heardAfter, heardSince, leftBy, HistoryHolds}
+use Rattle.demands.specs.History.{Happening, imaged, lived, Imageless, hearsOf, Pack, ofGauge, slotHears, ofSlot}
+use Rattle.demands.specs.History.{eventHappens, heardBy, heardIn, heardAfter, heardSince, leftBy, HistoryHolds}
 use Rattle.demands.specs.Books.{sumOver, countIn, BooksClose}
 use Rattle.demands.specs.Stored.{eepromIn, storedLast, EepromHolds}
 use Rattle.demands.proofs.Choice.{contrary}
@@ -64,14 +65,16 @@ pub record Follows {S : Type 0} (did : S → ℕ → Rec → Did S) (start : S) 
   pub keeps : (σ : S) (room : ℕ) (r : Rec) → Holds σ → Holds (did σ room r .state)
   pub goes : (σ : S) (room : ℕ) (r : Rec) → Holds σ → pack .gauge (did σ room r .state) ≡ lived (pack .gauge σ) (heardIn pack σ room r)
   pub comes : (σ : S) (room : ℕ) (r : Rec) → Holds σ → pack .there σ ≡ false → Brings (pack .there (did σ room r .state)) (heardIn pack σ room r)
-  pub stays : (σ : S) (room : ℕ) (r : Rec) → Holds σ → pack .there σ ≡ true → (pack .there (did σ room r .state) ≡ true) × Imageless (heardIn pack σ room r)
+  pub stays : (σ : S) (room : ℕ) (r : Rec) → Holds σ → pack .there σ ≡ true →
+      (pack .there (did σ room r .state) ≡ true) × Imageless (heardIn pack σ room r)
 
 module _ {S : Type 0} {did : S → ℕ → Rec → Did S} {start : S} {pack : Pack S} {Holds : S → Type 0} (f : Follows did start pack Holds) where
   end-holds : (rs : List Rec) (σ : S) (room : ℕ) → Holds σ → Holds (endAfter did σ room rs)
   end-holds [] σ room h = h
   end-holds (r ∷ rs) σ room h = end-holds rs (did σ room r .state) (room - length (did σ room r .reply)) (f .keeps σ room r h)
 
-  end-lived : (rs : List Rec) (σ : S) (room : ℕ) → Holds σ → pack .gauge (endAfter did σ room rs) ≡ lived (pack .gauge σ) (heardAfter pack did σ room rs)
+  end-lived : (rs : List Rec) (σ : S) (room : ℕ) → Holds σ →
+      pack .gauge (endAfter did σ room rs) ≡ lived (pack .gauge σ) (heardAfter pack did σ room rs)
   end-lived [] σ room h = refl
   end-lived (r ∷ rs) σ room h =
       let d = did σ room r in
@@ -106,7 +109,8 @@ module _ {S : Type 0} {did : S → ℕ → Rec → Did S} {start : S} {pack : Pa
       (λ here. end-imageless rs (d .state) left k here)
       (λ away. end-begins rs (d .state) left k away there)
     where
-      by : (hs ks : List Happening) (t : Bool) {s : Bool} → s ≡ t → Brings s hs → (s ≡ true → Imageless ks) → (s ≡ false → Begins ks) → Begins (hs ++ ks)
+      by : (hs ks : List Happening) (t : Bool) {s : Bool} → s ≡ t → Brings s hs → (s ≡ true → Imageless ks) → (s ≡ false → Begins ks) →
+          Begins (hs ++ ks)
       by hs ks true e b here away =
           let c = subst (λ (x : Bool). Brings x hs) e b in
           record { profile = c .0; image = c .1 .0; later = ks; life = ap (λ (l : List Happening). l ++ ks) (c .1 .1); once = here e }
@@ -269,7 +273,8 @@ module _ (τ : Tray) (eight : Eight τ) (j : ℕ) where
   abbrev SlotStays : List ℕ → Taken → Type 0
   SlotStays p t = (ltb j (answeredBy ofTray τ p t .state .count) ≡ true) × Imageless (heardBy (ofSlot j) τ p t)
 
-  slot-stays : (room : ℕ) (r : Rec) → ltb j (τ .count) ≡ true → (ltb j (trayDid τ room r .state .count) ≡ true) × Imageless (heardIn (ofSlot j) τ room r)
+  slot-stays : (room : ℕ) (r : Rec) → ltb j (τ .count) ≡ true →
+      (ltb j (trayDid τ room r .state .count) ≡ true) × Imageless (heardIn (ofSlot j) τ room r)
   unfolding trayDid
   slot-stays room (whole n p) there = fitted-has (SlotStays p) (there, tt) room (trayTold τ n p) (by (trayTold τ n p))
     where
@@ -282,7 +287,8 @@ module _ (τ : Tray) (eight : Eight τ) (j : ℕ) where
           more (Transact t) = there
 
       quiet : (e : Event) → Imageless (pick (slotHears j τ p e) (eventHappens p e ∷ []) [])
-      quiet (Image f) = picked Imageless (eqb j (τ .count)) _ _ (λ e. absurd (omega (arith, ltb-true j (τ .count) there, eqb-true j (τ .count) e))) (λ e. tt)
+      quiet (Image f) =
+          picked Imageless (eqb j (τ .count)) _ _ (λ e. absurd (omega (arith, ltb-true j (τ .count) there, eqb-true j (τ .count) e))) (λ e. tt)
       quiet (Change c) = picked Imageless (eqb j (slotIn p)) _ _ (λ e. (tt, tt)) (λ e. tt)
       quiet (Transact t) = picked Imageless (hearsOf (trayReach τ t (masterOf t p)) (τ .count) j) _ _ (λ e. (tt, tt)) (λ e. tt)
 

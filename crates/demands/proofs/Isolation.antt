@@ -78,7 +78,8 @@ told = ap (λ (x : Line). x .answer)
 counted : {n m : ℕ} (r : Rec) {l k : Line} → m ≡ n → l ≡ k → imagesAfter m r k ≡ imagesAfter n r l
 counted r e f = rw (e, f) refl
 
-isolated : {k n : ℕ} {xs ys : List (Rec × Line)} → Differs k n xs ys → (τ σ : Tray) (near far : ℕ) → τ .count ≡ n → Others k τ σ → Eight τ → Eight σ
+isolated : {k n : ℕ} {xs ys : List (Rec × Line)} → Differs k n xs ys → (τ σ : Tray) (near far : ℕ) → τ .count ≡ n → Others k τ σ →
+    Eight τ → Eight σ
     → near ≡ far → Got τ near xs → Got σ far ys → Ended k (endGot τ near xs) (endGot σ far ys) (leftGot τ near xs) (leftGot σ far ys)
 isolated none τ σ near far c h u v e g f = record { others = h; room = e }
 isolated (held {r = r} {l = l} {m = m} agree rest) τ σ near far c h u v e g f =
@@ -109,11 +110,13 @@ stands : {c : Call Tray} → Within trayDid emptyTray c → Ran emptyTray (lengt
 stands {c} w = run-ran emptyTray (length (c .room)) (recsOf (c .bytes))
 
 twins-end : {k : ℕ} {c d : Call Tray} → Twins k c d
-    → Ended k (c .ran .state) (d .ran .state) (leftOf trayDid emptyTray (length (c .room)) (recsOf (c .bytes))) (leftOf trayDid emptyTray (length (d .room)) (recsOf (d .bytes)))
+    → Ended k (c .ran .state) (d .ran .state) (leftOf trayDid emptyTray (length (c .room)) (recsOf (c .bytes)))
+    (leftOf trayDid emptyTray (length (d .room)) (recsOf (d .bytes)))
 twins-end {k} {c} {d} t =
     let a = stands (t .one) in
     let b = stands (t .other) in
-    let e = isolated (t .differs) emptyTray emptyTray (length (c .room)) (length (d .room)) refl (others-refl emptyTray) (empty-filled .eight) (empty-filled .eight) (t .room) (a .got) (b .got) in
+    let e = isolated (t .differs) emptyTray emptyTray (length (c .room)) (length (d .room)) refl (others-refl emptyTray) (empty-filled .eight)
+    (empty-filled .eight) (t .room) (a .got) (b .got) in
     record {
       others = rw (running trayDid emptyTray (t .one) .state, running trayDid emptyTray (t .other) .state, ← (a .end), ← (b .end)) (e .others);
       room = sym (a .left) ∙ e .room ∙ b .left;

@@ -34,10 +34,12 @@ use Rattle.runs.specs.declared.Session.{Session}
 use Rattle.runs.specs.AnyRecord.{Steps, answeredBy, recordBy}
 use Rattle.runs.specs.SessionRecord.{loadedWith, lastTick, ofSession, didOf}
 use Rattle.tray_record.specs.declared.Tray.{Tray}
-use Rattle.tray_record.specs.Tray.{packOf, storedOf, closedOf, againOf, slotTick, Reach, one, every, trayReach, actedFirst, wiredFirst, trayActed, trayReply, ofTray, trayDid}
+use Rattle.tray_record.specs.Tray.{packOf, storedOf, closedOf, againOf, slotTick, Reach, one, every, trayReach}
+use Rattle.tray_record.specs.Tray.{actedFirst, wiredFirst, trayActed, trayReply, ofTray, trayDid}
 use Rattle.tray_record.specs.Wire.{andBytes}
 use Rattle.demands.specs.Class.{Selects, touchedOf, takenClass, classBy, sessionAsked, classOf, trayAsked, someSelected, trayClass}
-use Rattle.demands.specs.Longer.{formKind, payloadOf, recordIn, AllowedIn, Reformed, none, kept, reformed, answered, OneAnswer, OneClass, reading, quarters, Longer, LongerMet, wholeMap, AsBefore}
+use Rattle.demands.specs.Longer.{formKind, payloadOf, recordIn, AllowedIn, Reformed, none, kept, reformed, answered}
+use Rattle.demands.specs.Longer.{OneAnswer, OneClass, reading, quarters, Longer, LongerMet, wholeMap, AsBefore}
 use Rattle.demands.proofs.Alone.{transaction-kind, session-kind}
 
 -- What a form writes is what it reads
@@ -81,8 +83,10 @@ module _ (count : ℕ) (master : List ℕ) where
   abbrev asking : Form → Transaction
   asking f = askedOf (headOf f) count master
 
-  module _ (told : ℕ → List ℕ → Taken) (ready : Bool) (tells : (f : Form) (p : List ℕ) → told (formKind f) p ≡ takenBy false (kind.Transaction f) ready p) where
-    asks : (f : Form) → AllowedIn f count master → told (formKind f) (payloadOf f count master) ≡ pick ready (Run (Transact (asking f))) (Refused refusal.Order)
+  module _ (told : ℕ → List ℕ → Taken) (ready : Bool)
+      (tells : (f : Form) (p : List ℕ) → told (formKind f) p ≡ takenBy false (kind.Transaction f) ready p) where
+    asks : (f : Form) → AllowedIn f count master →
+        told (formKind f) (payloadOf f count master) ≡ pick ready (Run (Transact (asking f))) (Refused refusal.Order)
     asks f a =
         let some : headOf f ≤ length (payloadOf f count master) = omega (arith, payload-length count master f) in
         let few : length (payloadOf f count master) ≤ headOf f + limitOf f = omega (arith, payload-length count master f, a .sends) in
@@ -95,9 +99,11 @@ module _ (count : ℕ) (master : List ℕ) where
 record Hears {S : Type 0} (k : Steps S) : Type 0 where
   ready : S → Bool
   told : (σ : S) (f : Form) (p : List ℕ) → k .told σ (formKind f) p ≡ takenBy false (kind.Transaction f) (ready σ) p
-  event : (σ : S) (p q : List ℕ) (s : ℕ) (t : Transaction) → masterOf t p ≡ drop s q → k .event σ p (Transact t) ≡ k .event σ q (Transact (startedAt s t))
+  event : (σ : S) (p q : List ℕ) (s : ℕ) (t : Transaction) → masterOf t p ≡ drop s q →
+      k .event σ p (Transact t) ≡ k .event σ q (Transact (startedAt s t))
 
-master-sent : (count : ℕ) (master : List ℕ) (f g : Form) → masterOf (asking count master f) (payloadOf f count master) ≡ drop (headOf g) (payloadOf g count master)
+master-sent : (count : ℕ) (master : List ℕ) (f g : Form) →
+    masterOf (asking count master f) (payloadOf f count master) ≡ drop (headOf g) (payloadOf g count master)
 master-sent count master f g =
     ap (λ (s : ℕ). drop s (payloadOf f count master)) (asked-placed (headOf f) count master .starts)
     ∙ master-read count master f
@@ -115,7 +121,8 @@ module _ {S : Type 0} (k : Steps S) (h : Hears k) (count : ℕ) (master : List �
   counts : (x : Form) (b : Bool) → ltb room count ≡ b → ltb room (asking count master x .count) ≡ b
   counts x b e = ap (ltb room) (asked-placed (headOf x) count master .counts) ∙ e
 
-  fits : (b : Bool) → ltb room count ≡ b → said f (fittedOf room (Run (Transact (asking count master f)))) ≡ said g (fittedOf room (Run (Transact (asking count master g))))
+  fits : (b : Bool) → ltb room count ≡ b →
+      said f (fittedOf room (Run (Transact (asking count master f)))) ≡ said g (fittedOf room (Run (Transact (asking count master g))))
   fits true e = rw (counts f true e, counts g true e) refl
   fits false e = rw (counts f false e, counts g false e) event-same
 
@@ -125,7 +132,8 @@ module _ {S : Type 0} (k : Steps S) (h : Hears k) (count : ℕ) (master : List �
   taken true = fits (ltb room count) refl
   taken false = refl
 
-  did-same : AllowedIn f count master → AllowedIn g count master → recordBy k σ room (recordIn f count master) ≡ recordBy k σ room (recordIn g count master)
+  did-same : AllowedIn f count master → AllowedIn g count master →
+      recordBy k σ room (recordIn f count master) ≡ recordBy k σ room (recordIn g count master)
   did-same a b =
       let asked = asks count master (k .told σ) (h .ready σ) (h .told σ) in
       ap (λ (t : Taken). said f (fittedOf room t)) (asked f a) ∙ taken (h .ready σ) ∙ sym (ap (λ (t : Taken). said g (fittedOf room t)) (asked g b))
@@ -135,7 +143,8 @@ module _ {S : Type 0} (k : Steps S) (h : Hears k) (count : ℕ) (master : List �
 module _ {S : Type 0} (did : S → ℕ → Rec → Did S)
     (same : (f g : Form) (count : ℕ) (master : List ℕ) → AllowedIn f count master → AllowedIn g count master
     → (σ : S) (room : ℕ) → did σ room (recordIn f count master) ≡ did σ room (recordIn g count master)) where
-  lines-same : (σ : S) (room : ℕ) (rs ss : List Rec) → Reformed rs ss → map answered (linesAfter did σ room rs) ≡ map answered (linesAfter did σ room ss)
+  lines-same : (σ : S) (room : ℕ) (rs ss : List Rec) → Reformed rs ss →
+      map answered (linesAfter did σ room rs) ≡ map answered (linesAfter did σ room ss)
   lines-same σ room rs ss none = refl
   lines-same σ room rs ss (kept {r = r} {rs = xs} {ss = ys} h) =
       let d = did σ room r in
@@ -143,7 +152,8 @@ module _ {S : Type 0} (did : S → ℕ → Rec → Did S)
   lines-same σ room rs ss (reformed f g {count = count} {master = master} {rs = xs} {ss = ys} a b h) =
       let d = did σ room (recordIn f count master) in
       ap (λ (ls : List (ℕ × List ℕ)). (d .answer, d .reply) ∷ ls) (lines-same (d .state) (room - length (d .reply)) xs ys h)
-      ∙ ap (λ (e : Did S). (e .answer, e .reply) ∷ map answered (linesAfter did (e .state) (room - length (e .reply)) ys)) (same f g count master a b σ room)
+      ∙ ap (λ (e : Did S). (e .answer, e .reply) ∷ map answered (linesAfter did (e .state) (room - length (e .reply)) ys))
+      (same f g count master a b σ room)
 
   ends-same : (σ : S) (room : ℕ) (rs ss : List Rec) → Reformed rs ss → endAfter did σ room rs ≡ endAfter did σ room ss
   ends-same σ room rs ss none = refl
@@ -223,9 +233,11 @@ trays-one = one-answer trayDid (λ f g count master a b σ room. did-same ofTray
 
 -- Classes
 
-module _ (asked : ℕ → List ℕ → Taken) (ready : Bool) (tells : (f : Form) (p : List ℕ) → asked (formKind f) p ≡ takenBy false (kind.Transaction f) ready p)
+module _ (asked : ℕ → List ℕ → Taken) (ready : Bool)
+    (tells : (f : Form) (p : List ℕ) → asked (formKind f) p ≡ takenBy false (kind.Transaction f) ready p)
     (selects : Selects) (hears : (t : Transaction) (s : ℕ) (master : List ℕ) → selects t master ≡ selects (startedAt s t) master) where
-  event-class : (t : Transaction) (s : ℕ) (p q : List ℕ) → masterOf t p ≡ drop s q → takenClass selects p (Run (Transact t)) ≡ takenClass selects q (Run (Transact (startedAt s t)))
+  event-class : (t : Transaction) (s : ℕ) (p q : List ℕ) → masterOf t p ≡ drop s q →
+      takenClass selects p (Run (Transact t)) ≡ takenClass selects q (Run (Transact (startedAt s t)))
   unfolding touchedOf
   event-class t s p q e = rw (e, hears t s (drop s q)) refl
 
@@ -249,7 +261,8 @@ unfolding takenOf selectedOf
 session-classes address =
     class-same sessionAsked true (λ f p. ap (λ (k : Kind). takenBy false k true p) (session-kind f)) (selectedOf address) (λ t s master. refl)
 
-some-started : (addresses : List (List ℕ)) (t : Transaction) (s : ℕ) (master : List ℕ) → someSelected addresses t master ≡ someSelected addresses (startedAt s t) master
+some-started : (addresses : List (List ℕ)) (t : Transaction) (s : ℕ) (master : List ℕ) →
+    someSelected addresses t master ≡ someSelected addresses (startedAt s t) master
 unfolding selectedOf
 some-started [] t s master = refl
 some-started (address ∷ rest) t s master = ap (either (selectedOf address t master)) (some-started rest t s master)
@@ -270,7 +283,8 @@ listed-split f zero i m =
 listed-split f (suc n) i m =
     let left : suc n + m ≡ suc (n + m) = omega arith in
     let right : i + 1 + n ≡ i + suc n = omega arith in
-    ap (listed f i) left ∙ ap (λ (l : List ℕ). f i ∷ l) (listed-split f n (i + 1) m) ∙ ap (λ (j : ℕ). f i ∷ (listed f (i + 1) n ++ listed f j m)) right
+    ap (listed f i) left ∙ ap (λ (l : List ℕ). f i ∷ l) (listed-split f n (i + 1) m)
+    ∙ ap (λ (j : ℕ). f i ∷ (listed f (i + 1) n ++ listed f j m)) right
 
 listed-from : (f : ℕ → ℕ) (c n i : ℕ) → listed f (c + i) n ≡ listed (λ j. f (c + j)) i n
 listed-from f c zero i = refl
@@ -285,12 +299,18 @@ module _ (g : Gauge) where
       → didOf (loadedWith g) room (reading f a count) ≡ record { state = loadedWith g; answer = 0; reply = piece a count }
   unfolding didOf askedOf askedAt romBy commandOf replyOf actOf ranOf selectedOf sourceByte session-hears
   read-did f a count room few sent roomy =
-      rw (asks count (0xcc ∷ 0x69 ∷ a ∷ []) (ofSession .told (loadedWith g)) true (session-hears .told (loadedWith g)) f (record { reads = few; sends = sent }), le-ltb room count roomy)
+      rw (
+        asks count (0xcc ∷ 0x69 ∷ a ∷ []) (ofSession .told (loadedWith g)) true (session-hears .told (loadedWith g)) f
+            (record { reads = few; sends = sent }),
+        le-ltb room count roomy,
+      )
       refl
 
   quarter : (a room : ℕ) (rs : List Rec) → 64 ≤ room
-      → repliesOf (linesAfter didOf (loadedWith g) room (reading Short a 64 ∷ rs)) ≡ piece a 64 ++ repliesOf (linesAfter didOf (loadedWith g) (room - 64) rs)
-  quarter a room rs roomy = rw (read-did Short a 64 room (omega arith) (omega arith) roomy, listed-length (λ i. readByte (g .common) (g .label) (g .meter) (a + i)) 0 64) refl
+      → repliesOf (linesAfter didOf (loadedWith g) room (reading Short a 64 ∷ rs))
+      ≡ piece a 64 ++ repliesOf (linesAfter didOf (loadedWith g) (room - 64) rs)
+  quarter a room rs roomy =
+      rw (read-did Short a 64 room (omega arith) (omega arith) roomy, listed-length (λ i. readByte (g .common) (g .label) (g .meter) (a + i)) 0 64) refl
 
   next : (a n : ℕ) → piece a (64 + n) ≡ piece a 64 ++ piece (a + 64) n
   next a n =
@@ -309,7 +329,12 @@ module _ (g : Gauge) where
   map-quarters : (room : ℕ) → 256 ≤ room → repliesOf (linesAfter didOf (loadedWith g) room quarters) ≡ wholeMap g
   map-quarters room all =
       let four : repliesOf (linesAfter didOf (loadedWith g) room quarters) ≡ piece 0x00 64 ++ (piece 0x40 64 ++ (piece 0x80 64 ++ (piece 0xc0 64 ++ []))) =
-      rw (quarter 0x00 room _ (omega arith), quarter 0x40 (room - 64) _ (omega arith), quarter 0x80 (room - 64 - 64) _ (omega arith), quarter 0xc0 (room - 64 - 64 - 64) _ (omega arith))
+      rw (
+        quarter 0x00 room _ (omega arith),
+        quarter 0x40 (room - 64) _ (omega arith),
+        quarter 0x80 (room - 64 - 64) _ (omega arith),
+        quarter 0xc0 (room - 64 - 64 - 64) _ (omega arith),
+      )
       refl in
       four ∙ sym (rw (next 0x00 192, next 0x40 128, next 0x80 64, next 0xc0 0) refl)
 

@@ -88,7 +88,8 @@ module _ {S : Type 0} (did : S → ℕ → Rec → Did S) where
       let d = did σ room r in
       ap (λ (ls : List Line). lineOf r d ∷ ls)
       (lines-append (d .state) (room - length (d .reply)) rs qs
-      ∙ ap (λ (n : ℕ). linesAfter did (d .state) (room - length (d .reply)) rs ++ linesAfter did (endAfter did σ room (r ∷ rs)) n qs) (left-cons σ room r rs))
+      ∙ ap (λ (n : ℕ). linesAfter did (d .state) (room - length (d .reply)) rs ++ linesAfter did (endAfter did σ room (r ∷ rs)) n qs)
+      (left-cons σ room r rs))
 
   pub end-append : (σ : S) (room : ℕ) (rs qs : List Rec)
       → endAfter did σ room (rs ++ qs) ≡ endAfter did (endAfter did σ room rs) (leftOf σ room rs) qs

@@ -63,7 +63,8 @@ module _ {k : ℕ} where
       go true e = let f = eqb-true j k e in rw f (h .address)
       go false e = ap (λ (g : Gauge). g .common .address) (h .packs j (eqb-false j k e))
 
-  search-others : {τ σ : Tray} → Others k τ σ → (address : List ℕ) → searchOf (τ .commons) (τ .count) address ≡ searchOf (σ .commons) (σ .count) address
+  search-others : {τ σ : Tray} → Others k τ σ → (address : List ℕ) →
+      searchOf (τ .commons) (τ .count) address ≡ searchOf (σ .commons) (σ .count) address
   unfolding searchOf
   search-others {τ} {σ} h address =
       search-same (noGauge .common) address (τ .commons) (σ .commons) 0 (τ .count) (addresses h) ∙ rw (h .count) refl
@@ -91,9 +92,11 @@ module _ {k : ℕ} {τ σ : Tray} (h : Others k τ σ) (p : List ℕ) where
       go true = refl
       go false = h .address
   address-same (Change c) = address-after τ p (Change c) k (λ f z. contrary cc) ∙ h .address ∙ sym (address-after σ p (Change c) k (λ f z. contrary cc))
-  address-same (Transact t) = address-after τ p (Transact t) k (λ f z. contrary cc) ∙ h .address ∙ sym (address-after σ p (Transact t) k (λ f z. contrary cc))
+  address-same (Transact t) =
+      address-after τ p (Transact t) k (λ f z. contrary cc) ∙ h .address ∙ sym (address-after σ p (Transact t) k (λ f z. contrary cc))
 
-  event-others : Eight τ → Eight σ → (x : Kind) (e : Event) → Asks τ x p (Run e) → Asks σ x p (Run e) → Others k (trayEvent τ p e .state) (trayEvent σ p e .state)
+  event-others : Eight τ → Eight σ → (x : Kind) (e : Event) → Asks τ x p (Run e) → Asks σ x p (Run e) →
+      Others k (trayEvent τ p e .state) (trayEvent σ p e .state)
   event-others u v x e a b = record {
     count = event-count τ u x p e ∙ counts e ∙ sym (event-count σ v x p e);
     packs = λ j other. event-pack τ u x p e a j ∙ pack-after e j (h .packs j other) ∙ sym (event-pack σ v x p e b j);
@@ -160,17 +163,20 @@ ahead-none b kind.PowerOn e h = h
 ahead-none b kind.Sample e h = h
 ahead-none b kind.Unknown e h = h
 
-event-images : (τ : Tray) (n : ℕ) (p : List ℕ) (e : Event) → Asks τ (trayKindOf n) p (Run e) → countAfter τ e ≡ pick (both (isImage n) true) (τ .count + 1) (τ .count)
+event-images : (τ : Tray) (n : ℕ) (p : List ℕ) (e : Event) → Asks τ (trayKindOf n) p (Run e) →
+    countAfter τ e ≡ pick (both (isImage n) true) (τ .count + 1) (τ .count)
 event-images τ n p (Image f) a = rw (subst (Imaged (isImage n)) (a .kind) (imaged n)) refl
 event-images τ n p (Change c) a = rw (ahead-none (isImage n) (trayKindOf n) (a .ahead) (imaged n)) refl
 event-images τ n p (Transact t) a = rw (subst (Imaged (isImage n)) (a .kind) (imaged n)) refl
 
-pub count-after : (τ : Tray) (room : ℕ) (r : Rec) → Eight τ → trayDid τ room r .state .count ≡ imagesAfter (τ .count) r (lineOf r (trayDid τ room r))
+pub count-after : (τ : Tray) (room : ℕ) (r : Rec) → Eight τ →
+    trayDid τ room r .state .count ≡ imagesAfter (τ .count) r (lineOf r (trayDid τ room r))
 unfolding trayDid
 count-after τ room cut h = refl
 count-after τ room (whole n p) h = go (outcome τ room n p)
   where
-    go : Outcome τ room n p → trayDid τ room (whole n p) .state .count ≡ pick (both (isImage n) (eqb (trayDid τ room (whole n p) .answer) 0)) (τ .count + 1) (τ .count)
+    go : Outcome τ room n p →
+        trayDid τ room (whole n p) .state .count ≡ pick (both (isImage n) (eqb (trayDid τ room (whole n p) .answer) 0)) (τ .count + 1) (τ .count)
     go (ran e t d) =
         rw (d, tray-replying .answer τ p e) (event-count τ h (trayKindOf n) p e ∙ event-images τ n p e (rw t at (tray-asks τ n p)))
     go (stayed m low d) = rw (d, ne-eqb m 0 (λ z. omega arith), both-false (isImage n)) refl
@@ -234,7 +240,8 @@ joined-address f τ p k u few at =
     ap (λ (i : ℕ). packOf (trayEvent τ p (Image f) .state) i .common .address) (sym at)
     ∙ ap (λ (g : Gauge). g .common .address) (stored-here τ (τ .count) (imageOf f p) u few)
 
-module _ {k : ℕ} {τ σ : Tray} (h : Others k τ σ) (u : Eight τ) (v : Eight σ) (p q : List ℕ) (at : τ .count ≡ k) (address : imageAddress p ≡ imageAddress q) where
+module _ {k : ℕ} {τ σ : Tray} (h : Others k τ σ) (u : Eight τ) (v : Eight σ) (p q : List ℕ) (at : τ .count ≡ k)
+    (address : imageAddress p ≡ imageAddress q) where
   joined-moved : (e x : Event) → Joining τ e → Joining σ x → Moved k (trayEvent τ p e) (trayEvent σ q x)
   joined-moved (Image f) (Image g) few low = record {
     others = record {
@@ -258,7 +265,8 @@ module _ {k : ℕ} {τ σ : Tray} (h : Others k τ σ) (u : Eight τ) (v : Eight
       → Moved k (trayDid τ near (whole (imageKind f) p)) (trayDid σ far (whole (imageKind h) q))
   images-moved y z near far agree = go (outcome τ near (imageKind y) p) (outcome σ far (imageKind z) q)
     where
-      go : Outcome τ near (imageKind y) p → Outcome σ far (imageKind z) q → Moved k (trayDid τ near (whole (imageKind y) p)) (trayDid σ far (whole (imageKind z) q))
+      go : Outcome τ near (imageKind y) p → Outcome σ far (imageKind z) q →
+          Moved k (trayDid τ near (whole (imageKind y) p)) (trayDid σ far (whole (imageKind z) q))
       go (ran e a d) (ran x b f) = rw (d, f) (joined-moved e x (joining y τ p e a) (joining z σ q x b))
       go (ran e a d) (stayed m low f) =
           never (ap (λ (x : Did Tray). x .answer) d ∙ tray-replying .answer τ p e) (ap (λ (x : Did Tray). x .answer) f) low agree
@@ -267,7 +275,8 @@ module _ {k : ℕ} {τ σ : Tray} (h : Others k τ σ) (u : Eight τ) (v : Eight
       go (stayed m low d) (stayed i high f) = rw (d, f) (still h u v near far m i)
 
 -- a slot event of k
-pub slot-moved : (k : ℕ) (τ : Tray) (room n : ℕ) (p : List ℕ) → Eight τ → slotEvent n ≡ true → slotIn p ≡ k → Moved k (trayDid τ room (whole n p)) (silently τ 0)
+pub slot-moved : (k : ℕ) (τ : Tray) (room n : ℕ) (p : List ℕ) → Eight τ → slotEvent n ≡ true → slotIn p ≡ k →
+    Moved k (trayDid τ room (whole n p)) (silently τ 0)
 slot-moved k τ room n p u slot at = go (outcome τ room n p)
   where
     changes : (e : Event) → trayTold τ n p ≡ Run e → Asks τ (trayKindOf n) p (Run e) → trayDid τ room (whole n p) ≡ trayEvent τ p e

@@ -56,11 +56,16 @@ stored-pack τ i j g h low = go (eqb j i) refl
     go false e = stored-other τ i j g (eqb-false j i e)
 
 -- trays with the same packs are the same
-pub same-tray : (τ σ : Tray) → Eight τ → Eight σ → τ .count ≡ σ .count → τ .closed ≡ σ .closed → ((j : ℕ) → packOf τ j ≡ packOf σ j) → τ ≡ σ
+pub same-tray : (τ σ : Tray) → Eight τ → Eight σ → τ .count ≡ σ .count → τ .closed ≡ σ .closed →
+    ((j : ℕ) → packOf τ j ≡ packOf σ j) → τ ≡ σ
 same-tray τ σ h k count closed packs =
-    let commons : τ .commons ≡ σ .commons = ext-getD (noGauge .common) (τ .commons) (σ .commons) (h .commons ∙ sym (k .commons)) (λ i low. ap (λ (g : Gauge). g .common) (packs i)) in
-    let labels : τ .labels ≡ σ .labels = ext-getD (noGauge .label) (τ .labels) (σ .labels) (h .labels ∙ sym (k .labels)) (λ i low. ap (λ (g : Gauge). g .label) (packs i)) in
-    let meters : τ .meters ≡ σ .meters = ext-getD (noGauge .meter) (τ .meters) (σ .meters) (h .meters ∙ sym (k .meters)) (λ i low. ap (λ (g : Gauge). g .meter) (packs i)) in
+    let commons : τ .commons
+    ≡ σ .commons =
+    ext-getD (noGauge .common) (τ .commons) (σ .commons) (h .commons ∙ sym (k .commons)) (λ i low. ap (λ (g : Gauge). g .common) (packs i)) in
+    let labels : τ .labels ≡ σ .labels =
+    ext-getD (noGauge .label) (τ .labels) (σ .labels) (h .labels ∙ sym (k .labels)) (λ i low. ap (λ (g : Gauge). g .label) (packs i)) in
+    let meters : τ .meters ≡ σ .meters =
+    ext-getD (noGauge .meter) (τ .meters) (σ .meters) (h .meters ∙ sym (k .meters)) (λ i low. ap (λ (g : Gauge). g .meter) (packs i)) in
     λ i. record { count = count i; closed = closed i; commons = commons i; labels = labels i; meters = meters i }
 
 -- A transaction
@@ -83,7 +88,8 @@ module _ (t : Transaction) (master : List ℕ) (τ : Tray) (h : Eight τ) where
       ∙ go (eqb j n) (ltb j n) refl refl
     where
       go : (s u : Bool) → eqb j n ≡ s → ltb j n ≡ u
-          → pick s (actOf (packOf τ n) t master) (pick u (actOf (packOf τ j) t master) (packOf τ j)) ≡ pick (ltb j (suc n)) (actOf (packOf τ j) t master) (packOf τ j)
+          → pick s (actOf (packOf τ n) t master) (pick u (actOf (packOf τ j) t master) (packOf τ j))
+          ≡ pick (ltb j (suc n)) (actOf (packOf τ j) t master) (packOf τ j)
       go true u e f = let k = eqb-true j n e in rw (lt-ltb j (suc n) (omega arith)) (ap (λ (i : ℕ). actOf (packOf τ i) t master) (sym k))
       go false true e f = rw (lt-ltb j (suc n) (omega (arith, ltb-true j n f))) refl
       go false false e f = rw (le-ltb j (suc n) (omega (arith, ltb-false j n f, eqb-false j n e))) refl

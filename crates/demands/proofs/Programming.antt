@@ -59,7 +59,12 @@ module _ (g : Gauge) (count command a : ℕ) (bytes : List ℕ) where
   taken : count ≤ 64 → length bytes ≤ 61 → takenOf 4 true payload ≡ Run (Transact (skipped count command a))
   unfolding takenOf kindOf askedOf romBy askedAt
   taken few short =
-      rw (le-leb 1 (length payload) (omega arith), le-leb (length payload) 65 (omega arith), le-leb count 64 few, le-ltb (length (0xcc ∷ command ∷ a ∷ bytes)) 3 (omega arith))
+      rw (
+        le-leb 1 (length payload) (omega arith),
+        le-leb (length payload) 65 (omega arith),
+        le-leb count 64 few,
+        le-ltb (length (0xcc ∷ command ∷ a ∷ bytes)) 3 (omega arith),
+      )
       refl
 
   -- with room for its reply
@@ -216,14 +221,16 @@ module _ {image wanted room : List ℕ} {said : Written} {after : List ℕ} {c :
   told : linesIn didOf emptyOf c ≡ benchLines (last .answer) (last .reply)
   told =
       rw records
-      (lines n emptyOf (loadedWith g₁) (loadedWith g₂) (loadedWith g₃) (whole 1 image) (whole 4 (writePayload wanted)) (whole 4 copyPayload) (whole 4 readPayload)
+      (lines n emptyOf (loadedWith g₁) (loadedWith g₂) (loadedWith g₃) (whole 1 image) (whole 4 (writePayload wanted)) (whole 4 copyPayload)
+      (whole 4 readPayload)
       (images n) (writes n) (copies n))
 
   left : c .ran .state ≡ last .state
   left =
       running didOf emptyOf within .state
       ∙ rw records
-      (end n emptyOf (loadedWith g₁) (loadedWith g₂) (loadedWith g₃) (whole 1 image) (whole 4 (writePayload wanted)) (whole 4 copyPayload) (whole 4 readPayload)
+      (end n emptyOf (loadedWith g₁) (loadedWith g₂) (loadedWith g₃) (whole 1 image) (whole 4 (writePayload wanted)) (whole 4 copyPayload)
+      (whole 4 readPayload)
       (images n) (writes n) (copies n))
 
   state : c .ran .state ≡ loadedWith g₃

@@ -30,7 +30,8 @@ either-true true = refl
 either-true false = refl
 
 module _ (t : Transaction) (master : List ℕ) where
-  some-true : (addresses : List (List ℕ)) (j : ℕ) → j < length addresses → selectedOf (getD addresses j []) t master ≡ true → someSelected addresses t master ≡ true
+  some-true : (addresses : List (List ℕ)) (j : ℕ) → j < length addresses → selectedOf (getD addresses j []) t master ≡ true →
+      someSelected addresses t master ≡ true
   some-true [] j low e = absurd (omega arith)
   some-true (a ∷ rest) zero low e = rw e refl
   some-true (a ∷ rest) (suc j) low e = rw (some-true rest j (omega arith) e) (either-true (selectedOf a t master))
@@ -64,7 +65,8 @@ module _ (addresses : List (List ℕ)) (τ : Tray) (h : Owns addresses τ) (t : 
 
   module _ (r : t .rom ≡ rom.Match) where
     -- a match selects the packs with its address
-    match-chosen : (s : Bool) → ltb (length master) 9 ≡ s → (j : ℕ) → chosen j ≡ pick s false (sameBytes (packOf τ j .common .address) (take 8 (drop 1 master)))
+    match-chosen : (s : Bool) → ltb (length master) 9 ≡ s → (j : ℕ) →
+        chosen j ≡ pick s false (sameBytes (packOf τ j .common .address) (take 8 (drop 1 master)))
     unfolding selectedOf ownOf
     match-chosen s e j = rw (r, e) refl
 
@@ -72,12 +74,14 @@ module _ (addresses : List (List ℕ)) (τ : Tray) (h : Owns addresses τ) (t : 
     unfolding matchedOf searchOf
     none-matched e j low = go (ltb (length master) 9) refl e
       where
-        go : (s : Bool) → ltb (length master) 9 ≡ s → pick s Nowhere (searchOf (τ .commons) (τ .count) (take 8 (drop 1 master))) ≡ Nowhere → chosen j ≡ false
+        go : (s : Bool) → ltb (length master) 9 ≡ s → pick s Nowhere (searchOf (τ .commons) (τ .count) (take 8 (drop 1 master))) ≡ Nowhere →
+            chosen j ≡ false
         go true f g = match-chosen true f j
         go false f g =
             match-chosen false f j ∙ search-none (noGauge .common) (take 8 (drop 1 master)) (τ .commons) 0 (τ .count) g j zero-le (omega arith)
 
-    matched-chosen : (found : Found) → matchedOf (τ .commons) (τ .count) master ≡ found → (j : ℕ) → hearsOf (reachFound found) (τ .count) j ≡ true
+    matched-chosen : (found : Found) → matchedOf (τ .commons) (τ .count) master ≡ found → (j : ℕ) →
+        hearsOf (reachFound found) (τ .count) j ≡ true
         → chosen j ≡ someSelected addresses t master
     matched-chosen (At i) e j hear =
         let m = matched-found (τ .commons) (τ .count) master i e in
@@ -94,7 +98,9 @@ module _ (addresses : List (List ℕ)) (τ : Tray) (h : Owns addresses τ) (t : 
 
       by : (r : Rom) → t .rom ≡ r → hearsOf (reachFound (aimedBy r (matchedOf (τ .commons) (τ .count) master))) (τ .count) j ≡ true
           → chosen j ≡ someSelected addresses t master
-      by rom.Skip e hear = let yes = skip t master e in yes (packOf τ j .common .address) ∙ sym (one-chosen j (ltb-true j (τ .count) hear) (yes (packOf τ j .common .address)))
+      by rom.Skip e hear =
+          let yes = skip t master e in
+          yes (packOf τ j .common .address) ∙ sym (one-chosen j (ltb-true j (τ .count) hear) (yes (packOf τ j .common .address)))
       by rom.Match e hear = matched-chosen e (matchedOf (τ .commons) (τ .count) master) refl j hear
       by rom.Net33 e hear = quiet rom.Net33 (none-of t master e (λ a. refl))
       by rom.Net39 e hear = quiet rom.Net39 (none-of t master e (λ a. refl))

@@ -67,7 +67,8 @@ pub record Owns (addresses : List (List ℕ)) (τ : Tray) : Type 0 where
   pub owned : (j : ℕ) → j < τ .count → packOf τ j .common .address ≡ getD addresses j []
 
 module _ (addresses : List (List ℕ)) (τ : Tray) (h : Owns addresses τ) where
-  event-owns : (k : Kind) (p : List ℕ) (e : Event) → ((f : Profile) → e ≡ Image f → ⊥) → trayEvent τ p e .state .count ≡ τ .count → Asks τ k p (Run e)
+  event-owns : (k : Kind) (p : List ℕ) (e : Event) → ((f : Profile) → e ≡ Image f → ⊥) → trayEvent τ p e .state .count ≡ τ .count →
+      Asks τ k p (Run e)
       → Owns addresses (trayEvent τ p e .state)
   event-owns k p e none same a = record {
     eight = event-eight τ (h .eight) k p e a;
@@ -101,7 +102,8 @@ timed-none (Run (Transact t)) = refl
 timed-none (Refused r) = refl
 
 -- of images, and of all other kinds
-image-or : (P : Kind → Type 0) → ((f : Profile) → P (kind.Image f)) → ((k : Kind) → ((f : Profile) → k ≡ kind.Image f → ⊥) → P k) → (k : Kind) → P k
+image-or : (P : Kind → Type 0) → ((f : Profile) → P (kind.Image f)) → ((k : Kind) → ((f : Profile) → k ≡ kind.Image f → ⊥) → P k) →
+    (k : Kind) → P k
 image-or P i h (kind.Image f) = i f
 image-or P i h kind.Reading = h kind.Reading (λ f e. contrary cc)
 image-or P i h kind.Conversion = h kind.Conversion (λ f e. contrary cc)
@@ -126,12 +128,14 @@ module _ (count : ℕ) (closed again : Bool) (last : Tick) (p : List ℕ) where
   abbrev judged : Kind → Taken
   judged k = trayAskedBy count true false noTick k p
 
-  ahead : (a : Bool) {t u : Taken} → t ≡ u → pick a (timedOf last t) (Refused refusal.Size) ≡ timedOf last (pick a (timedOf noTick u) (Refused refusal.Size))
+  ahead : (a : Bool) {t u : Taken} → t ≡ u →
+      pick a (timedOf last t) (Refused refusal.Size) ≡ timedOf last (pick a (timedOf noTick u) (Refused refusal.Size))
   ahead true {t} {u} e = ap (timedOf last) (e ∙ sym (timed-none u))
   ahead false e = refl
 
   -- a record that is no image
-  same-taken : (k : Kind) → ((f : Profile) → k ≡ kind.Image f → ⊥) → (q : List ℕ) → takenBy again k (acceptedFor count closed k p) q ≡ takenBy false k (acceptedFor count true k p) q
+  same-taken : (k : Kind) → ((f : Profile) → k ≡ kind.Image f → ⊥) → (q : List ℕ) →
+      takenBy again k (acceptedFor count closed k p) q ≡ takenBy false k (acceptedFor count true k p) q
   same-taken (kind.Image f) other q = absurd (other f refl)
   same-taken kind.Reading other q = refl
   same-taken kind.Conversion other q = refl
@@ -151,7 +155,9 @@ module _ (count : ℕ) (closed again : Bool) (last : Tick) (p : List ℕ) where
     image-class f false e other = image-size f count closed again last p e ∙ rw (image-asked f count p, e) refl
 
     class-timed : (k : Kind) → (takenClass selects p (judged k) ≡ fence → ⊥) → asks k ≡ timedOf last (judged k)
-    class-timed = image-or (λ k. (takenClass selects p (judged k) ≡ fence → ⊥) → asks k ≡ timedOf last (judged k)) (λ f. image-class f (eqb (length p) (imageSizeOf f)) refl) (λ k other h. asks-timed k other)
+    class-timed =
+        image-or (λ k. (takenClass selects p (judged k) ≡ fence → ⊥) → asks k ≡ timedOf last (judged k))
+        (λ f. image-class f (eqb (length p) (imageSizeOf f)) refl) (λ k other h. asks-timed k other)
 
 pub told-class : (τ : Tray) (n : ℕ) (p : List ℕ) (selects : Selects) → (takenClass selects p (trayAsked (τ .count) n p) ≡ fence → ⊥)
     → trayTold τ n p ≡ timedOf (slotTick τ p) (trayAsked (τ .count) n p)
@@ -190,12 +196,14 @@ module _ (τ : Tray) (p : List ℕ) where
 
   timed : (k : Kind) → ((f : Profile) → k ≡ kind.Image f → ⊥) → takenAsks (told k) ≡ takenAsks (trayAskedBy (τ .count) true false noTick k p)
   timed k other =
-      ap takenAsks (asks-timed (τ .count) (τ .closed) (againOf τ p) (slotTick τ p) p k other) ∙ timed-asks (slotTick τ p) (trayAskedBy (τ .count) true false noTick k p)
+      ap takenAsks (asks-timed (τ .count) (τ .closed) (againOf τ p) (slotTick τ p) p k other)
+      ∙ timed-asks (slotTick τ p) (trayAskedBy (τ .count) true false noTick k p)
 
   asks-same : (k : Kind) → Asks τ k p (told k) → takenAsks (told k) ≡ takenAsks (trayAskedBy (τ .count) true false noTick k p)
   asks-same =
       image-or (λ k. Asks τ k p (told k) → takenAsks (told k) ≡ takenAsks (trayAskedBy (τ .count) true false noTick k p))
-      (λ f a. image-none f (told (kind.Image f)) a ∙ rw (image-asked f (τ .count) p) (sym (picked (λ t. takenAsks t ≡ 0) (eqb (length p) (imageSizeOf f)) _ _ (λ e. refl) (λ e. refl))))
+      (λ f a. image-none f (told (kind.Image f)) a
+      ∙ rw (image-asked f (τ .count) p) (sym (picked (λ t. takenAsks t ≡ 0) (eqb (length p) (imageSizeOf f)) _ _ (λ e. refl) (λ e. refl))))
       (λ k other a. timed k other)
 
 pub told-asks : (τ : Tray) (n : ℕ) (p : List ℕ) → takenAsks (trayTold τ n p) ≡ takenAsks (trayAsked (τ .count) n p)
@@ -227,7 +235,8 @@ module _ (τ : Tray) (p : List ℕ) where
   shut-reply (Run (Transact t)) = tray-replying .reply τ p (Transact t)
   shut-reply (Refused r) = refl
 
-did-shut : (τ : Tray) (room : ℕ) (r : Rec) → recAsks (trayAsked (τ .count)) r ≤ room → trayDid τ room r .state .count ≤ τ .count → trayDid τ room r ≡ freeTray τ r
+did-shut : (τ : Tray) (room : ℕ) (r : Rec) → recAsks (trayAsked (τ .count)) r ≤ room → trayDid τ room r .state .count ≤ τ .count →
+    trayDid τ room r ≡ freeTray τ r
 unfolding trayDid
 did-shut τ room (whole n p) asks low =
     let e = ap (answeredBy ofTray τ p) (taken-room room (trayTold τ n p) (rw (told-asks τ n p) asks)) in
@@ -243,7 +252,8 @@ pub record FreeTray (τ : Tray) (room : ℕ) (rs : List Rec) : Type 0 where
   pub end : endAfter trayDid τ room rs ≡ endFrom trayStep trayOut τ rs
   pub got : zip rs (linesAfter trayDid τ room rs) ≡ gotFrom trayStep trayOut τ rs
 
-pub free-tray : (addresses : List (List ℕ)) (τ : Tray) (room : ℕ) (rs : List Rec) → Owns addresses τ → asksAll (trayAsked (length addresses)) rs ≤ room
+pub free-tray : (addresses : List (List ℕ)) (τ : Tray) (room : ℕ) (rs : List Rec) → Owns addresses τ →
+    asksAll (trayAsked (length addresses)) rs ≤ room
     → endAfter trayDid τ room rs .count ≡ length addresses → FreeTray τ room rs
 unfolding zip zipWith
 free-tray addresses τ room [] h asks full = record { end = refl; got = refl }

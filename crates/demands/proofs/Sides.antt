@@ -31,7 +31,8 @@ use Rattle.runs.specs.declared.Session.{Session}
 use Rattle.runs.specs.AnyRecord.{answeredBy}
 use Rattle.runs.specs.SessionRecord.{loadedWith, takenDid}
 use Rattle.tray_record.specs.declared.Tray.{Tray}
-use Rattle.tray_record.specs.Tray.{noGauge, packOf, slotIn, slotTick, Reach, one, every, reachFound, matchedOf, aimedBy, trayReach, trayTold, wiredFirst, trayReply}
+use Rattle.tray_record.specs.Tray.{noGauge, packOf, slotIn, slotTick, Reach, one, every, reachFound, matchedOf}
+use Rattle.tray_record.specs.Tray.{aimedBy, trayReach, trayTold, wiredFirst, trayReply}
 use Rattle.demands.specs.Sections.{Class, labelling, gauging, fence}
 use Rattle.demands.specs.Class.{touchedOf, takenClass, classBy, trayAsked, someSelected}
 use Rattle.demands.specs.History.{hearsOf}
@@ -114,7 +115,8 @@ module _ (σ : Tray) (h : Eight σ) (p : List ℕ) (c : Changes) where
   slot-answer = go (changeTimely (slotTick σ p) c)
     where
       go : (b : Bool)
-          → (answeredBy ofShut σ p (pick b (Run (Change c)) (Refused Interval)) .answer ≡ takenDid (loadedWith (packOf σ (slotIn p))) p (pick b (Run (Change c)) (Refused Interval)) .answer)
+          → (answeredBy ofShut σ p (pick b (Run (Change c)) (Refused Interval)) .answer
+          ≡ takenDid (loadedWith (packOf σ (slotIn p))) p (pick b (Run (Change c)) (Refused Interval)) .answer)
           × (answeredBy ofShut σ p (pick b (Run (Change c)) (Refused Interval)) .reply ≡ [])
       go true = (refl, refl)
       go false = (refl, refl)
@@ -194,7 +196,8 @@ module _ {A B : Type 0} (make : Common → A → B → Gauge) (own : Gauge → A
       → PackMoves own other h (timedDid p t g) (timedDid p t h)
   pack-moves g h e p t c =
       let φ = form (g .common) (own g) p t c in
-      let d : timedDid p t g ≡ after (make (g .common) (φ .part) (other g)) (φ .answer) (φ .reply) = ap (timedDid p t) (sym (made g)) ∙ φ .form (other g) in
+      let d : timedDid p t g ≡ after (make (g .common) (φ .part) (other g)) (φ .answer) (φ .reply) = ap (timedDid p t) (sym (made g))
+      ∙ φ .form (other g) in
       let same : h ≡ make (g .common) (own g) (other h) = sym (made h) ∙ (λ i. make (e .common i) (e .part i) (other h)) in
       let f : timedDid p t h ≡ after (make (g .common) (φ .part) (other h)) (φ .answer) (φ .reply) = ap (timedDid p t) same ∙ φ .form (other h) in
       record {
@@ -210,7 +213,8 @@ module _ {A B : Type 0} (make : Common → A → B → Gauge) (own : Gauge → A
 
   -- by what is asked
 
-  module _ (addresses : List (List ℕ)) {τ σ : Tray} (own-τ : Owns addresses τ) (own-σ : Owns addresses σ) (alike : Alike own other τ σ) (p : List ℕ) where
+  module _ (addresses : List (List ℕ)) {τ σ : Tray} (own-τ : Owns addresses τ) (own-σ : Owns addresses σ) (alike : Alike own other τ σ)
+      (p : List ℕ) where
     reach-alike : (t : Transaction) (master : List ℕ) → trayReach σ t master ≡ trayReach τ t master
     reach-alike t master =
         let commons : σ .commons ≡ τ .commons =
@@ -232,7 +236,8 @@ module _ {A B : Type 0} (make : Common → A → B → Gauge) (own : Gauge → A
           → PackMoves own other (packOf σ j) (timedDid p (Run (Transact t)) (packOf τ j)) (timedDid p (Run (Transact t)) (packOf σ j))
       heard j hear = pack-moves (packOf τ j) (packOf σ j) (alike .pairs j) p (Run (Transact t)) (heard-class j hear)
 
-      replied : (r : Reach) → ((j : ℕ) → hearsOf r (τ .count) j ≡ true → replyOf (packOf σ j) t (masterOf t p) ≡ replyOf (packOf τ j) t (masterOf t p))
+      replied : (r : Reach) → ((j : ℕ) → hearsOf r (τ .count) j ≡ true →
+          replyOf (packOf σ j) t (masterOf t p) ≡ replyOf (packOf τ j) t (masterOf t p))
           → trayReply t (masterOf t p) r σ ≡ trayReply t (masterOf t p) r τ
       replied (one i) h = h i (eq-eqb i i refl)
       replied every h =
@@ -267,7 +272,8 @@ module _ {A B : Type 0} (make : Common → A → B → Gauge) (own : Gauge → A
     taken-moves (Run (Change c)) e a = change-moves c e a
     taken-moves (Run (Transact t)) e a = transact-moves t e
     taken-moves (Refused r) e a =
-        moves-of own other alike p (Refused r) (λ j. false) false (does-nothing τ (own-τ .eight) p r) (does-nothing σ (own-σ .eight) p r) (λ j touch. contrary cc) refl refl
+        moves-of own other alike p (Refused r) (λ j. false) false (does-nothing τ (own-τ .eight) p r) (does-nothing σ (own-σ .eight) p r)
+        (λ j touch. contrary cc) refl refl
 
   free-moves : (addresses : List (List ℕ)) (τ σ : Tray) → Owns addresses τ → Owns addresses σ → Alike own other τ σ
       → (r : Rec) → classBy (trayAsked (length addresses)) (someSelected addresses) r ≡ k → Moves own other τ σ (freeTray τ r) (freeTray σ r)
@@ -296,15 +302,18 @@ module _ (addresses : List (List ℕ)) where
   labels-move : (τ σ : Tray) → Owns addresses τ → Owns addresses σ → Alike labelOf meterOf τ σ → (r : Rec) → class r ≡ labelling
       → Moves labelOf meterOf τ σ (freeTray τ r) (freeTray σ r)
   labels-move =
-      free-moves labelled labelOf meterOf (λ g. refl) (λ c x y. refl) (λ c x y. refl) (λ c x y. refl) labelling (λ e. contrary cc) (λ c x p t e. label-taken c x p t e) addresses
+      free-moves labelled labelOf meterOf (λ g. refl) (λ c x y. refl) (λ c x y. refl) (λ c x y. refl) labelling (λ e. contrary cc)
+      (λ c x p t e. label-taken c x p t e) addresses
 
   gauges-move : (τ σ : Tray) → Owns addresses τ → Owns addresses σ → Alike meterOf labelOf τ σ → (r : Rec) → class r ≡ gauging
       → Moves meterOf labelOf τ σ (freeTray τ r) (freeTray σ r)
   gauges-move =
-      free-moves metered meterOf labelOf (λ g. refl) (λ c x y. refl) (λ c x y. refl) (λ c x y. refl) gauging (λ e. contrary cc) (λ c x p t e. gauge-taken c x p t e) addresses
+      free-moves metered meterOf labelOf (λ g. refl) (λ c x y. refl) (λ c x y. refl) (λ c x y. refl) gauging (λ e. contrary cc)
+      (λ c x p t e. gauge-taken c x p t e) addresses
 
   -- what one side keeps, the other goes by
-  moved-alike : {A B : Type 0} {own : Gauge → A} {other : Gauge → B} {τ : Tray} {f : Did Tray} → Moves own other τ τ f f → Alike other own τ (f .state)
+  moved-alike : {A B : Type 0} {own : Gauge → A} {other : Gauge → B} {τ : Tray} {f : Did Tray} → Moves own other τ τ f f →
+      Alike other own τ (f .state)
   moved-alike m = record { count = m .count; pairs = λ j. record { common = m .commons j; part = m .rests j } }
 
   self : {A B : Type 0} (own : Gauge → A) (other : Gauge → B) (τ : Tray) → Alike own other τ τ
@@ -322,7 +331,8 @@ module _ (addresses : List (List ℕ)) where
         state =
             same-tray (trayStep (trayStep τ a) b) (trayStep (trayStep τ b) a) (g .eight) (l .eight)
             (g .count ∙ la .count ∙ sym (l .count ∙ gb .count))
-            (g .there ∙ ap (either (g .closes)) (l .here) ∙ swapped (g .closes) (l .closes) (τ .closed) ∙ sym (l .there ∙ ap (either (l .closes)) (g .here)))
+            (g .there ∙ ap (either (g .closes)) (l .here) ∙ swapped (g .closes) (l .closes) (τ .closed)
+            ∙ sym (l .there ∙ ap (either (l .closes)) (g .here)))
             (λ j i. record {
               common = (g .commons j ∙ la .commons j ∙ sym (l .commons j ∙ gb .commons j)) i;
               label = (g .rests j ∙ sym (l .parts j)) i;

@@ -22,7 +22,8 @@ use Rattle.runs.specs.Record.{whole, recsOf}
 use Rattle.runs.specs.AnyRecord.{answeredBy}
 use Rattle.runs.specs.SessionRecord.{loadedWith, lastTick, takenDid, didOf}
 use Rattle.tray_record.specs.declared.Tray.{Tray}
-use Rattle.tray_record.specs.Tray.{emptyTray, packOf, trayKindOf, aheadOf, againOf, slotTick, trayTold, Reach, one, trayReach, trayActed, trayReply, ofTray, trayDid}
+use Rattle.tray_record.specs.Tray.{emptyTray, packOf, trayKindOf, aheadOf, againOf, slotTick, trayTold, Reach}
+use Rattle.tray_record.specs.Tray.{one, trayReach, trayActed, trayReply, ofTray, trayDid}
 use Rattle.demands.specs.Call.{Call, Within}
 use Rattle.demands.specs.Longer.{formKind}
 use Rattle.demands.specs.Alone.{reachIn}
@@ -89,7 +90,8 @@ module _ (τ : Tray) (h : Eight τ) (i : ℕ) (f : Form) (p : List ℕ) (reach :
   Matched t = AsOld i (answeredBy ofTray τ p t) (takenDid (loadedWith (packOf τ i)) p t)
 
   acted-old : (t : Transaction) (r : Reach) → r ≡ one i
-      → (trayReply t (masterOf t p) r τ ≡ replyOf (packOf τ i) t (masterOf t p)) × (packOf (trayActed t (masterOf t p) r τ) i ≡ actOf (packOf τ i) t (masterOf t p))
+      → (trayReply t (masterOf t p) r τ ≡ replyOf (packOf τ i) t (masterOf t p))
+      × (packOf (trayActed t (masterOf t p) r τ) i ≡ actOf (packOf τ i) t (masterOf t p))
   acted-old t r e = rw e (refl, stored-here τ i (actOf (packOf τ i) t (masterOf t p)) h (omega (arith, there, h .few)))
 
   taken-matched : (t : Taken) → Asks τ (kind.Transaction f) p t → Matched t

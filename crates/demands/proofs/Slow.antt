@@ -61,9 +61,11 @@ unfolding sampledOf convertOf flowedOf
 untickedMeter m raw zero = refl
 untickedMeter m raw (suc n) = ap (λ (x : Meter). convertOf x raw) (untickedMeter m raw n)
 
-sampled-same : (g h : Gauge) (raw n : ℕ) → untickedGauge g ≡ untickedGauge h → untickedGauge (sampledGauge g raw n) ≡ untickedGauge (sampledGauge h raw n)
+sampled-same : (g h : Gauge) (raw n : ℕ) → untickedGauge g ≡ untickedGauge h →
+    untickedGauge (sampledGauge g raw n) ≡ untickedGauge (sampledGauge h raw n)
 sampled-same g h raw n e =
-    ap (withMeter g) (untickedMeter (g .meter) raw n) ∙ ap (λ (x : Gauge). sampledGauge x raw n) e ∙ sym (ap (withMeter h) (untickedMeter (h .meter) raw n))
+    ap (withMeter g) (untickedMeter (g .meter) raw n) ∙ ap (λ (x : Gauge). sampledGauge x raw n) e
+    ∙ sym (ap (withMeter h) (untickedMeter (h .meter) raw n))
 
 -- Samples
 

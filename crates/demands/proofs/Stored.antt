@@ -104,6 +104,7 @@ locked-one b bytes g (changed c) n l = locked-kept b bytes .change g c l
 locked-one b bytes g (transacted t master) n l = locked-kept b bytes .act g t master l
 
 -- NO BYTE CHANGES WHILE IT IS LOCKED, of any history after the image
-pub locked-lasts : (b : Memory) (bytes : List ℕ) (hs : List Happening) (g : Gauge) → Imageless hs → LockedWith b bytes g → LockedWith b bytes (lived g hs)
+pub locked-lasts : (b : Memory) (bytes : List ℕ) (hs : List Happening) (g : Gauge) → Imageless hs → LockedWith b bytes g →
+    LockedWith b bytes (lived g hs)
 locked-lasts b bytes [] g n l = l
 locked-lasts b bytes (h ∷ hs) g n l = locked-lasts b bytes hs (happened g h) (n .1) (locked-one b bytes g h (n .0) l)

@@ -60,7 +60,8 @@ opening-end τ room (x ∷ ps) rs o =
     ∙ opening-end (packJoined τ (imageOf (x .0) (x .1))) room ps rs (o .1)
 
 opening-got : (τ : Tray) (room : ℕ) (ps : List (Profile × List ℕ)) (rs : List Rec) → Opens τ ps
-    → zip (imageRecords ps ++ rs) (linesAfter trayDid τ room (imageRecords ps ++ rs)) ≡ map imageGot ps ++ zip rs (linesAfter trayDid (joinAll τ ps) room rs)
+    → zip (imageRecords ps ++ rs) (linesAfter trayDid τ room (imageRecords ps ++ rs))
+    ≡ map imageGot ps ++ zip rs (linesAfter trayDid (joinAll τ ps) room rs)
 unfolding zip zipWith
 opening-got τ room [] rs o = refl
 opening-got τ room (x ∷ ps) rs o =
@@ -111,11 +112,13 @@ joined-owns f addresses τ p h e =
         let here : j < τ .count = omega (arith, eqb-false j (τ .count) s) in
         h .owned j here ∙ sym (List·getD-append addresses (imageAddress p ∷ []) [] j (omega (arith, h .count)))
 
-opened-owns : (addresses : List (List ℕ)) (τ : Tray) (ps : List (Profile × List ℕ)) → Owns addresses τ → Opens τ ps → Owns (addresses ++ addressesOf ps) (joinAll τ ps)
+opened-owns : (addresses : List (List ℕ)) (τ : Tray) (ps : List (Profile × List ℕ)) → Owns addresses τ → Opens τ ps →
+    Owns (addresses ++ addressesOf ps) (joinAll τ ps)
 opened-owns addresses τ [] h o = rw (append-nil addresses) h
 opened-owns addresses τ (x ∷ ps) h o =
     subst (λ (l : List (List ℕ)). Owns l (joinAll τ (x ∷ ps))) (append-assoc addresses (imageAddress (x .1) ∷ []) (addressesOf ps))
-    (opened-owns (addresses ++ (imageAddress (x .1) ∷ [])) (packJoined τ (imageOf (x .0) (x .1))) ps (joined-owns (x .0) addresses τ (x .1) h (o .0)) (o .1))
+    (opened-owns (addresses ++ (imageAddress (x .1) ∷ [])) (packJoined τ (imageOf (x .0) (x .1))) ps
+    (joined-owns (x .0) addresses τ (x .1) h (o .0)) (o .1))
 
 -- One session
 
@@ -145,7 +148,8 @@ module _ (ps : List (Profile × List ℕ)) (o : Opens emptyTray ps) where
 pub tray-demand-3 : TrayDemand3
 tray-demand-3 ps xs ys a b m =
     let own = addressesOf ps in
-    let h = apart trayStep trayOut (trayClass own) (Owns own) (λ τ r u. step-owns own τ u r) (tray-swaps own) (m .mixed .sections) (start ps (m .opens)) (owns ps (m .opens)) in
+    let h = apart trayStep trayOut (trayClass own) (Owns own) (λ τ r u. step-owns own τ u r) (tray-swaps own) (m .mixed .sections) (start ps (m .opens))
+    (owns ps (m .opens)) in
     kept-apart trayDid emptyTray (openedAsked ps) (someSelected own) (map imageGot ps) (opening-fences own emptyTray ps (m .opens)) (m .mixed)
     (gets ps (m .opens) (m .mixed .one) (m .one)) (gets ps (m .opens) (m .mixed .other) (m .other)) (h .sections)
     (ends ps (m .opens) (m .mixed .one) (m .one) ∙ h .end ∙ sym (ends ps (m .opens) (m .mixed .other) (m .other)))

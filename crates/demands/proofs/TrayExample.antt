@@ -136,7 +136,8 @@ shorter = whole 8 [] ∷ whole 1 relabelled ∷ whole 8 first ∷ converting 1 �
 abbrev both-measuring : List Rec → List Rec
 both-measuring rs = rs ++ (measuring ∷ [])
 
-stops : (rs : List Rec) → length (packed rs) ≤ 256 → (n : ℕ) (c : Call Tray) → packed rs ≡ firstOf n (c .bytes) → c .room ≡ replicate 4 0 → c .answers ≡ replicate 64 0
+stops : (rs : List Rec) → length (packed rs) ≤ 256 → (n : ℕ) (c : Call Tray) → packed rs ≡ firstOf n (c .bytes) →
+    c .room ≡ replicate 4 0 → c .answers ≡ replicate 64 0
     → Stopped trayDid emptyTray n c (call rs)
 stops rs short n c bytes room answers = record { allowed = call-within rs short .allowed; bytes = bytes; room = sym room; answers = sym answers }
 
@@ -224,7 +225,8 @@ skip-changes = refl
 -- what the first of the two sessions that are mixed differently prints: the label of slot 0 is 3C 3C after its power-on and that of slot 1 5A A5, and
 -- the reply 18 24, the AND of both and neither of them
 pub tray-answers : trayLines (packed (opened ones)) 4
-    ≡ line 1 0 [] ∷ line 8 0 [] ∷ line 4 0 [] ∷ line 19 0 [] ∷ line 21 0 [] ∷ line 4 0 (0x18 ∷ 0x24 ∷ []) ∷ line 4 0 (0xfc ∷ 0x18 ∷ []) ∷ []
+    ≡ line 1 0 [] ∷ line 8 0 [] ∷ line 4 0 [] ∷ line 19 0 [] ∷ line 21 0 [] ∷ line 4 0 (0x18 ∷ 0x24 ∷ [])
+    ∷ line 4 0 (0xfc ∷ 0x18 ∷ []) ∷ []
 unfolding trayLines recOf sizeOf wholeOf trayDid trayKindOf searchOf matchedOf judgedAmong addressedOf orderedOf crc.bitOf crc.eightOf crc.nextOf
     imageOf poweredOf conversionOf convertOf flowedOf powerOnOf
     askedOf askedAt romBy commandOf selectedOf ownOf actOf ranOf writtenOf labelWrittenOf laidOf meterWrittenOf blockWrittenOf

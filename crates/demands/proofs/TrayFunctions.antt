@@ -11,7 +11,8 @@ use Rattle.tray_run.proofs.run
 use Rattle.tray_run.proofs.take_out
 use Rattle.demands.specs.Call.{Call, Allowed}
 
-module _ (κs : Lfts (run.ended .signature .lifetimes)) (a : Args (run.ended .signature) κs) (r : Res (run.ended .signature) κs) (w : Lasts run.ended κs a) where
+module _ (κs : Lfts (run.ended .signature .lifetimes)) (a : Args (run.ended .signature) κs) (r : Res (run.ended .signature) κs)
+    (w : Lasts run.ended κs a) where
   abbrev pub trayCallOf : Call Tray
   trayCallOf = record {
     bytes = now (a .0);

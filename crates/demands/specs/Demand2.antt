@@ -81,7 +81,8 @@ pub record Declined (f : Profile) (e : Call Session) : Type 0 where
   pub state : e .ran .state ≡ emptyOf
 
 -- "a power-on .. there": the same records with a power-on at their end, which leaves the gauge h
-pub record PoweredOn {S : Type 0} (did : S → ℕ → Rec → Did S) (start : S) (powerOn : Rec) (Leaves : S → Gauge → Type 0) (d : Call S) (h : Gauge) : Type 0 where
+pub record PoweredOn {S : Type 0} (did : S → ℕ → Rec → Did S) (start : S) (powerOn : Rec) (Leaves : S → Gauge → Type 0) (d : Call S)
+    (h : Gauge) : Type 0 where
   pub longer : Call S
   pub run : Within did start longer
   pub room : longer .room ≡ d .room
@@ -135,4 +136,5 @@ pub record Demand2 : Type 0 where
 pub record TrayDemand2 : Type 0 where
   pub events : AfterEach trayDid emptyTray
   pub images : (d : Call Tray) (i : ℕ) (room : List ℕ) (answer : ℕ) (after : List ℕ) → SlotCarried d i room answer after
-      → (answer ≡ 0) × ((e : Call Session) → Fresh (profileOf (packOf (d .ran .state) i)) after e → ReadBack (packOf (d .ran .state) i) (SlotPowersOn i d) e)
+      → (answer ≡ 0) × ((e : Call Session) → Fresh (profileOf (packOf (d .ran .state) i)) after e →
+      ReadBack (packOf (d .ran .state) i) (SlotPowersOn i d) e)

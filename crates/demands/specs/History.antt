@@ -121,4 +121,5 @@ module _ {S : Type 0} (did : S → ℕ → Rec → Did S) (start : S) (pack : Pa
 
   -- ---- and this is what the pack goes through: of the run b, stopped earlier, as a, after n records
   abbrev pub HistoryHolds : Type 0
-  HistoryHolds = (n : ℕ) (a b : Call S) → Within did start b → Stopped did start n b a → leftBy pack b ≡ lived (leftBy pack a) (heardSince pack did n a b)
+  HistoryHolds =
+      (n : ℕ) (a b : Call S) → Within did start b → Stopped did start n b a → leftBy pack b ≡ lived (leftBy pack a) (heardSince pack did n a b)

@@ -59,7 +59,8 @@ pub record OneAnswer {S : Type 0} (did : S → ℕ → Rec → Did S) : Type 0 w
   pub records : (f g : Form) (count : ℕ) (master : List ℕ) → AllowedIn f count master → AllowedIn g count master
       → (σ : S) (room : ℕ) → did σ room (recordIn f count master) ≡ did σ room (recordIn g count master)
   -- and so of all records of a run
-  pub lines : (σ : S) (room : ℕ) (rs ss : List Rec) → Reformed rs ss → map answered (linesAfter did σ room rs) ≡ map answered (linesAfter did σ room ss)
+  pub lines : (σ : S) (room : ℕ) (rs ss : List Rec) → Reformed rs ss →
+      map answered (linesAfter did σ room rs) ≡ map answered (linesAfter did σ room ss)
   pub ends : (σ : S) (room : ℕ) (rs ss : List Rec) → Reformed rs ss → endAfter did σ room rs ≡ endAfter did σ room ss
 
 -- ---- "All three classes apply to kind 7"

@@ -29,7 +29,8 @@ pub record AsOld (i : ℕ) (d : Did Tray) (f : Did Session) : Type 0 where
 
 -- in the state that any run leaves, with any room: an event of a slot that has a pack, and a transaction that the search matches to a slot
 pub record SlotsAsOld : Type 0 where
-  pub events : (c : Call Tray) → Within trayDid emptyTray c → (i : ℕ) → i < c .ran .state .count → (n m : ℕ) → Stands n m → (room : ℕ) (p : List ℕ)
+  pub events : (c : Call Tray) → Within trayDid emptyTray c → (i : ℕ) → i < c .ran .state .count → (n m : ℕ) → Stands n m →
+      (room : ℕ) (p : List ℕ)
       → AsOld i (trayDid (c .ran .state) room (whole n (i ∷ p))) (didOf (loadedWith (packOf (c .ran .state) i)) room (whole m p))
   pub matched : (c : Call Tray) → Within trayDid emptyTray c → (i room : ℕ) (f : Form) (p : List ℕ) → reachIn (c .ran .state) f p ≡ one i
       → AsOld i (trayDid (c .ran .state) room (whole (formKind f) p)) (didOf (loadedWith (packOf (c .ran .state) i)) room (whole (formKind f) p))

@@ -112,4 +112,5 @@ module _ {S : Type 0} (did : S → ℕ → Rec → Did S) (start : S) (pack : Pa
     pub tries : Transaction
     pub master : List ℕ
     pub since : heardSince pack did taken first second ≡ transacted tries master ∷ []
-    pub copies : (selectedOf (leftBy pack first .common .address) tries master ≡ true) × (isCopy (tries .command) ≡ true) × (hasAddress block (tries .address) ≡ true)
+    pub copies : (selectedOf (leftBy pack first .common .address) tries master ≡ true) × (isCopy (tries .command) ≡ true)
+        × (hasAddress block (tries .address) ≡ true)

@@ -51,7 +51,8 @@ hex-append letter [] ys = refl
 hex-append letter (x ∷ xs) ys = ap (λ (r : List ℕ). pairText letter x ++ r) (hex-append letter xs ys)
 
 -- one byte more
-pub hex-more : (letter : ℕ) (s : List ℕ) (i : ℕ) → i < length s → hexText letter (take i s) ++ pairText letter (getD s i 0) ≡ hexText letter (take (i + 1) s)
+pub hex-more : (letter : ℕ) (s : List ℕ) (i : ℕ) → i < length s →
+    hexText letter (take i s) ++ pairText letter (getD s i 0) ≡ hexText letter (take (i + 1) s)
 hex-more letter s i h = sym (rw (add-one, take-suc s i 0) (hex-append letter (take i s) (getD s i 0 ∷ [])))
 
 -- the bytes so far stand in hex, and one byte more behind them
@@ -90,7 +91,8 @@ module _ (n : ℕ) {p : Twos} (e : p ≡ packedOf n) where
   last = ap (λ (x : Twos). x .low) e
 
   -- each byte of the packed digits is one of them
-  pub packed-bytes : (p .high % 256 ≡ digitOf (n / 1000)) × (p .high / 256 ≡ digitOf (n / 100)) × (p .low % 256 ≡ digitOf (n / 10)) × (p .low / 256 ≡ digitOf n)
+  pub packed-bytes : (p .high % 256 ≡ digitOf (n / 1000)) × (p .high / 256 ≡ digitOf (n / 100)) × (p .low % 256 ≡ digitOf (n / 10))
+      × (p .low / 256 ≡ digitOf n)
   packed-bytes = (rw (thousands n) (omega (arith, first)), omega (arith, first), omega (arith, last), omega (arith, last))
 
   -- the last digit alone changes
@@ -150,4 +152,10 @@ three n h =
     let ones = digitOf n ∷ [] in
     let tens = placeText 10 n ++ ones in
     rw (left-out n 10000 (omega arith), left-out n 1000 h)
-    (omega (arith, length-append (placeText 100 n) tens, length-append (placeText 10 n) ones, shown-few 100 n (digitOf (n / 100)), shown-few 10 n (digitOf (n / 10))))
+    (omega (
+      arith,
+      length-append (placeText 100 n) tens,
+      length-append (placeText 10 n) ones,
+      shown-few 100 n (digitOf (n / 100)),
+      shown-few 10 n (digitOf (n / 10)),
+    ))

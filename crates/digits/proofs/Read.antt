@@ -27,7 +27,10 @@ module _ (letter c : ℕ) where
   ranges e =
       ⊎-elim
       (λ s. inl (leb-true 48 c (both-true (leb 48 c) (ltb c 58) s .0), ltb-true c 58 (both-true (leb 48 c) (ltb c 58) s .1)))
-      (λ t. inr (leb-true letter c (both-true (leb letter c) (ltb c (letter + 6)) t .0), ltb-true c (letter + 6) (both-true (leb letter c) (ltb c (letter + 6)) t .1)))
+      (λ t. inr (
+        leb-true letter c (both-true (leb letter c) (ltb c (letter + 6)) t .0),
+        ltb-true c (letter + 6) (both-true (leb letter c) (ltb c (letter + 6)) t .1),
+      ))
       (either-true (both (leb 48 c) (ltb c 58)) (both (leb letter c) (ltb c (letter + 6))) e)
 
   module _ (digit : hexDigit letter c ≡ true) (above : 58 ≤ letter) where
@@ -166,5 +169,6 @@ byte-there letter (a ∷ b ∷ cs) (suc k) h =
 
 -- ---- all are digits, from a place on
 
-pub digits-more : (letter : ℕ) (s : List ℕ) (i : ℕ) → i < length s → both (hexDigit letter (getD s i 0)) (hexDigits letter (drop (i + 1) s)) ≡ hexDigits letter (drop i s)
+pub digits-more : (letter : ℕ) (s : List ℕ) (i : ℕ) → i < length s →
+    both (hexDigit letter (getD s i 0)) (hexDigits letter (drop (i + 1) s)) ≡ hexDigits letter (drop i s)
 digits-more letter s i h = rw (add-one, drop-cons s i 0) refl

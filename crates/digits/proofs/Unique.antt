@@ -26,7 +26,8 @@ pub lower-pairs-once : Once lower_pairs.ended lower_pairs.Reads.Pre lower_pairs.
 lower-pairs-once κs a r r′ w w′ p h h′ = (h ∙ sym h′, refl)
 
 pub put-entry-once : Once put_entry.ended put_entry.Reads.Pre put_entry.Reads.Learnt
-put-entry-once κs a r r′ w w′ p h h′ = (h .0 .onward ∙ sym (h′ .0 .onward), λ i. (tt, (tt, ((h .0 .written ∙ sym (h′ .0 .written)) i, (tt, tt)))))
+put-entry-once κs a r r′ w w′ p h h′ =
+    (h .0 .onward ∙ sym (h′ .0 .onward), λ i. (tt, (tt, ((h .0 .written ∙ sym (h′ .0 .written)) i, (tt, tt)))))
 
 pub hex-once : Once hex.ended hex.Reads.Pre hex.Reads.Learnt
 hex-once κs a r r′ w w′ p h h′ = (h ∙ sym h′, refl)

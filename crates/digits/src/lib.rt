@@ -3,7 +3,8 @@ ghost use mathlib.Core.Path.{_≡_};
 ghost use mathlib.Core.List.{[], _∷_};
 ghost use Prim.Native.Nat.{_+_, _*_, _≤_, _<_};
 ghost use lib.ListN.{length};
-ghost use Rattle.digits.specs.Digits.{hexOf, lower, upper, pairText, hexText, pairsOf, entryText, hexDigit, hexValue, pairValue, hexDigits, placesOf, packedPair, packedOf, decimalText, Writing};
+ghost use Rattle.digits.specs.Digits.{hexOf, lower, upper, pairText, hexText, pairsOf, entryText, hexDigit, hexValue, pairValue};
+ghost use Rattle.digits.specs.Digits.{hexDigits, placesOf, packedPair, packedOf, decimalText, Writing};
 
 // ---- bytes
 
@@ -29,7 +30,11 @@ pub fn put_bytes(bytes: &[u8], out: &mut [u8], at: usize) -> usize
 pub fn lower_pairs() -> [u8; 512]
     ensures { λ r. ⌜ r ≡ pairsOf lower ⌝ }
 {
-    *b"000102030405060708090a0b0c0d0e0f101112131415161718191a1b1c1d1e1f202122232425262728292a2b2c2d2e2f303132333435363738393a3b3c3d3e3f404142434445464748494a4b4c4d4e4f505152535455565758595a5b5c5d5e5f606162636465666768696a6b6c6d6e6f707172737475767778797a7b7c7d7e7f808182838485868788898a8b8c8d8e8f909192939495969798999a9b9c9d9e9fa0a1a2a3a4a5a6a7a8a9aaabacadaeafb0b1b2b3b4b5b6b7b8b9babbbcbdbebfc0c1c2c3c4c5c6c7c8c9cacbcccdcecfd0d1d2d3d4d5d6d7d8d9dadbdcdddedfe0e1e2e3e4e5e6e7e8e9eaebecedeeeff0f1f2f3f4f5f6f7f8f9fafbfcfdfeff"
+    *b"000102030405060708090a0b0c0d0e0f101112131415161718191a1b1c1d1e1f202122232425262728292a2b2c2d2e2f303132333435363738393a3b\
+      3c3d3e3f404142434445464748494a4b4c4d4e4f505152535455565758595a5b5c5d5e5f606162636465666768696a6b6c6d6e6f7071727374757677\
+      78797a7b7c7d7e7f808182838485868788898a8b8c8d8e8f909192939495969798999a9b9c9d9e9fa0a1a2a3a4a5a6a7a8a9aaabacadaeafb0b1b2b3\
+      b4b5b6b7b8b9babbbcbdbebfc0c1c2c3c4c5c6c7c8c9cacbcccdcecfd0d1d2d3d4d5d6d7d8d9dadbdcdddedfe0e1e2e3e4e5e6e7e8e9eaebecedeeef\
+      f0f1f2f3f4f5f6f7f8f9fafbfcfdfeff"
 }
 
 // A byte as the two digits that a table has for it. That it is below 256 is said too, for the table's rule.

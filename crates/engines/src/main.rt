@@ -99,7 +99,8 @@ fn put_compared(bytes: &[u8], room: &mut [u8]) -> Said
 
 // What the program says. A byte more than an input may have is enough to know of any. (That the room keeps its length is said for `main`.)
 fn compared(input: &[u8; 32775], got: Input, room: &mut [u8; 258]) -> Said
-    ensures { λ r. ⌜ ((s : List ℕ) → Front s (now (input .entry)) (got .count) → Saying (comparedOf (got .failed) s) (now (room .entry)) r (now (room .exit))) ⌝ }
+    ensures { λ r. ⌜ ((s : List ℕ) → Front s (now (input .entry)) (got .count) →
+        Saying (comparedOf (got .failed) s) (now (room .entry)) r (now (room .exit))) ⌝ }
     ensures { λ _. ⌜ 258 ≡ length (now (room .exit)) ⌝ }
 {
     if got.failed {

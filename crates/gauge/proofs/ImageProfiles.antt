@@ -41,7 +41,15 @@ module _ (p cell : List ℕ) (size : length p ≡ imageSize) where
   image-base : (f : Profile) → baseOf (imageOf f (p ++ cell)) ≡ imageOf Ds2781 p
   unfolding imageOf poweredOf
   image-base f =
-      rw (part-front 8 0 (omega arith), part-front 16 8 (omega arith), part-front 32 24 (omega arith), byte-front 56 (omega arith), byte-front 57 (omega arith), byte-front 58 (omega arith), byte-front 59 (omega arith)) refl
+      rw (
+        part-front 8 0 (omega arith),
+        part-front 16 8 (omega arith),
+        part-front 32 24 (omega arith),
+        byte-front 56 (omega arith),
+        byte-front 57 (omega arith),
+        byte-front 58 (omega arith),
+        byte-front 59 (omega arith),
+      ) refl
 
 -- ---- a pack without a counter
 

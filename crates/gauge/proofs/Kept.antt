@@ -18,8 +18,10 @@ use Rattle.samples.specs.Samples.{sampledOf, tickedOf, sampleOf}
 use Rattle.state.specs.declared.Common.{Common}
 use Rattle.state.specs.declared.Label.{Label}
 use Rattle.label.specs.Label.{inLabel, inBlock, commonLockedOf}
-use Rattle.label.proofs.Kept.{label-written-sized, label-written-eeprom, label-copied-sized, label-copied-locked, label-copied-elsewhere, label-recalled-sized, label-recalled-eeprom, label-recalled-elsewhere, common-locked-elsewhere}
-use Rattle.block1.proofs.Kept.{written-sized, written-eeprom, copied-sized, copied-locked, copied-elsewhere, recalled-sized, recalled-eeprom, recalled-elsewhere, locked-elsewhere, cycles-uncounted}
+use Rattle.label.proofs.Kept.{label-written-sized, label-written-eeprom, label-copied-sized, label-copied-locked, label-copied-elsewhere}
+use Rattle.label.proofs.Kept.{label-recalled-sized, label-recalled-eeprom, label-recalled-elsewhere, common-locked-elsewhere}
+use Rattle.block1.proofs.Kept.{written-sized, written-eeprom, copied-sized, copied-locked, copied-elsewhere, recalled-sized}
+use Rattle.block1.proofs.Kept.{recalled-eeprom, recalled-elsewhere, locked-elsewhere, cycles-uncounted}
 use Rattle.bus.specs.declared.Command.{Command}
 use Rattle.bus.specs.declared.Command.the-variants.{Read, Write, Copy, Recall, Lock, Nothing}
 use Rattle.bus.specs.declared.Transaction.{Transaction}
@@ -94,7 +96,8 @@ saved-untouched g t master =
 
 -- profile and address never change: what holds of them is kept
 pub address-kept : (P : Profile → List ℕ → Type 0) → Kept (λ g. P (g .meter .cells .profile) (g .common .address))
-unfolding conversionOf readingOf powerOnOf convertOf flowedOf readOf resultsShown poweredOf writtenOf copiedOf recalledOf lockedOf commonLockedOf meterWrittenOf meterCopiedOf meterRecalledOf meterLockedOf
+unfolding conversionOf readingOf powerOnOf convertOf flowedOf readOf resultsShown poweredOf writtenOf copiedOf recalledOf lockedOf commonLockedOf
+    meterWrittenOf meterCopiedOf meterRecalledOf meterLockedOf
 address-kept P = record {
   change = changed _ (record { conversion = λ g raw p. p; tick = λ g tick p. p; reading = λ g volt temp p. p; power-on = λ g p. p });
   act = acted _ (record { written = λ g a bytes p. p; copied = λ g a p. p; recalled = λ g a p. p; locked = λ g a p. p });
@@ -107,7 +110,8 @@ none-saved s false g cycles now then = then
 
 -- without a cycle counter none is counted, and so none is saved
 pub uncounted-kept : Kept Uncounted
-unfolding conversionOf readingOf powerOnOf convertOf flowedOf cycledOf readOf resultsShown poweredOf writtenOf copiedOf recalledOf lockedOf meterWrittenOf meterCopiedOf meterRecalledOf meterLockedOf
+unfolding conversionOf readingOf powerOnOf convertOf flowedOf cycledOf readOf resultsShown poweredOf writtenOf copiedOf recalledOf lockedOf meterWrittenOf
+    meterCopiedOf meterRecalledOf meterLockedOf
 uncounted-kept = record {
   change = changed Uncounted (record {
     conversion = λ g raw h e. record { count = rw e (h e .count); rest = rw e (h e .rest); saved = h e .saved };
@@ -140,7 +144,8 @@ locked-label-eeprom bytes = record {
 
 -- a locked block 1 stays locked, and its EEPROM never changes
 pub locked-block-eeprom : (bytes : List ℕ) → Kept (λ g. (g .meter .cells .locks .bl1 ≡ true) × (g .meter .cells .block .eeprom ≡ bytes))
-unfolding conversionOf readingOf powerOnOf convertOf flowedOf readOf resultsShown poweredOf writtenOf copiedOf recalledOf lockedOf meterWrittenOf meterCopiedOf meterRecalledOf meterLockedOf
+unfolding conversionOf readingOf powerOnOf convertOf flowedOf readOf resultsShown poweredOf writtenOf copiedOf recalledOf lockedOf meterWrittenOf
+    meterCopiedOf meterRecalledOf meterLockedOf
 locked-block-eeprom bytes = record {
   change = changed _ (record { conversion = λ g raw p. p; tick = λ g tick p. p; reading = λ g volt temp p. p; power-on = λ g p. p });
   act = acted _ (record {
@@ -153,7 +158,8 @@ locked-block-eeprom bytes = record {
 
 -- the arrays keep their sizes
 pub sized-kept : Kept Sized
-unfolding conversionOf readingOf powerOnOf convertOf flowedOf readOf resultsShown poweredOf writtenOf copiedOf recalledOf lockedOf commonLockedOf meterWrittenOf meterCopiedOf meterRecalledOf meterLockedOf
+unfolding conversionOf readingOf powerOnOf convertOf flowedOf readOf resultsShown poweredOf writtenOf copiedOf recalledOf lockedOf commonLockedOf
+    meterWrittenOf meterCopiedOf meterRecalledOf meterLockedOf
 sized-kept = record {
   change = changed Sized (record {
     conversion = λ g raw z. record { address = z .address; label = z .label; block = z .block };

@@ -108,7 +108,8 @@ module _ (l : List ℕ) where
   pub formed-short : length l < 12 → false ≡ formedOf l
   unfolding formedOf
   formed-short h =
-      let few : eqb (length (digitsIn l)) (2 * (lengthIn l + 5)) ≡ false = ne-eqb (length (digitsIn l)) (2 * (lengthIn l + 5)) (λ e. omega (arith, digits-length)) in
+      let few : eqb (length (digitsIn l)) (2 * (lengthIn l + 5))
+      ≡ false = ne-eqb (length (digitsIn l)) (2 * (lengthIn l + 5)) (λ e. omega (arith, digits-length)) in
       rw (few, both-false (hexDigits upper (digitsIn l)), both-false (both (eqb (getD l 0 0) colon) (eqb (getD l (length l - 1) 0) lineFeed))) refl
 
   -- as the code asks it

@@ -22,7 +22,8 @@ use Rattle.hex.proofs.OneLine.{good-long}
 use Rattle.hex.specs.declared.HexRefusal.the-variants as why
 use Rattle.hex.specs.declared.Answer.{Answer}
 use Rattle.hex.specs.declared.Answer.the-variants.{Done, Refused}
-use Rattle.hex.specs.Import.{aheadOfLines, textLines, Cut, afterLine, linesAnswer, countOf, onceOf, lastAddress, wholeText, dataAt, importSize, afterLines, importAnswer}
+use Rattle.hex.specs.Import.{aheadOfLines, textLines, Cut, afterLine, linesAnswer, countOf, onceOf}
+use Rattle.hex.specs.Import.{lastAddress, wholeText, dataAt, importSize, afterLines, importAnswer}
 
 -- ---- bytes in front of the first line
 
@@ -109,20 +110,24 @@ module _ {text : List ℕ} {at end : ℕ} (cut : Cut text at end) where
   pub answer-good : checkedLineOf (part (end - at) text at) ≡ Good → linesAnswer (textLines (drop at text)) ≡ linesAnswer (textLines (drop end text))
   answer-good good = ap linesAnswer (cut .lines) ∙ rw good refl
 
-  pub answer-bad : {fault : Fault} → checkedLineOf (part (end - at) text at) ≡ Bad fault → linesAnswer (textLines (drop at text)) ≡ Refused (why.Line fault)
+  pub answer-bad : {fault : Fault} → checkedLineOf (part (end - at) text at) ≡ Bad fault →
+      linesAnswer (textLines (drop at text)) ≡ Refused (why.Line fault)
   answer-bad bad = ap linesAnswer (cut .lines) ∙ rw bad refl
 
   module _ (address : ℕ) where
-    pub count-more : countOf address (textLines (drop at text)) ≡ pick (eqb (addressIn (part (end - at) text at)) address) 1 0 + countOf address (textLines (drop end text))
+    pub count-more : countOf address (textLines (drop at text))
+        ≡ pick (eqb (addressIn (part (end - at) text at)) address) 1 0 + countOf address (textLines (drop end text))
     count-more = ap (countOf address) (cut .lines)
 
     pub last-more : lastAddress address (textLines (drop at text)) ≡ lastAddress (addressIn (part (end - at) text at)) (textLines (drop end text))
     last-more = ap (lastAddress address) (cut .lines)
 
-    pub data-here : eqb (addressIn (part (end - at) text at)) address ≡ true → dataAt address (textLines (drop at text)) ≡ dataIn (part (end - at) text at)
+    pub data-here : eqb (addressIn (part (end - at) text at)) address ≡ true →
+        dataAt address (textLines (drop at text)) ≡ dataIn (part (end - at) text at)
     data-here same = ap (dataAt address) (cut .lines) ∙ rw same refl
 
-    pub data-later : eqb (addressIn (part (end - at) text at)) address ≡ false → dataAt address (textLines (drop at text)) ≡ dataAt address (textLines (drop end text))
+    pub data-later : eqb (addressIn (part (end - at) text at)) address ≡ false →
+        dataAt address (textLines (drop at text)) ≡ dataAt address (textLines (drop end text))
     data-later other = ap (dataAt address) (cut .lines) ∙ rw other refl
 
 -- ---- where no line is bad, the data at an address that is there once are 16 bytes
@@ -131,20 +136,25 @@ after-done : (x : CheckedLine) (y : Answer) → afterLine x y ≡ Done → (x �
 after-done Good y e = (refl, e)
 after-done (Bad fault) y e = let z : _≡_ {A = ℕ} 0 1 = cc in absurd (omega arith)
 
-pub data-sized : (address : ℕ) (ls : List (List ℕ)) → (address ≡ 0 → ⊥) → linesAnswer ls ≡ Done → countOf address ls ≡ 1 → length (dataAt address ls) ≡ 16
+pub data-sized : (address : ℕ) (ls : List (List ℕ)) → (address ≡ 0 → ⊥) → linesAnswer ls ≡ Done → countOf address ls ≡ 1 →
+    length (dataAt address ls) ≡ 16
 data-sized address [] some good once = absurd (omega arith)
-data-sized address (l ∷ ls) some good once = by (eqb (addressIn l) address) refl (data-sized address ls some (after-done (checkedLineOf l) (linesAnswer ls) good .1))
+data-sized address (l ∷ ls) some good once =
+    by (eqb (addressIn l) address) refl (data-sized address ls some (after-done (checkedLineOf l) (linesAnswer ls) good .1))
   where
-    by : (b : Bool) → eqb (addressIn l) address ≡ b → (countOf address ls ≡ 1 → length (dataAt address ls) ≡ 16) → length (dataAt address (l ∷ ls)) ≡ 16
+    by : (b : Bool) → eqb (addressIn l) address ≡ b → (countOf address ls ≡ 1 → length (dataAt address ls) ≡ 16) →
+        length (dataAt address (l ∷ ls)) ≡ 16
     by true e later =
-        let long : length (bytesIn l) ≡ 21 = good-long l (after-done (checkedLineOf l) (linesAnswer ls) good .0) (λ z. some (sym (eqb-true (addressIn l) address e) ∙ z)) in
+        let long : length (bytesIn l)
+        ≡ 21 = good-long l (after-done (checkedLineOf l) (linesAnswer ls) good .0) (λ z. some (sym (eqb-true (addressIn l) address e) ∙ z)) in
         rw e (data-length l (omega arith))
     by false e later = rw e (later (omega (arith, rw e at once)))
 
 -- ---- what `Done` tells
 
 module _ (ls : List (List ℕ)) (room : ℕ) where
-  answered : (x : Answer) (b c : Bool) → afterLines x (pick b (pick c (Refused why.Room) Done) (Refused why.Whole)) ≡ Done → (x ≡ Done) × (b ≡ true) × (c ≡ false)
+  answered : (x : Answer) (b c : Bool) → afterLines x (pick b (pick c (Refused why.Room) Done) (Refused why.Whole)) ≡ Done →
+      (x ≡ Done) × (b ≡ true) × (c ≡ false)
   answered Done true true e = let z : _≡_ {A = ℕ} 0 1 = cc in absurd (omega arith)
   answered Done true false e = (refl, refl, refl)
   answered Done false c e = let z : _≡_ {A = ℕ} 0 1 = cc in absurd (omega arith)
@@ -169,8 +179,11 @@ module _ (ls : List (List ℕ)) (room : ℕ) where
         (eqb-true (countOf 0x20 ls) 1 (first .0), eqb-true (countOf 0x60 ls) 1 (other .0), eqb-true (countOf 0x70 ls) 1 (other .1))
 
     pub import-sized : (length (dataAt 0x20 ls) ≡ 16) × (length (dataAt 0x60 ls) ≡ 16) × (length (dataAt 0x70 ls) ≡ 16)
-    import-sized =
-        (data-sized 0x20 ls (λ e. omega arith) (tests .0) (counts .0), data-sized 0x60 ls (λ e. omega arith) (tests .0) (counts .1), data-sized 0x70 ls (λ e. omega arith) (tests .0) (counts .2))
+    import-sized = (
+      data-sized 0x20 ls (λ e. omega arith) (tests .0) (counts .0),
+      data-sized 0x60 ls (λ e. omega arith) (tests .0) (counts .1),
+      data-sized 0x70 ls (λ e. omega arith) (tests .0) (counts .2),
+    )
 
 -- three parts of 16 bytes, one behind the other, at the front of a room
 pub three-put : (a b c room : List ℕ) → length a ≡ 16 → length b ≡ 16 → length c ≡ 16 → importSize ≤ length room

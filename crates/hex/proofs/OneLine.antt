@@ -15,7 +15,8 @@ use Rattle.slices.specs.Slices.{part}
 use Rattle.digits.specs.Digits.{hexOf, upper, hexText, hexDigit, hexValue, hexBytes, hexDigits}
 use Rattle.digits.proofs.Read.{either-true, Bytes, hex-length, bytes-back, digits-written, digits-back, bytes-small}
 use Rattle.hex.specs.declared.CheckedLine.the-variants.{Good}
-use Rattle.hex.specs.Line.{colon, lineFeed, hexLineText, byteSum, checksumOf, contentOf, hexRecord, dataRecord, endRecord, digitsIn, bytesIn, lengthIn, addressIn, typeIn, dataIn, formedOf, sumsToZero, placedOf, headedOf, expectedOf, checkedLineOf}
+use Rattle.hex.specs.Line.{colon, lineFeed, hexLineText, byteSum, checksumOf, contentOf, hexRecord, dataRecord, endRecord, digitsIn, bytesIn}
+use Rattle.hex.specs.Line.{lengthIn, addressIn, typeIn, dataIn, formedOf, sumsToZero, placedOf, headedOf, expectedOf, checkedLineOf}
 use Rattle.hex.proofs.Laws.{digits-length, bytes-in-length, formed-long}
 
 -- ---- of any bytes
@@ -40,7 +41,13 @@ module _ (bytes : List ℕ) where
     unfolding formedOf
     formed-line counted =
         let all : length (hexText upper bytes) ≡ 2 * (getD bytes 0 0 + 5) = omega (arith, hex-length upper bytes) in
-        rw (last-in, digits-in, bytes-back upper (omega arith) bytes small, digits-written upper (omega arith) bytes small, eq-eqb (length (hexText upper bytes)) (2 * (getD bytes 0 0 + 5)) all) refl
+        rw (
+          last-in,
+          digits-in,
+          bytes-back upper (omega arith) bytes small,
+          digits-written upper (omega arith) bytes small,
+          eq-eqb (length (hexText upper bytes)) (2 * (getD bytes 0 0 + 5)) all,
+        ) refl
 
 -- ---- a line that passes 40 is the line of its bytes
 
@@ -62,7 +69,8 @@ module _ (l : List ℕ) (formed : formedOf l ≡ true) where
   formed-count = bytes-in-length l ∙ omega (arith, long)
 
   -- colon, digits and line feed are all of it
-  cut : (m : List ℕ) → length m ≡ length l → getD m 0 0 ≡ colon → getD m (length l - 1) 0 ≡ lineFeed → colon ∷ (part (length l - 2) m 1 ++ (lineFeed ∷ [])) ≡ m
+  cut : (m : List ℕ) → length m ≡ length l → getD m 0 0 ≡ colon → getD m (length l - 1) 0 ≡ lineFeed →
+      colon ∷ (part (length l - 2) m 1 ++ (lineFeed ∷ [])) ≡ m
   cut [] same first last = absurd (omega (arith, long))
   cut (c ∷ rest) same first last =
       let n = length l - 2 in
@@ -123,10 +131,12 @@ record-whole (a ∷ b ∷ c ∷ d ∷ rest) small counted summed =
     rw (some, high, low, sum) (ap (λ (xs : List ℕ). a ∷ b ∷ c ∷ d ∷ xs) split)
 
 -- a line that passes 40 and 41 is the line of the record that it says it is
-pub record-is : (l : List ℕ) → formedOf l ≡ true → sumsToZero l ≡ true → hexLineText (hexRecord (addressIn l) (typeIn l) (part (lengthIn l) (bytesIn l) 4)) ≡ l
+pub record-is : (l : List ℕ) → formedOf l ≡ true → sumsToZero l ≡ true →
+    hexLineText (hexRecord (addressIn l) (typeIn l) (part (lengthIn l) (bytesIn l) 4)) ≡ l
 unfolding sumsToZero
 record-is l formed summed =
-    ap hexLineText (record-whole (bytesIn l) (bytes-small upper (omega arith) (digitsIn l)) (formed-count l formed) (eqb-true (byteSum (bytesIn l) % 256) 0 summed))
+    ap hexLineText (record-whole (bytesIn l) (bytes-small upper (omega arith) (digitsIn l)) (formed-count l formed)
+    (eqb-true (byteSum (bytesIn l) % 256) 0 summed))
     ∙ formed-is l formed
 
 module _ (address kind : ℕ) (bytes : List ℕ) (near : address < 65536) (known : kind < 256) (few : length bytes < 256) (small : Bytes bytes) where
@@ -141,7 +151,9 @@ module _ (address kind : ℕ) (bytes : List ℕ) (near : address < 65536) (known
   sum-small = omega arith
 
   record-bytes : Bytes (hexRecord address kind bytes)
-  record-bytes = bytes-append (contentOf address kind bytes) (checksumOf (contentOf address kind bytes) ∷ []) content-bytes (one-byte (checksumOf (contentOf address kind bytes)) sum-small)
+  record-bytes =
+      bytes-append (contentOf address kind bytes) (checksumOf (contentOf address kind bytes) ∷ []) content-bytes
+      (one-byte (checksumOf (contentOf address kind bytes)) sum-small)
 
   pub record-in : bytesIn (hexLineText (hexRecord address kind bytes)) ≡ hexRecord address kind bytes
   record-in = bytes-in (hexRecord address kind bytes) record-bytes
@@ -150,7 +162,8 @@ module _ (address kind : ℕ) (bytes : List ℕ) (near : address < 65536) (known
   record-address = rw record-in (omega arith)
 
   pub record-formed : formedOf (hexLineText (hexRecord address kind bytes)) ≡ true
-  record-formed = formed-line (hexRecord address kind bytes) record-bytes (omega (arith, length-append bytes (checksumOf (contentOf address kind bytes) ∷ [])))
+  record-formed =
+      formed-line (hexRecord address kind bytes) record-bytes (omega (arith, length-append bytes (checksumOf (contentOf address kind bytes) ∷ [])))
 
   pub record-summed : sumsToZero (hexLineText (hexRecord address kind bytes)) ≡ true
   unfolding sumsToZero
@@ -175,7 +188,14 @@ module _ (address : ℕ) (bytes : List ℕ) (near : address < 65536) (sized : le
   data-good placed =
       let count : lengthIn (hexLineText (dataRecord address bytes)) ≡ 16 = rw (record-in address 0 bytes near (omega arith) few small) sized in
       let type : typeIn (hexLineText (dataRecord address bytes)) ≡ 0 = rw (record-in address 0 bytes near (omega arith) few small) refl in
-      rw (record-formed address 0 bytes near (omega arith) few small, record-summed address 0 bytes near (omega arith) few small, count, type, data-address, placed) refl
+      rw (
+        record-formed address 0 bytes near (omega arith) few small,
+        record-summed address 0 bytes near (omega arith) few small,
+        count,
+        type,
+        data-address,
+        placed,
+      ) refl
 
 pub end-good : checkedLineOf (hexLineText endRecord) ≡ Good
 unfolding checkedLineOf expectedOf formedOf sumsToZero hexOf hexDigit hexValue
@@ -192,7 +212,8 @@ module _ (l : List ℕ) (good : checkedLineOf l ≡ Good) where
   unfolding checkedLineOf
   passed = by (formedOf l) refl (sumsToZero l) refl (expectedOf l) refl
     where
-      by : (f : Bool) → formedOf l ≡ f → (s : Bool) → sumsToZero l ≡ s → (k : Bool) → expectedOf l ≡ k → (formedOf l ≡ true) × (sumsToZero l ≡ true) × (expectedOf l ≡ true)
+      by : (f : Bool) → formedOf l ≡ f → (s : Bool) → sumsToZero l ≡ s → (k : Bool) → expectedOf l ≡ k →
+          (formedOf l ≡ true) × (sumsToZero l ≡ true) × (expectedOf l ≡ true)
       by true e true f true g = (e, f, g)
       by true e true f false g = let z : _≡_ {A = ℕ} 0 1 = cc (rw (e, f, g) at good) in absurd (omega arith)
       by true e false f k g = let z : _≡_ {A = ℕ} 0 1 = cc (rw (e, f) at good) in absurd (omega arith)

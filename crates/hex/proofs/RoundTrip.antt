@@ -30,9 +30,12 @@ good-lines l good = good-is l good
 
 no-feed : (d : ℕ) → eqb (hexOf upper d) lineFeed ≡ false
 unfolding hexOf
-no-feed d = picked (λ (c : ℕ). eqb c lineFeed ≡ false) (ltb d 10) (48 + d) (upper - 10 + d) (λ e. ne-eqb (48 + d) 10 (λ z. omega arith)) (λ e. ne-eqb (55 + d) 10 (λ z. omega arith))
+no-feed d =
+    picked (λ (c : ℕ). eqb c lineFeed ≡ false) (ltb d 10) (48 + d) (upper - 10 + d) (λ e. ne-eqb (48 + d) 10 (λ z. omega arith))
+    (λ e. ne-eqb (55 + d) 10 (λ z. omega arith))
 
-hex-line : (bytes rest : List ℕ) → textLines ((hexText upper bytes ++ (lineFeed ∷ [])) ++ rest) ≡ (hexText upper bytes ++ (lineFeed ∷ [])) ∷ textLines rest
+hex-line : (bytes rest : List ℕ) →
+    textLines ((hexText upper bytes ++ (lineFeed ∷ [])) ++ rest) ≡ (hexText upper bytes ++ (lineFeed ∷ [])) ∷ textLines rest
 hex-line [] rest = refl
 hex-line (b ∷ bs) rest = rw (no-feed (b / 16), no-feed (b % 16), hex-line bs rest) refl
 
@@ -107,7 +110,8 @@ module _ (A B C a b c : List ℕ) (fa : Known A 0x20 a) (fb : Known B 0x60 b) (f
   among (inr (inr (inr p))) = absurd p
 
   -- the six orders; in any other case a line would be two of the three
-  ordered : {x y z : List ℕ} → (x ≡ A) ⊎ ((y ≡ A) ⊎ (z ≡ A)) → (x ≡ B) ⊎ ((y ≡ B) ⊎ (z ≡ B)) → (x ≡ C) ⊎ ((y ≡ C) ⊎ (z ≡ C)) → Taken (x ∷ y ∷ z ∷ [])
+  ordered : {x y z : List ℕ} → (x ≡ A) ⊎ ((y ≡ A) ⊎ (z ≡ A)) → (x ≡ B) ⊎ ((y ≡ B) ⊎ (z ≡ B)) →
+      (x ≡ C) ⊎ ((y ≡ C) ⊎ (z ≡ C)) → Taken (x ∷ y ∷ z ∷ [])
   ordered (inl p) (inl q) t = absurd (let e = apart fa fb p q in omega arith)
   ordered (inl p) (inr (inl q)) (inl t) = absurd (let e = apart fa fc p t in omega arith)
   ordered (inl p) (inr (inl q)) (inr (inl t)) = absurd (let e = apart fb fc q t in omega arith)
@@ -185,7 +189,8 @@ module _ (pack factory : List ℕ) (held : bothAccepted pack factory ≡ true) w
 
     back : (room : ℕ) → importSize ≤ room → (ls : List (List ℕ))
         → InSomeOrder (labelLine (exportLabel pack factory)) (lowLine (imageBlock pack)) (highLine (imageBlock pack)) ls
-        → (importAnswer (textLines (joinedText ls ++ endLine)) room ≡ Done) × (importedOf (textLines (joinedText ls ++ endLine)) ≡ exportedOf pack factory)
+        → (importAnswer (textLines (joinedText ls ++ endLine)) room ≡ Done)
+        × (importedOf (textLines (joinedText ls ++ endLine)) ≡ exportedOf pack factory)
     back room fits ls w =
         let label = exportLabel pack factory in
         let low = part 16 (imageBlock pack) 0 in
@@ -220,7 +225,10 @@ unchanged pack factory room after wrote =
     let block = imageBlock pack in
     let all : after ≡ exportText label block ++ drop exportSize room = rw (sym (wrote .answer)) at (wrote .written) in
     let text : take exportSize after ≡ exportText label block
-    = ap (take exportSize) all ∙ take-at (exportText label block) (drop exportSize room) exportSize (text-length label block (label-sized pack factory (g .0)) (block-sized pack factory (g .0))) in (
+    =
+    ap (take exportSize) all
+    ∙ take-at (exportText label block) (drop exportSize room) exportSize
+    (text-length label block (label-sized pack factory (g .0)) (block-sized pack factory (g .0))) in (
       text,
       record {
         arranged = record { many = refl; first = inl refl; second = inr (inl refl); third = inr (inr (inl refl)) };

@@ -22,7 +22,8 @@ use Rattle.hex.specs.Line.{hexLineText, checksumOf, contentOf, dataRecor
 use Rattle.hex.proofs.OneLine.{line-length}
 use Rattle.hex.specs.declared.HexRefusal.the-variants as why
 use Rattle.hex.specs.declared.Answer.the-variants.{Done, Refused}
-use Rattle.hex.specs.Export.{acceptedBy, imageAccepted, bothAccepted, exportLabel, labelLine, lowLine, highLine, endLine, exportText, exportSize, exportAnswer}
+use Rattle.hex.specs.Export.{acceptedBy, imageAccepted, bothAccepted, exportLabel, labelLine, lowLine}
+use Rattle.hex.specs.Export.{highLine, endLine, exportText, exportSize, exportAnswer}
 
 -- ---- images that are taken
 
@@ -97,7 +98,8 @@ module _ (label block : List ℕ) (sized : length label ≡ 16) (long : length b
       )
 
   -- four lines, at the front of a room
-  pub text-written : {first second third room after : List ℕ} {most next : ℕ} → first ≡ dataRecord 0x20 label → second ≡ dataRecord 0x60 (part 16 block 0)
+  pub text-written : {first second third room after : List ℕ} {most next : ℕ} → first ≡ dataRecord 0x20 label →
+      second ≡ dataRecord 0x60 (part 16 block 0)
       → third ≡ dataRecord 0x70 (part 16 block 16) → exportSize ≤ length room
       → Writing most (hexLineText first ++ (hexLineText second ++ (hexLineText third ++ endLine))) room 0 next after
       → after ≡ exportText label block ++ drop exportSize room

@@ -5,11 +5,13 @@ ghost use Prim.Native.Nat.{_+_, _*_, _%_, _≤_, _<_};
 ghost use lib.ListN.{length, getD, drop};
 ghost use Rattle.slices.specs.Slices.{put};
 ghost use Rattle.digits.specs.Digits.{upper, hexBytes, Writing};
-ghost use Rattle.hex.specs.Line.{hexLineText, byteSum, checksumOf, dataRecord, bytesIn, addressIn, dataIn, formedOf, sumsToZero, placedOf, headedOf, expectedOf, checkedLineOf, faultNumber};
+ghost use Rattle.hex.specs.Line.{hexLineText, byteSum, checksumOf, dataRecord, bytesIn, addressIn, dataIn, formedOf};
+ghost use Rattle.hex.specs.Line.{sumsToZero, placedOf, headedOf, expectedOf, checkedLineOf, faultNumber};
 ghost use mathlib.Core.List.{_++_};
 ghost use Rattle.numbers.specs.Choice.{pick};
 ghost use Rattle.hex.specs.Export.{answerNumber, imageAccepted, bothAccepted, exportLabel, exportText, exportSize, exportAnswer, Exporting};
-ghost use Rattle.hex.specs.Import.{textLines, Cut, linesAnswer, countOf, lastAddress, wholeText, dataAt, importedOf, importSize, importAnswer, Importing};
+ghost use Rattle.hex.specs.Import.{textLines, Cut, linesAnswer, countOf, lastAddress, wholeText, dataAt};
+ghost use Rattle.hex.specs.Import.{importedOf, importSize, importAnswer, Importing};
 
 // What is wrong with a line: its form, its checksum, or which record it is.
 pub enum Fault {

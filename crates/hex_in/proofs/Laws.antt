@@ -19,12 +19,14 @@ use Rattle.hex_in.specs.HexIn.{hexInRefusalWords, hexInOverText, mostTex
 
 -- a refusal, by its number and its words
 pub why-said : {why x : HexRefusal} {number : ℕ} {room after : List ℕ} {r : Said} → why ≡ x → number ≡ hexRefusalNumber why
-    → Saying (error (refusedText number (hexInRefusalWords x))) room r after → Saying (error (refusedText (hexRefusalNumber why) (hexInRefusalWords why))) room r after
+    → Saying (error (refusedText number (hexInRefusalWords x))) room r after →
+    Saying (error (refusedText (hexRefusalNumber why) (hexInRefusalWords why))) room r after
 why-said is told w = rw (← told, is) w
 
 -- ---- what is said of what `read` told
 
-module _ {text room after : List ℕ} {answer : Answer} (w : Importing text room answer after) (size : length room ≡ roomSize) (few : length text ≤ mostText) where
+module _ {text room after : List ℕ} {answer : Answer} (w : Importing text room answer after) (size : length room ≡ roomSize)
+    (few : length text ≤ mostText) where
   answered : importAnswer (textLines text) roomSize ≡ answer
   answered = ap (importAnswer (textLines text)) (sym size) ∙ sym (w .answer)
 
@@ -48,7 +50,8 @@ module _ {text room after : List ℕ} {answer : Answer} (w : Importing text room
         written = rw (sym (w .answer) ∙ is) at (w .written) ∙ sym front;
       })
 
-  pub refusal-said : {why : HexRefusal} {r : Said} {last : List ℕ} → answer ≡ Refused why → Saying (error (refusedText (hexRefusalNumber why) (hexInRefusalWords why))) after r last
+  pub refusal-said : {why : HexRefusal} {r : Said} {last : List ℕ} → answer ≡ Refused why →
+      Saying (error (refusedText (hexRefusalNumber why) (hexInRefusalWords why))) after r last
       → Saying (hexInSpeech text) room r last
   unfolding hexInSpeech
   refusal-said is said = rw (le-ltb mostText (length text) few, answered ∙ is) (rw (rw (sym (w .answer) ∙ is) at (w .written)) at said)

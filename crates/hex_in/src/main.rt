@@ -81,7 +81,8 @@ fn put_import(text: &[u8], room: &mut [u8]) -> Said
 
 // What the program says. A byte more than a text may have is enough to know of any input. (That the room keeps its length is said for `main`.)
 fn imported(input: &[u8; 65537], got: Input, room: &mut [u8; 128]) -> Said
-    ensures { λ r. ⌜ ((s : List ℕ) → Front s (now (input .entry)) (got .count) → Saying (hexInOf (got .failed) s) (now (room .entry)) r (now (room .exit))) ⌝ }
+    ensures { λ r. ⌜ ((s : List ℕ) → Front s (now (input .entry)) (got .count) →
+        Saying (hexInOf (got .failed) s) (now (room .entry)) r (now (room .exit))) ⌝ }
     ensures { λ _. ⌜ 128 ≡ length (now (room .exit)) ⌝ }
 {
     if got.failed {

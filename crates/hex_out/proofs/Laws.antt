@@ -24,7 +24,8 @@ use Rattle.hex_out.specs.HexOut.{hexOutRefusalWords, hexOutBy, hexOutSpe
 
 -- a refusal, by its number and its words
 pub why-said : {why x : HexRefusal} {number : ℕ} {room after : List ℕ} {r : Said} → why ≡ x → number ≡ hexRefusalNumber why
-    → Saying (error (refusedText number (hexOutRefusalWords x))) room r after → Saying (error (refusedText (hexRefusalNumber why) (hexOutRefusalWords why))) room r after
+    → Saying (error (refusedText number (hexOutRefusalWords x))) room r after →
+    Saying (error (refusedText (hexRefusalNumber why) (hexOutRefusalWords why))) room r after
 why-said is told w = rw (← told, is) w
 
 -- ---- what is said of what `write` told, with room for the whole text
@@ -33,12 +34,14 @@ module _ {pack factory room after : List ℕ} {answer : Answer} (w : Exporting p
   answered : exportAnswer pack factory exportSize ≡ answer
   answered = ap (exportAnswer pack factory) (sym size) ∙ sym (w .answer)
 
-  pub text-said : answer ≡ Done → length after ≡ length room → Saying (hexOutSpeech pack factory) room (record { stream = Output; count = length after }) after
+  pub text-said : answer ≡ Done → length after ≡ length room →
+      Saying (hexOutSpeech pack factory) room (record { stream = Output; count = length after }) after
   unfolding hexOutSpeech
   text-said is kept =
       let held = granted pack factory exportSize (answered ∙ is) .0 in
       let text : List ℕ = exportText (exportLabel pack factory) (imageBlock pack) in
-      let long : length text ≡ exportSize = text-length (exportLabel pack factory) (imageBlock pack) (label-sized pack factory held) (block-sized pack factory held) in
+      let long : length text ≡ exportSize =
+      text-length (exportLabel pack factory) (imageBlock pack) (label-sized pack factory held) (block-sized pack factory held) in
       let front = put-front room text (omega arith) ∙ ap (λ (n : ℕ). text ++ drop n room) long in
       rw (answered ∙ is)
       (record {
@@ -47,7 +50,8 @@ module _ {pack factory room after : List ℕ} {answer : Answer} (w : Exporting p
         written = rw (sym (w .answer) ∙ is) at (w .written) ∙ sym front;
       })
 
-  pub refusal-said : {why : HexRefusal} {r : Said} {last : List ℕ} → answer ≡ Refused why → Saying (error (refusedText (hexRefusalNumber why) (hexOutRefusalWords why))) after r last
+  pub refusal-said : {why : HexRefusal} {r : Said} {last : List ℕ} → answer ≡ Refused why →
+      Saying (error (refusedText (hexRefusalNumber why) (hexOutRefusalWords why))) after r last
       → Saying (hexOutSpeech pack factory) room r last
   unfolding hexOutSpeech
   refusal-said is said = rw (answered ∙ is) (rw (rw (sym (w .answer) ∙ is) at (w .written)) at said)
@@ -75,7 +79,8 @@ long-factory pack factory long = refused-by pack factory (rw (long-refused facto
     last false = refl
 
 -- what is said of what was read is what is said of the two files
-pub both-seen : {pack factory s t : List ℕ} {i j n m : ℕ} → length pack ≡ 61 → length factory ≡ 61 → CountWithin i pack n → CountWithin j factory m
+pub both-seen : {pack factory s t : List ℕ} {i j n m : ℕ} → length pack ≡ 61 → length factory ≡ 61 → CountWithin i pack n →
+    CountWithin j factory m
     → Front s pack i → Front t factory j → hexOutSpeech (take n pack) (take m factory) ≡ hexOutSpeech s t
 both-seen {pack} {factory} {s} {t} {i} {j} {n} {m} one two first second front other =
     ap (λ (l : List ℕ). hexOutSpeech l (take m factory)) (cut first)

@@ -68,7 +68,8 @@ fn exported<'a>(
     other: Input,
     room: &mut [u8; 144],
 ) -> Said
-    ensures { λ r. ⌜ ((s t : List ℕ) → Front s (now (pack .entry)) (one .count) → Front t (now (factory .entry)) (other .count) → Saying (hexOutOf (either (one .failed) (other .failed)) s t) (now (room .entry)) r (now (room .exit))) ⌝ }
+    ensures { λ r. ⌜ ((s t : List ℕ) → Front s (now (pack .entry)) (one .count) → Front t (now (factory .entry)) (other .count) →
+        Saying (hexOutOf (either (one .failed) (other .failed)) s t) (now (room .entry)) r (now (room .exit))) ⌝ }
     ensures { λ _. ⌜ 144 ≡ length (now (room .exit)) ⌝ }
 {
     let unread = numbers::or(one.failed, other.failed);

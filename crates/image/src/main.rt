@@ -47,7 +47,8 @@ fn put_taken(bytes: &[u8], room: &mut [u8]) -> Said
 
 // What the program says. A byte more than a session may have is enough to know of any input. (That the room keeps its length is said for `main`.)
 fn extracted(input: &[u8; 32769], got: Input, room: &mut [u8; 61]) -> Said
-    ensures { λ r. ⌜ ((s : List ℕ) → Front s (now (input .entry)) (got .count) → Saying (sessionImageOf (got .failed) s) (now (room .entry)) r (now (room .exit))) ⌝ }
+    ensures { λ r. ⌜ ((s : List ℕ) → Front s (now (input .entry)) (got .count) →
+        Saying (sessionImageOf (got .failed) s) (now (room .entry)) r (now (room .exit))) ⌝ }
     ensures { λ _. ⌜ 61 ≡ length (now (room .exit)) ⌝ }
 {
     if got.failed {

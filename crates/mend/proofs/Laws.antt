@@ -21,7 +21,8 @@ use Rattle.mend.specs.Mend.{mendRefusalWords, speechBy, fileBy, mendSpee
 
 -- a refusal, by its number and its words
 pub why-said : {why x : MendRefusal} {number : ℕ} {room after : List ℕ} {r : Said} → why ≡ x → number ≡ mendRefusalNumber why
-    → Saying (error (refusedText number (mendRefusalWords x))) room r after → Saying (error (refusedText (mendRefusalNumber why) (mendRefusalWords why))) room r after
+    → Saying (error (refusedText number (mendRefusalWords x))) room r after →
+    Saying (error (refusedText (mendRefusalNumber why) (mendRefusalWords why))) room r after
 why-said is told w = rw (← told, is) w
 
 -- with room for all the lines, and for the image, the answer is the same
@@ -47,7 +48,8 @@ module _ {image text after : List ℕ} (size : length text ≡ changesSize) wher
   pub refusal-said : {why : MendRefusal} {r : Said} {last : List ℕ} → Listing image text (listed.Refused why) after
       → Saying (error (refusedText (mendRefusalNumber why) (mendRefusalWords why))) after r last → Saying (mendSpeech image) text r last
   unfolding mendSpeech
-  refusal-said {why} {r} {last} w said = by (mendingAnswer imageSize image imageSize) (rw (answered image text size) at (w .answer)) (rw (answered image text size) at (w .written))
+  refusal-said {why} {r} {last} w said =
+      by (mendingAnswer imageSize image imageSize) (rw (answered image text size) at (w .answer)) (rw (answered image text size) at (w .written))
     where
       by : (a : Mended) → listed.Refused why ≡ listedBy a image → after ≡ linesBy a image text → Saying (speechBy a image) text r last
       by Done e written = let z : _≡_ {A = ℕ} 0 1 = cc in absurd (omega arith)
@@ -80,9 +82,11 @@ module _ (s : List ℕ) (long : imageSize < length s) where
   long-filed file = rw refused refl
 
 -- what is said of what was read, and what the file gets of it, is that of the whole input
-pub read-seen : {failed : Bool} {input s file text file′ text′ : List ℕ} {count n : ℕ} {r : Said} → length input ≡ 61 → CountWithin count input n → Front s input count
+pub read-seen : {failed : Bool} {input s file text file′ text′ : List ℕ} {count n : ℕ} {r : Said} → length input ≡ 61 →
+    CountWithin count input n → Front s input count
     → Mends failed (take n input) file text r file′ text′ → Mends failed s file text r file′ text′
 read-seen {failed} {input} {s} {file} {text} {file′} {text′} {count} {n} {r} size within front m =
     let speech = ap mendSpeech (cut within) ∙ seen mendSpeech (speechBy (Refused Size) []) imageSize long-said size front in
-    let bytes = ap (λ (l : List ℕ). mendFile l file) (cut within) ∙ seen (λ l. mendFile l file) file imageSize (λ l long. long-filed l long file) size front in
+    let bytes = ap (λ (l : List ℕ). mendFile l file) (cut within)
+    ∙ seen (λ l. mendFile l file) file imageSize (λ l long. long-filed l long file) size front in
     record { saying = rw speech at (m .saying); filed = rw bytes at (m .filed) }

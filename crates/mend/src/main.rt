@@ -62,7 +62,8 @@ fn put_mended(failed: bool, image: &[u8], file: &mut [u8], text: &mut [u8]) -> S
 // What the program says, and the bytes for the file. A byte more than an image has is enough to know of any input. (That the rooms keep their
 // lengths is said for `main`.)
 fn repaired(input: &[u8; 61], got: Input, file: &mut [u8; 60], text: &mut [u8; 540]) -> Said
-    ensures { λ r. ⌜ ((s : List ℕ) → Front s (now (input .entry)) (got .count) → Mends (got .failed) s (now (file .entry)) (now (text .entry)) r (now (file .exit)) (now (text .exit))) ⌝ }
+    ensures { λ r. ⌜ ((s : List ℕ) → Front s (now (input .entry)) (got .count) →
+        Mends (got .failed) s (now (file .entry)) (now (text .entry)) r (now (file .exit)) (now (text .exit))) ⌝ }
     ensures { λ _. ⌜ (60 ≡ length (now (file .exit))) × (540 ≡ length (now (text .exit))) ⌝ }
 {
     let n = streams::within(got.count, input);

@@ -21,7 +21,8 @@ use Rattle.record.specs.Image.{imageSize}
 use Rattle.mending.specs.declared.MendRefusal.the-variants.{Size, Family}
 use Rattle.mending.specs.declared.Mended.the-variants.{Done, Refused}
 use Rattle.mending.specs.declared.Listed.the-variants.{Lines}
-use Rattle.mending.specs.Mending.{mendedCrc, mendedAging, mendedLocks, mendedBreaks, mendedOf, changeText, changesFrom, changesOf, changesSize, mendingAnswer, Listing}
+use Rattle.mending.specs.Mending.{mendedCrc, mendedAging, mendedLocks, mendedBreaks, mendedOf, changeText}
+use Rattle.mending.specs.Mending.{changesFrom, changesOf, changesSize, mendingAnswer, Listing}
 
 -- ---- the answer
 
@@ -31,7 +32,8 @@ pub record Granted (least : ℕ) (image : List ℕ) (room : ℕ) : Type 0 where
   pub fits : least ≤ room
   pub family : getD image 0 0 ≡ 0x3d
 
-tests : (a b c : Bool) → pick a (pick b (Refused Size) (pick c Done (Refused Family))) (Refused Size) ≡ Done → (a ≡ true) × (b ≡ false) × (c ≡ true)
+tests : (a b c : Bool) → pick a (pick b (Refused Size) (pick c Done (Refused Family))) (Refused Size) ≡ Done →
+    (a ≡ true) × (b ≡ false) × (c ≡ true)
 tests true true c e = let z : _≡_ {A = ℕ} 0 1 = cc in absurd (omega arith)
 tests true false true e = (refl, refl, refl)
 tests true false false e = let z : _≡_ {A = ℕ} 0 1 = cc in absurd (omega arith)
@@ -50,8 +52,10 @@ granted least image room done =
 -- ---- the image
 
 -- the bytes that mending changes, one after the other over a copy of the image
-pub mended-laid : {copy : List ℕ} {b : Breaks} {check x y z aging : ℕ} (image array : List ℕ) → length image ≡ length array → copy ≡ put array 0 image
-    → check ≡ mendedCrc image → b ≡ mendedBreaks image → x ≡ offset8Of (b .b34) → y ≡ offset8Of (b .b23) → z ≡ offset8Of (b .b12) → aging ≡ mendedAging image
+pub mended-laid : {copy : List ℕ} {b : Breaks} {check x y z aging : ℕ} (image array : List ℕ) → length image ≡ length array →
+    copy ≡ put array 0 image
+    → check ≡ mendedCrc image → b ≡ mendedBreaks image → x ≡ offset8Of (b .b34) → y ≡ offset8Of (b .b23) → z ≡ offset8Of (b .b12) →
+    aging ≡ mendedAging image
     → set (set (set (set (set (set copy 7 check) 52 x) 53 y) 54 z) 58 aging) 59 (mendedLocks image) ≡ mendedOf image
 unfolding mendedOf
 mended-laid image array size copied crc breaks one two three age = rw (copied, crc, one, two, three, breaks, age, put-whole array image size) refl
@@ -71,7 +75,8 @@ mended-put image room size fits is put =
 
 -- one byte more
 pub changes-more : (k : ℕ) (olds news : List ℕ) (i : ℕ) → i < length olds → length olds ≡ length news
-    → changesFrom k (take i olds) (take i news) ++ changeText (k + i) (getD olds i 0) (getD news i 0) ≡ changesFrom k (take (suc i) olds) (take (suc i) news)
+    → changesFrom k (take i olds) (take i news) ++ changeText (k + i) (getD olds i 0) (getD news i 0)
+    ≡ changesFrom k (take (suc i) olds) (take (suc i) news)
 changes-more k [] news i h e = absurd (omega arith)
 changes-more k (old ∷ olds) [] i h e = absurd (omega arith)
 changes-more k (old ∷ olds) (new ∷ news) zero h e = rw add-zero (sym (append-nil (changeText k old new)))
@@ -99,4 +104,5 @@ changes-all olds news i h few e w = wider (rw (take-all i olds h, take-all i new
 pub listed : {m room after : List ℕ} {next : ℕ} (image : List ℕ) → mendingAnswer changesSize image (length room) ≡ Done → m ≡ mendedOf image
     → Writing changesSize (changesFrom 0 image m) room 0 next after → Listing image room (Lines next) after
 unfolding changesOf
-listed image done is w = record { number = rw done; answer = rw done (ap Lines (rw is at (w .onward) ∙ zero-add _)); written = rw done (rw is at (w .written)) }
+listed image done is w =
+    record { number = rw done; answer = rw done (ap Lines (rw is at (w .onward) ∙ zero-add _)); written = rw done (rw is at (w .written)) }

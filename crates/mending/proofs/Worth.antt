@@ -25,8 +25,10 @@ use Rattle.record.specs.declared.Refusal.the-variants as refusal
 use Rattle.record.specs.Image.{imageSize, imageAddress, imageBlock, imageBreaks, imageAging, imageLocks}
 use Rattle.record.specs.Record.{kindOf, addressedOf, lockableOf, orderedOf, judgedAmong, judgedOf, takenOf}
 use Rattle.record.proofs.Fits.{plain-taking}
-use Rattle.mending.specs.Mending.{mendedCrc, mendedAging, mendedLocks, capOf, cappedOf, arrangedOf, mendedBreaks, mendedOf, changeText, changesFrom, changesOf}
-use Rattle.mending.specs.Worth.{SoundImage, KeptBytes, AcceptedTheorem, UnchangedTheorem, TwiceTheorem, ArrangedTheorem, CappedTheorem, KeptTheorem, ByCallTheorem}
+use Rattle.mending.specs.Mending.{mendedCrc, mendedAging, mendedLocks, capOf, cappedOf, arrangedOf}
+use Rattle.mending.specs.Mending.{mendedBreaks, mendedOf, changeText, changesFrom, changesOf}
+use Rattle.mending.specs.Worth.{SoundImage, KeptBytes, AcceptedTheorem, UnchangedTheorem, TwiceTheorem}
+use Rattle.mending.specs.Worth.{ArrangedTheorem, CappedTheorem, KeptTheorem, ByCallTheorem}
 use Rattle.mending.proofs.Laws.{granted, mended-length}
 
 -- ---- signed bytes in offset form, and back
@@ -255,7 +257,8 @@ stored l c x y z a k size = record {
 }
 
 -- bytes that stand there already change nothing
-same-again : (l : List ℕ) {c x y z a k : ℕ} → c ≡ getD l 0x07 0 → x ≡ getD l 0x34 0 → y ≡ getD l 0x35 0 → z ≡ getD l 0x36 0 → a ≡ getD l 0x3a 0 → k ≡ getD l 0x3b 0
+same-again : (l : List ℕ) {c x y z a k : ℕ} → c ≡ getD l 0x07 0 → x ≡ getD l 0x34 0 → y ≡ getD l 0x35 0 → z ≡ getD l 0x36 0 →
+    a ≡ getD l 0x3a 0 → k ≡ getD l 0x3b 0
     → l₆ l c x y z a k ≡ l
 same-again l p q r s t u = rw (p, q, r, s, t, u) (simp set-getD)
 
@@ -266,7 +269,8 @@ block-at : (p : List ℕ) (i : ℕ) → i < 32 → getD (imageBlock p) i 0 ≡ g
 block-at p i h = getD-take 32 (drop 24 p) i 0 h ∙ getD-drop 24 p i 0
 
 -- the same bytes in a part are the same part
-part-kept : (m l : List ℕ) (n i : ℕ) → length m ≡ length l → ((j : ℕ) → j < n → getD m (i + j) 0 ≡ getD l (i + j) 0) → part n m i ≡ part n l i
+part-kept : (m l : List ℕ) (n i : ℕ) → length m ≡ length l → ((j : ℕ) → j < n → getD m (i + j) 0 ≡ getD l (i + j) 0) →
+    part n m i ≡ part n l i
 part-kept m l n i long same =
     ext-getD 0 (part n m i) (part n l i) (simp (length-take, length-drop, long)) (λ j inside. let few : j < n = omega (arith, length-take n (drop i m)) in
     getD-take n (drop i m) j 0 few ∙ getD-drop i m j 0 ∙ same j few ∙ sym (getD-drop i l j 0) ∙ sym (getD-take n (drop i l) j 0 few))
@@ -298,8 +302,12 @@ module _ (image : List ℕ) (size : length image ≡ imageSize) where
   addressed : getD image 0 0 ≡ 0x3d → addressedOf Ds2781 (imageAddress m) ≡ true
   unfolding addressedOf
   addressed family =
-      let first : getD (take 8 m) 0 0 ≡ 0x3d = getD-take 8 m 0 0 (omega arith) ∙ there .others 0 (λ e. omega arith) (λ e. omega arith) (λ e. omega arith) (λ e. omega arith) (λ e. omega arith) (λ e. omega arith) ∙ family in
-      let last : getD (take 8 m) 7 0 ≡ crcOf (take 7 (take 8 m)) = getD-take 8 m 7 0 (omega arith) ∙ there .crc ∙ ap crcOf (sym (take-take 7 8 m (omega arith) ∙ there .front)) in
+      let first : getD (take 8 m) 0 0
+      ≡ 0x3d =
+      getD-take 8 m 0 0 (omega arith)
+      ∙ there .others 0 (λ e. omega arith) (λ e. omega arith) (λ e. omega arith) (λ e. omega arith) (λ e. omega arith) (λ e. omega arith) ∙ family in
+      let last : getD (take 8 m) 7 0
+      ≡ crcOf (take 7 (take 8 m)) = getD-take 8 m 7 0 (omega arith) ∙ there .crc ∙ ap crcOf (sym (take-take 7 8 m (omega arith) ∙ there .front)) in
       rw (first, eq-eqb (getD (take 8 m) 7 0) (crcOf (take 7 (take 8 m))) last) refl
 
   lockable : lockableOf m ≡ true
@@ -336,7 +344,8 @@ module _ (image : List ℕ) (size : length image ≡ imageSize) where
   kept-at i low high = there .others i (λ e. omega arith) (λ e. omega arith) (λ e. omega arith) (λ e. omega arith) (λ e. omega arith) (λ e. omega arith)
 
   kept-behind : (i : ℕ) → (0x37 ≤ i) → (i < 0x3a) → getD m i 0 ≡ getD image i 0
-  kept-behind i low high = there .others i (λ e. omega arith) (λ e. omega arith) (λ e. omega arith) (λ e. omega arith) (λ e. omega arith) (λ e. omega arith)
+  kept-behind i low high =
+      there .others i (λ e. omega arith) (λ e. omega arith) (λ e. omega arith) (λ e. omega arith) (λ e. omega arith) (λ e. omega arith)
 
   keeps : KeptBytes image m
   keeps = record {
@@ -358,7 +367,9 @@ module _ (image : List ℕ) (s : SoundImage image) where
   judge : (false ≡ false) × (judgedOf image ≡ Run (Image Ds2781)) × (length image ≡ imageSize)
   judge = rw (s .accepted) at (plain-taking false image 1)
 
-  tests : (t u v w : Bool) → pick t (pick u (pick v (pick w (Run (Image Ds2781)) (Refused refusal.Breaks)) (Refused refusal.Locks)) (Refused refusal.Address)) (Refused refusal.Size) ≡ Run (Image Ds2781)
+  tests : (t u v w : Bool) →
+      pick t (pick u (pick v (pick w (Run (Image Ds2781)) (Refused refusal.Breaks)) (Refused refusal.Locks)) (Refused refusal.Address))
+      (Refused refusal.Size) ≡ Run (Image Ds2781)
       → (u ≡ true) × (v ≡ true) × (w ≡ true)
   tests true true true true e = (refl, refl, refl)
   tests true true true false e = let z : _≡_ {A = ℕ} 0 1 = cc in absurd (omega arith)
@@ -374,7 +385,8 @@ module _ (image : List ℕ) (s : SoundImage image) where
   unfolding addressedOf
   own-crc =
       let own = both-true (eqb (getD (take 8 image) 0 0) 0x3d) _ (passed .0) .1 in
-      ap crcOf (sym (take-take 7 8 image (omega arith))) ∙ sym (eqb-true (getD (take 8 image) 7 0) (crcOf (take 7 (take 8 image))) own) ∙ getD-take 8 image 7 0 (omega arith)
+      ap crcOf (sym (take-take 7 8 image (omega arith))) ∙ sym (eqb-true (getD (take 8 image) 7 0) (crcOf (take 7 (take 8 image))) own)
+      ∙ getD-take 8 image 7 0 (omega arith)
 
   same-breaks : mendedBreaks image ≡ imageBreaks image
   same-breaks = stays (imageBreaks image) (ascending-means (imageBreaks image) (passed .2))
@@ -423,5 +435,8 @@ kept image size = keeps image size
 pub by-call : ByCallTheorem
 by-call image room after w =
     let g = granted imageSize image (length room) (sym (w .answer)) in
-    let front : after ≡ mendedOf image ++ drop imageSize room = rw (sym (w .answer)) at (w .written) in
-    (record { sized = g .sized; family = g .family }, ap (take imageSize) front ∙ take-at (mendedOf image) (drop imageSize room) imageSize (long image (g .sized)))
+    let front : after ≡ mendedOf image ++ drop imageSize room = rw (sym (w .answer)) at (w .written) in (
+      record { sized = g .sized; family = g .family },
+      ap (take imageSize) front
+          ∙ take-at (mendedOf image) (drop imageSize room) imageSize (long image (g .sized)),
+    )

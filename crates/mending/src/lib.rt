@@ -10,7 +10,8 @@ ghost use Prim.Native.Nat.{_+_, _≤_, min, max};
 ghost use lib.ListN.{length, drop};
 ghost use Rattle.numbers.specs.Offset.{movedInto};
 ghost use Rattle.digits.specs.Digits.{lower, pairsOf, Writing};
-ghost use Rattle.mending.specs.Mending.{mendedNumber, mendingAnswer, cappedOf, arrangedOf, mendedBreaks, mendedOf, changeLine, changeText, changesFrom, changesSize, Mending, Listing};
+ghost use Rattle.mending.specs.Mending.{mendedNumber, mendingAnswer, cappedOf, arrangedOf, mendedBreaks, mendedOf};
+ghost use Rattle.mending.specs.Mending.{changeLine, changeText, changesFrom, changesSize, Mending, Listing};
 
 // What keeps an image from being mended: its size or that of the room, or its family code.
 pub enum MendRefusal {

@@ -37,7 +37,8 @@ rest-below (negsuc a) n h = omega arith
 pub divided-only : (q : ℤ) (n r : ℕ) → r < n → divZ (pos n *ℤ q +ℤ pos r) n ≡ q
 divided-only (pos b) n r h = ap pos (ap (λ (x : ℕ). (x + r) / n) (mul-comm n b) ∙ whole b r n h)
 divided-only (negsuc b) n r h =
-    ap (λ (z : ℤ). divZ z n) (negative-times n b r ∙ sub-eq r (suc b * n) (0 * n + r) (suc b * n) (omega arith)) ∙ rounded 0 (suc b) r n h ∙ sym (none-sub b)
+    ap (λ (z : ℤ). divZ z n) (negative-times n b r ∙ sub-eq r (suc b * n) (0 * n + r) (suc b * n) (omega arith)) ∙ rounded 0 (suc b) r n h
+    ∙ sym (none-sub b)
 
 -- ---- clamped to lo..hi: in it, and nothing else where it is in it already
 

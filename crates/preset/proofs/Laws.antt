@@ -27,7 +27,8 @@ use Rattle.preset.specs.Preset.{presetRefusalWords, presetBy, presetSpee
 
 -- a refusal, by its number and its words
 pub why-said : {why x : PresetRefusal} {number : ℕ} {room after : List ℕ} {r : Said} → why ≡ x → number ≡ presetRefusalNumber why
-    → Saying (error (refusedText number (presetRefusalWords x))) room r after → Saying (error (refusedText (presetRefusalNumber why) (presetRefusalWords why))) room r after
+    → Saying (error (refusedText number (presetRefusalWords x))) room r after →
+    Saying (error (refusedText (presetRefusalNumber why) (presetRefusalWords why))) room r after
 why-said is told w = rw (← told, is) w
 
 -- ---- what is said of what `write` told, with room for the whole session
@@ -36,7 +37,8 @@ module _ {image wanted room after : List ℕ} {answer : Written} (w : Programmin
   answered : presetAnswer image wanted programmingSize ≡ answer
   answered = ap (presetAnswer image wanted) (sym size) ∙ sym (w .answer)
 
-  pub session-said : answer ≡ Done → length after ≡ length room → Saying (presetSpeech image wanted) room (record { stream = Output; count = length after }) after
+  pub session-said : answer ≡ Done → length after ≡ length room →
+      Saying (presetSpeech image wanted) room (record { stream = Output; count = length after }) after
   unfolding presetSpeech
   session-said is kept =
       let g = granted image wanted programmingSize (answered ∙ is) in
@@ -49,7 +51,8 @@ module _ {image wanted room after : List ℕ} {answer : Written} (w : Programmin
         written = rw (sym (w .answer) ∙ is) at (w .written) ∙ sym front;
       })
 
-  pub refusal-said : {why : PresetRefusal} {r : Said} {last : List ℕ} → answer ≡ Refused why → Saying (error (refusedText (presetRefusalNumber why) (presetRefusalWords why))) after r last
+  pub refusal-said : {why : PresetRefusal} {r : Said} {last : List ℕ} → answer ≡ Refused why →
+      Saying (error (refusedText (presetRefusalNumber why) (presetRefusalWords why))) after r last
       → Saying (presetSpeech image wanted) room r last
   unfolding presetSpeech
   refusal-said is said = rw (answered ∙ is) (rw (rw (sym (w .answer) ∙ is) at (w .written)) at said)
@@ -69,7 +72,8 @@ long-wanted image wanted long = by (judgedOf image)
     by (taken.Refused r) = refl
 
 -- what is said of what was read is what is said of the two files
-pub both-seen : {image wanted s t : List ℕ} {i j n m : ℕ} → length image ≡ 61 → length wanted ≡ 33 → CountWithin i image n → CountWithin j wanted m
+pub both-seen : {image wanted s t : List ℕ} {i j n m : ℕ} → length image ≡ 61 → length wanted ≡ 33 → CountWithin i image n →
+    CountWithin j wanted m
     → Front s image i → Front t wanted j → presetSpeech (take n image) (take m wanted) ≡ presetSpeech s t
 both-seen {image} {wanted} {s} {t} {i} {j} {n} {m} one two first second front other =
     ap (λ (l : List ℕ). presetSpeech l (take m wanted)) (cut first)

@@ -100,7 +100,8 @@ fn programmed(
     other: Input,
     room: &mut [u8; 120],
 ) -> Said
-    ensures { λ r. ⌜ ((s t : List ℕ) → Front s (now (image .entry)) (one .count) → Front t (now (wanted .entry)) (other .count) → Saying (presetOf (either (one .failed) (other .failed)) s t) (now (room .entry)) r (now (room .exit))) ⌝ }
+    ensures { λ r. ⌜ ((s t : List ℕ) → Front s (now (image .entry)) (one .count) → Front t (now (wanted .entry)) (other .count) →
+        Saying (presetOf (either (one .failed) (other .failed)) s t) (now (room .entry)) r (now (room .exit))) ⌝ }
     ensures { λ _. ⌜ 120 ≡ length (now (room .exit)) ⌝ }
 {
     let unread = numbers::or(one.failed, other.failed);

@@ -20,12 +20,14 @@ use Rattle.runs.specs.Record.{recordOf, Recorded}
 use Rattle.runs.proofs.Records.{record-then}
 use Rattle.preset_session.specs.declared.PresetRefusal.the-variants.{Parameters, Locked, Room}
 use Rattle.preset_session.specs.declared.Written.the-variants.{Done, Refused}
-use Rattle.preset_session.specs.PresetSession.{writePayload, copyPayload, readPayload, programmingOf, programmingSize, presetAnswerBy, presetAnswer, Granted}
+use Rattle.preset_session.specs.PresetSession.{writePayload, copyPayload, readPayload, programmingOf}
+use Rattle.preset_session.specs.PresetSession.{programmingSize, presetAnswerBy, presetAnswer, Granted}
 
 -- ---- the answer
 
 module _ (image wanted : List ℕ) (room : ℕ) where
-  tests : (a b c : Bool) → pick a (pick b (Refused Locked) (pick c (Refused Room) Done)) (Refused Parameters) ≡ Done → (a ≡ true) × (b ≡ false) × (c ≡ false)
+  tests : (a b c : Bool) → pick a (pick b (Refused Locked) (pick c (Refused Room) Done)) (Refused Parameters) ≡ Done →
+      (a ≡ true) × (b ≡ false) × (c ≡ false)
   tests true true c e = let z : _≡_ {A = ℕ} 0 1 = cc in absurd (omega arith)
   tests true false true e = let z : _≡_ {A = ℕ} 0 1 = cc in absurd (omega arith)
   tests true false false e = (refl, refl, refl)

@@ -5,7 +5,8 @@ ghost use mathlib.Core.Path.{_≡_};
 ghost use mathlib.Core.List.{_++_};
 ghost use Prim.Native.Nat.{_≤_};
 ghost use lib.ListN.{length, drop};
-ghost use Rattle.preset_session.specs.PresetSession.{writePayload, programmingOf, programmingSize, writtenNumber, acceptedAnswer, presetAnswer, Programming};
+ghost use Rattle.preset_session.specs.PresetSession.{writePayload, programmingOf, programmingSize, writtenNumber};
+ghost use Rattle.preset_session.specs.PresetSession.{acceptedAnswer, presetAnswer, Programming};
 
 // What keeps a session from being written: the image, for what a record of it would be refused; the length of the parameters; block 1, which is
 // locked; or the room.

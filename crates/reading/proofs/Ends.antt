@@ -40,7 +40,8 @@ record Segment (b t x low start end : ℕ) : Type 0 where
   pub ends : end ≡ max (min b x) low
   pub has : start - end ≡ x - max b t
 
-segment : (b t x : ℕ) {low start end : ℕ} → x ≤ forty → low ≡ min t forty → start ≡ max x low → end ≡ movedInto low start b → Segment b t x low start end
+segment : (b t x : ℕ) {low start end : ℕ} → x ≤ forty → low ≡ min t forty → start ≡ max x low → end ≡ movedInto low start b →
+    Segment b t x low start end
 segment b t x {low} h l s e =
     let n : _ ≡ max (min b x) low = e ∙ rw s (lowers b t x low) in
     record {
@@ -65,7 +66,8 @@ all-below : (b34 b23 b12 : ℕ) → min b12 (min b23 (min b34 forty)) ≡ min (m
 all-below b34 b23 b12 = rw two-below (omega arith)
 
 module _ (b : Breaks) (t : ℕ) {end1 end2 end3 end4 : ℕ}
-    (e1 : end1 ≡ min t forty) (e4 : end4 ≡ movedInto end1 forty (b .b34)) (e3 : end3 ≡ movedInto end1 end4 (b .b23)) (e2 : end2 ≡ movedInto end1 end3 (b .b12))
+    (e1 : end1 ≡ min t forty) (e4 : end4 ≡ movedInto end1 forty (b .b34)) (e3 : end3 ≡ movedInto end1 end4 (b .b23))
+    (e2 : end2 ≡ movedInto end1 end3 (b .b12))
   where
     four : Segment (b .b34) t forty end1 forty end4
     four = segment (b .b34) t forty (omega arith) e1 (highest t e1) e4

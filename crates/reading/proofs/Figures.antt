@@ -1,4 +1,5 @@
--- The cases of "Figures to hold" that document 01 marks with *, in its order, F12 and F13 as request [1] has them: one table, one statement, closed by computation. A row is a
+-- The cases of "Figures to hold" that document 01 marks with *, in its order, F12 and F13 as request
+-- [1] has them: one table, one statement, closed by computation. A row is a
 -- sentence: what the definitions give and, after `is`, what the paper says.
 use mathlib.Core.Path.{_≡_, refl}
 use mathlib.Core.Bool.{Bool, true, false}
@@ -9,10 +10,12 @@ use Rattle.numbers.specs.Offset.{zeroAt}
 use Rattle.state.specs.declared.Profile.{Profile}
 use Rattle.state.specs.declared.Profile.the-variants.{Ds2781, Ds2775}
 use Rattle.state.specs.declared.Cycles.{Cycles}
-use Rattle.conversion.specs.Conversion.{cycledOf, countedOf, agedFullOf, shareOf, shareUpOf, averagedOf, renewedOf, foundOf, learntOf, filledOf, settledOf, withCharge, withCycles, flowedOf, convertOf}
+use Rattle.conversion.specs.Conversion.{cycledOf, countedOf, agedFullOf, shareOf, shareUpOf, averagedOf, renewedOf, foundOf}
+use Rattle.conversion.specs.Conversion.{learntOf, filledOf, settledOf, withCharge, withCycles, flowedOf, convertOf}
 use Rattle.state.specs.declared.Charge.{Charge}
 use Rattle.state.specs.State.{acrOf, fractionOf, poweredOf}
-use Rattle.reading.specs.Reading.{loweredOf, slopesOver, modelLines, degreesOf, drainingOf, pointOf, emptiedOf, leftOf, usableOf, percentOf, amountOf, resultsOf, ratedOf, flaggedOf, keptOf, seenOf, drainedOf, resultsShown, readOf}
+use Rattle.reading.specs.Reading.{loweredOf, slopesOver, modelLines, degreesOf, drainingOf, pointOf, emptiedOf, leftOf, usableOf, percentOf}
+use Rattle.reading.specs.Reading.{amountOf, resultsOf, ratedOf, flaggedOf, keptOf, seenOf, drainedOf, resultsShown, readOf}
 use Rattle.state.specs.declared.Meter.{Meter}
 use Rattle.conversion.proofs.OffsetConversion.{converted}
 
@@ -178,10 +181,12 @@ figures =
     (map degreesAt (minus 1 ∷ plus 319 ∷ plus 320 ∷ []) is zeroAt 7 ∷ (zeroAt 7 + 40) ∷ (zeroAt 7 + 40) ∷ []) ∷
     (map fullAt (minus 1 ∷ plus 319 ∷ plus 320 ∷ []) is 15804 ∷ 16384 ∷ 16384 ∷ []) ∷
     -- W6.2. Count 4 is 1 °C, 3 and -4 are 0, -5 is -1, 31 is 4; the ends are -128 and 128
-    (map degreesAt (plus 4 ∷ plus 3 ∷ minus 4 ∷ minus 5 ∷ plus 31 ∷ []) is (zeroAt 7 + 1) ∷ zeroAt 7 ∷ zeroAt 7 ∷ (zeroAt 7 - 1) ∷ (zeroAt 7 + 4) ∷ []) ∷
+    (map degreesAt (plus 4 ∷ plus 3 ∷ minus 4 ∷ minus 5 ∷ plus 31 ∷ []) is (zeroAt 7 + 1) ∷ zeroAt 7 ∷ zeroAt 7 ∷ (zeroAt 7 - 1)
+    ∷ (zeroAt 7 + 4) ∷ []) ∷
     (map degreesAt (minus 1024 ∷ plus 1023 ∷ []) is (zeroAt 7 - 128) ∷ (zeroAt 7 + 128) ∷ []) ∷
     -- F11. M, 40 °C, ACR 5,000: RARC 49, RSRC 50, RAAC 968, RSAC 976
-    (warm .shown .results .rarc ∷ warm .shown .results .rsrc ∷ warm .shown .results .raac ∷ warm .shown .results .rsac ∷ [] is 49 ∷ 50 ∷ 968 ∷ 976 ∷ []) ∷
+    (warm .shown .results .rarc ∷ warm .shown .results .rsrc ∷ warm .shown .results .raac ∷ warm .shown .results .rsac ∷ [] is 49 ∷ 50 ∷ 968
+    ∷ 976 ∷ []) ∷
     -- F12. M, 0 °C, AS 122, LEARNF 0, full found: AF 15063, ACR 9194, then RARC 100
     (agedFull cold ∷ acr cold ∷ readAt (plus (8 * 0)) cold .shown .results .rarc ∷ [] is 15063 ∷ 9194 ∷ 100 ∷ []) ∷
     -- F13. Learn: FULL 16384, Full40 10,000, ACR 9,000 gives AS 115, ACR 8985
@@ -190,7 +195,8 @@ figures =
     (counted M (plus 63) ∷ counted M (plus 64) ∷ [] is (100 * 4096 + 0) ∷ (100 * 4096 + 64) ∷ []) ∷
     (counted noiseless (minus 15) ∷ counted noiseless (minus 16) ∷ [] is (100 * 4096 - 0) ∷ (100 * 4096 - 16) ∷ []) ∷
     -- W12.5. In the DS2775 profile with NBEN -16 to 0, -17 to -17; without NBEN -16 stays
-    (countedBy Ds2775 noiseless (minus 16) ∷ countedBy Ds2775 noiseless (minus 17) ∷ countedBy Ds2775 M (minus 16) ∷ [] is (100 * 4096 - 0) ∷ (100 * 4096 - 17) ∷ (100 * 4096 - 16) ∷ []) ∷
+    (countedBy Ds2775 noiseless (minus 16) ∷ countedBy Ds2775 noiseless (minus 17) ∷ countedBy Ds2775 M (minus 16) ∷ [] is (100 * 4096 - 0)
+    ∷ (100 * 4096 - 17) ∷ (100 * 4096 - 16) ∷ []) ∷
     -- F18. ACR 100, fraction 0, c -1, AB 0, NBEN 0: ACR 99, fraction 4095
     (acr fallen ∷ fraction fallen ∷ [] is 99 ∷ 4095 ∷ []) ∷
     -- F19. With AC 1 and counter 31, AS 128 becomes 127
@@ -216,5 +222,42 @@ figures =
     []
 
 pub figures-hold : Hold figures
-unfolding poweredOf countedOf cycledOf averagedOf renewedOf foundOf learntOf agedFullOf shareOf shareUpOf filledOf settledOf flowedOf convertOf slopesOver modelLines drainingOf pointOf emptiedOf leftOf usableOf percentOf amountOf resultsOf ratedOf flaggedOf keptOf loweredOf seenOf drainedOf resultsShown readOf
-figures-hold = (refl, (refl, (refl, (refl, (refl, (refl, (refl, (refl, (refl, (refl, (refl, (refl, (refl, (refl, (refl, (refl, (refl, (refl, (refl, (refl, (refl, (refl, (refl, (refl, (refl, (refl, tt))))))))))))))))))))))))))
+unfolding poweredOf countedOf cycledOf averagedOf renewedOf foundOf learntOf agedFullOf shareOf shareUpOf filledOf settledOf flowedOf convertOf slopesOver
+    modelLines drainingOf pointOf emptiedOf leftOf usableOf percentOf amountOf resultsOf ratedOf flaggedOf keptOf loweredOf seenOf drainedOf resultsShown readOf
+figures-hold = (
+  refl,
+  (
+    refl,
+    (
+      refl,
+      (
+        refl,
+        (
+          refl,
+          (
+            refl,
+            (
+              refl,
+              (
+                refl,
+                (
+                  refl,
+                  (
+                    refl,
+                    (
+                      refl,
+                      (
+                        refl,
+                        (refl, (refl, (refl, (refl, (refl, (refl, (refl, (refl, (refl, (refl, (refl, (refl, (refl, (refl, tt)))))))))))))),
+                      ),
+                    ),
+                  ),
+                ),
+              ),
+            ),
+          ),
+        ),
+      ),
+    ),
+  ),
+)

@@ -121,7 +121,8 @@ module _ (m : Meter) (v t : ℕ) where
       record { rarc′ = r; chgtf′ = rw r refl }
 
 -- so of the reading that comes next
-pub full-then-100 : (k : Meter) (raw v t : ℕ) → AfterFull (convertOf k raw) v t k raw → 0 < usable (convertOf k raw) v t → Says (convertOf k raw) v t 100 true
+pub full-then-100 : (k : Meter) (raw v t : ℕ) → AfterFull (convertOf k raw) v t k raw → 0 < usable (convertOf k raw) v t →
+    Says (convertOf k raw) v t 100 true
 full-then-100 k raw v t a some =
     let s = full-stays (convertOf k raw) v t k raw a some in
     record { rarc′ = s .rarc′; chgtf′ = s .chgtf′ ∙ sets k raw (a .found′) }

@@ -32,7 +32,8 @@ seen-wf p curves v t =
     let degrees = degreesOf (tempOf t) in
     record { volt = omega arith; temp = omega arith; full = lines-full curves degrees; ae = lines-ae curves degrees }
 
-pub drained-wf : (m : Meter) (p : Limits) (full40 : ℕ) (s : Seen) → full40 ≤ 65535 → SeenWF s → ChargeWF (m .charge) → ChargeWF (drainedOf m p full40 s)
+pub drained-wf : (m : Meter) (p : Limits) (full40 : ℕ) (s : Seen) → full40 ≤ 65535 → SeenWF s → ChargeWF (m .charge) →
+    ChargeWF (drainedOf m p full40 s)
 unfolding drainedOf
 drained-wf m p full40 s h seen w =
     emptied-wf (m .charge) (s .holds) (pointOf (m .shown .reading) (m .flow .trace) p) _ (share-high _ full40 (omega (arith, seen .ae)) h) w

@@ -12,7 +12,8 @@ use Rattle.numbers.proofs.Offset as offset
 use Rattle.numbers.proofs.Offset.{order, sub-pos, sub-neg, sub-eq, sub-add, sub-none, neg-sub, at-most}
 use Rattle.params.specs.declared.Breaks.{Breaks}
 use Rattle.params.specs.declared.Slopes.{Slopes}
-use Rattle.reading.specs.Reading.{slopeOf, forty, slopesOver, slopesTo, fullLineOf, voltOf, tempOf, degreesOf, drainsOf, leftOf, usableOf, percentOf, amountOf, voltZ, tempZ, degreesZ, slopeZ, slopesOverZ, slopesZ, fullLineZ, drainsZ, leftZ, usableZ, percentZ, amountZ}
+use Rattle.reading.specs.Reading.{slopeOf, forty, slopesOver, slopesTo, fullLineOf, voltOf, tempOf, degreesOf, drainsOf, leftOf, usableOf, percentOf}
+use Rattle.reading.specs.Reading.{amountOf, voltZ, tempZ, degreesZ, slopeZ, slopesOverZ, slopesZ, fullLineZ, drainsZ, leftZ, usableZ, percentZ, amountZ}
 use Rattle.conversion.proofs.Meaning.{less, less-pos, stops}
 
 -- ---- reading
@@ -43,7 +44,8 @@ slopes-over b s (suc n) h =
 
 pub slopes-means : (b : Breaks) (s : Slopes) (t : ℕ) → slopesTo b s t ≡ slopesZ b s (value 7 t)
 slopes-means b s t =
-    let e : pos 40 -ℤ value 7 t ≡ subℕ forty t = ap (λ (z : ℤ). z -ℤ value 7 t) (sub-none 40) ∙ less 40 0 t (2 ^ 7) ∙ sub-eq (40 + 2 ^ 7) (0 + t) forty t (omega arith) in
+    let e : pos 40 -ℤ value 7 t
+    ≡ subℕ forty t = ap (λ (z : ℤ). z -ℤ value 7 t) (sub-none 40) ∙ less 40 0 t (2 ^ 7) ∙ sub-eq (40 + 2 ^ 7) (0 + t) forty t (omega arith) in
     slopes-over b s (forty - t) (omega arith) ∙ ap (slopesOverZ b s) (stops forty t ∙ ap orZero (sym e))
 
 at-least : (low a b : ℕ) → pos (max (a - b) low) ≡ atLeastZ (pos low) (subℕ a b)
@@ -103,7 +105,8 @@ amount-is (pos zero) rsnsp = simp zero-mul
 amount-is (pos (suc n)) rsnsp = simp leb·suc-zero
 
 -- RARC and RAAC; with SE for AE, RSRC and RSAC
-pub percent-means : (acr agedFull empty full40 : ℕ) → pos (percentOf (leftOf acr empty full40) (usableOf agedFull empty full40)) ≡ percentZ (leftZ acr empty full40) (usableZ agedFull empty full40)
+pub percent-means : (acr agedFull empty full40 : ℕ) →
+    pos (percentOf (leftOf acr empty full40) (usableOf agedFull empty full40)) ≡ percentZ (leftZ acr empty full40) (usableZ agedFull empty full40)
 percent-means acr agedFull empty full40 =
     (λ i. pos (percentOf (left-means acr empty full40 i) (usable-means agedFull empty full40 i))) ∙
     percent-is (leftZ acr empty full40) (usableZ agedFull empty full40)

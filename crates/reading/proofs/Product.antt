@@ -37,19 +37,25 @@ module _ (b : Breaks) (s : Slopes) where
       let b3 = min b34 b23 in
       let b2 = min b3 b12 in
       picked P (leb b34 t) _ _
-      (λ e. let l = leb-true b34 t e in rw (inside b34 forty t h l h, above b23 b34 t h l, above b12 b3 t h (omega arith), above 0 b2 t h (omega arith)) (omega arith))
+      (λ e. let l = leb-true b34 t e in
+      rw (inside b34 forty t h l h, above b23 b34 t h l, above b12 b3 t h (omega arith), above 0 b2 t h (omega arith)) (omega arith))
       (λ e. let l = leb-false b34 t e in picked P (leb b23 t) _ _
-      (λ f. let m = leb-true b23 t f in rw (below b34 forty t h l, inside b23 b34 t h m l, above b12 b3 t h (omega arith), above 0 b2 t h (omega arith)) (omega arith))
+      (λ f. let m = leb-true b23 t f in
+      rw (below b34 forty t h l, inside b23 b34 t h m l, above b12 b3 t h (omega arith), above 0 b2 t h (omega arith)) (omega arith))
       (λ f. let m = leb-false b23 t f in picked P (leb b12 t) _ _
-      (λ g. let n = leb-true b12 t g in rw (below b34 forty t h l, below b23 b34 t h m, inside b12 b3 t h n (omega arith), above 0 b2 t h (omega arith)) (omega arith))
-      (λ g. let n = leb-false b12 t g in rw (below b34 forty t h l, below b23 b34 t h m, below b12 b3 t h n, inside 0 b2 t h (omega arith) (omega arith)) (omega arith))))
+      (λ g. let n = leb-true b12 t g in
+      rw (below b34 forty t h l, below b23 b34 t h m, inside b12 b3 t h n (omega arith), above 0 b2 t h (omega arith)) (omega arith))
+      (λ g. let n = leb-false b12 t g in
+      rw (below b34 forty t h l, below b23 b34 t h m, below b12 b3 t h n, inside 0 b2 t h (omega arith) (omega arith)) (omega arith))))
     where
       P : ℕ → Type 0
       P slope = slopesBy b s t ≡ slopesBy b s (t + 1) + slope
 
   none : (t : ℕ) → forty ≤ t → slopesBy b s t ≡ 0
   unfolding segmentsOf
-  none t h = rw (past (b .b34) forty t h, past (b .b23) (b .b34) t h, past (b .b12) (min (b .b34) (b .b23)) t h, past 0 (min (min (b .b34) (b .b23)) (b .b12)) t h) (omega arith)
+  none t h =
+      rw (past (b .b34) forty t h, past (b .b23) (b .b34) t h, past (b .b12) (min (b .b34) (b .b23)) t h, past 0 (min (min (b .b34) (b .b23)) (b .b12)) t h)
+      (omega arith)
 
   -- by the number of degrees from t up to 39
   product-over : (n t : ℕ) → forty - t ≡ n → slopesBy b s t ≡ slopesOver b s n

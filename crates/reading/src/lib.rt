@@ -17,7 +17,9 @@ use state::Trace;
 ghost use mathlib.Core.Path.{_≡_};
 ghost use Prim.Native.Nat.{_≤_, _*_, _^_, _<_};
 ghost use Rattle.state.specs.State.{ChargeWF, MeterWF};
-ghost use Rattle.reading.specs.Reading.{loweredOf, SeenWF, drainedOf, resultsShown, readOf, fullLineOf, emptyLineOf, modelLines, voltOf, tempOf, seenOf, drainingOf, pointOf, emptiedOf, leftOf, usableOf, percentOf, amountOf, resultsOf, ratedOf, flaggedOf, keptOf};
+ghost use Rattle.reading.specs.Reading.{loweredOf, SeenWF, drainedOf, resultsShown, readOf, fullLineOf, emptyLineOf};
+ghost use Rattle.reading.specs.Reading.{modelLines, voltOf, tempOf, seenOf, drainingOf, pointOf, emptiedOf, leftOf, usableOf};
+ghost use Rattle.reading.specs.Reading.{percentOf, amountOf, resultsOf, ratedOf, flaggedOf, keptOf};
 ghost use Rattle.numbers.specs.Offset.{movedInto};
 ghost use Rattle.reading.specs.Product.{segmentsOf, weighedOf};
 

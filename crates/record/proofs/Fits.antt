@@ -25,7 +25,9 @@ use Rattle.record.specs.declared.Event.the-variants.{Image, Change, Tran
 use Rattle.record.specs.declared.Taken.{Taken}
 use Rattle.record.specs.declared.Taken.the-variants.{Run, Refused}
 use Rattle.record.specs.Image.{imageAddress, imageBreaks}
-use Rattle.record.specs.Record.{refusalNumber, kindOf, knownOf, headOf, limitOf, readCount, sizedOf, dueOf, addressedOf, lockableOf, orderedOf, judgedAmong, judgedBy, transactionIn, transactionOf, eventOf, takenBy, takenOf, eventTimely, timedOf, fittedOf, Mastered}
+use Rattle.record.specs.Record.{refusalNumber, kindOf, knownOf, headOf, limitOf, readCount, sizedOf, dueOf, addressedOf, lockableOf, orderedOf}
+use Rattle.record.specs.Record.{judgedAmong, judgedBy, transactionIn, transactionOf, eventOf, takenBy, takenOf, eventTimely, timedOf, fittedOf}
+use Rattle.record.specs.Record.{Mastered}
 
 -- ---- the forms
 
@@ -78,7 +80,8 @@ verdict f again p =
     (λ a. tt)
 
 module _ (again loaded : Bool) (p : List ℕ) where
-  image-taking : (f : Profile) (t : Taken) → Verdict f t → judgedAmong f again p ≡ t → loaded ≡ false → length p ≡ imageSizeOf f → Taking again loaded p t
+  image-taking : (f : Profile) (t : Taken) → Verdict f t → judgedAmong f again p ≡ t → loaded ≡ false → length p ≡ imageSizeOf f →
+      Taking again loaded p t
   image-taking f (Run (Image g)) v e l s =
       (l, subst (λ (x : Profile). judgedAmong x again p ≡ Run (Image g)) v e, subst (λ (x : Profile). length p ≡ imageSizeOf x) v s)
   image-taking f (Run (Change c)) v e l s = absurd v
@@ -286,7 +289,8 @@ plain-numbered last n loaded p =
     timed (Refused r) h = h
 
 -- an image that is accepted beside others is one that is accepted by itself
-pub judged-alone : (f : Profile) (again : Bool) (p : List ℕ) → judgedAmong f again p ≡ Run (Image f) → (again ≡ false) × (judgedBy f p ≡ Run (Image f))
+pub judged-alone : (f : Profile) (again : Bool) (p : List ℕ) → judgedAmong f again p ≡ Run (Image f) →
+    (again ≡ false) × (judgedBy f p ≡ Run (Image f))
 unfolding judgedAmong
 judged-alone f false p e = (refl, e)
 judged-alone f true p e = absurd (rw e at (never p))
@@ -306,4 +310,13 @@ pub unknown-above : (n : ℕ) (loaded : Bool) (p : List ℕ) → 8 < n → taken
 unfolding takenOf kindOf
 unknown-above n loaded p h =
     let other : (k : ℕ) → k < n → eqb n k ≡ false = λ k l. ne-eqb n k (λ e. omega (arith, l, e)) in
-    simp (other 1 (omega arith), other 2 (omega arith), other 3 (omega arith), other 4 (omega arith), other 5 (omega arith), other 6 (omega arith), other 7 (omega arith), other 8 h)
+    simp (
+      other 1 (omega arith),
+      other 2 (omega arith),
+      other 3 (omega arith),
+      other 4 (omega arith),
+      other 5 (omega arith),
+      other 6 (omega arith),
+      other 7 (omega arith),
+      other 8 h,
+    )

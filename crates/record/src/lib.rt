@@ -7,7 +7,8 @@ ghost use mathlib.Core.Bool.{false};
 ghost use mathlib.Core.Path.{_≡_};
 ghost use Prim.Native.Nat.{_≤_};
 ghost use lib.ListN.{length};
-ghost use Rattle.record.specs.Record.{takenNumber, kindOf, headOf, limitOf, readCount, addressedOf, orderedOf, judgedAmong, judgedOf, takenBy, takenOf, timedOf, fittedOf};
+ghost use Rattle.record.specs.Record.{takenNumber, kindOf, headOf, limitOf, readCount, addressedOf, orderedOf};
+ghost use Rattle.record.specs.Record.{judgedAmong, judgedOf, takenBy, takenOf, timedOf, fittedOf};
 
 // The pack image: its size, of kind 1, and where its parts stand.
 pub const IMAGE_SIZE: usize = 60;

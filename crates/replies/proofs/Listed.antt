@@ -61,7 +61,8 @@ filling-start f room = record {
   rest = rw (sub-zero (length room)) (put-whole room (listed f 0 (length room)) (listed-length f 0 (length room)));
 }
 
-pub filling-more : (f : ℕ → ℕ) (room₀ room : List ℕ) (i b : ℕ) → Filling f room₀ room i → i < length room₀ → b ≡ f i → Filling f room₀ (set room i b) (i + 1)
+pub filling-more : (f : ℕ → ℕ) (room₀ room : List ℕ) (i b : ℕ) → Filling f room₀ room i → i < length room₀ → b ≡ f i →
+    Filling f room₀ (set room i b) (i + 1)
 filling-more f room₀ room i b g h e =
     let n = length room₀ in
     let k : n - i ≡ suc (n - (i + 1)) = omega arith in
@@ -72,7 +73,8 @@ filling-more f room₀ room i b g h e =
       rest = sym (rw k (ap (λ (j : ℕ). put (set room i (f i)) j (listed f (i + 1) (n - (i + 1)))) (sym (add-one i)))) ∙ g .rest;
     })
 
-pub filling-end : (f : ℕ → ℕ) (room₀ room : List ℕ) (i : ℕ) → Filling f room₀ room i → length room₀ ≤ i → room ≡ listed f 0 (length room₀)
+pub filling-end : (f : ℕ → ℕ) (room₀ room : List ℕ) (i : ℕ) → Filling f room₀ room i → length room₀ ≤ i →
+    room ≡ listed f 0 (length room₀)
 filling-end f room₀ room i g h =
     let e : length room₀ - i ≡ 0 = omega arith in
     sym (ap (λ (k : ℕ). put room i (listed f i k)) e) ∙ g .rest
@@ -98,7 +100,8 @@ laid-listed f n low room a bytes e h =
       where
         go : (s : Bool) → leb a (low + i) ≡ s → (t : Bool) → ltb (low + i) (a + length bytes) ≡ t → getD room i 0 ≡ f i
             → getD (laidOf low (low + length room) room a bytes) i 0 ≡ pick (both s t) (getD bytes (low + i - a) 0) (f i)
-        go true s true t o = laid-reached low (low + length room) room a bytes i inside (omega arith) (leb-true a (low + i) s) (ltb-true (low + i) (a + length bytes) t)
+        go true s true t o =
+            laid-reached low (low + length room) room a bytes i inside (omega arith) (leb-true a (low + i) s) (ltb-true (low + i) (a + length bytes) t)
         go true s false t o = laid-missed low (low + length room) room a bytes i inside (omega arith) (inr (ltb-false (low + i) (a + length bytes) t)) ∙ o
         go false s t u o = laid-missed low (low + length room) room a bytes i inside (omega arith) (inl (leb-false a (low + i) s)) ∙ o
 
@@ -145,12 +148,14 @@ module _ (k : Common) (l : Label) (m : Meter) where
   register-byte x h = rw (lt-leb 0x20 x h, lt-ltb x 0x20 h) refl
 
   -- a room that ends within a register shows it alone
-  pub register-listed : (a n : ℕ) → a < 0x20 → a % 2 + n ≤ 2 → listed (λ i. getD (registersOf k m) (a + i) 0) 0 n ≡ listed (λ i. readByte k l m (a + i)) 0 n
+  pub register-listed : (a n : ℕ) → a < 0x20 → a % 2 + n ≤ 2 →
+      listed (λ i. getD (registersOf k m) (a + i) 0) 0 n ≡ listed (λ i. readByte k l m (a + i)) 0 n
   register-listed a n h short = listed-same _ (λ i. readByte k l m (a + i)) n (λ i b. register-byte (a + i) (omega arith))
 
   -- what is laid last is asked for first
   map-byte : (x : ℕ) (s : Bool) → ltb x 0x20 ≡ s
-      → pick s (getD (registersOf k m) x 0) (pick (inLabel x) (labelByte l x) (pick (inBlock x) (getD (m .cells .block .shadow) (x - 0x60) 0) 0xff)) ≡ readByte k l m x
+      → pick s (getD (registersOf k m) x 0) (pick (inLabel x) (labelByte l x) (pick (inBlock x) (getD (m .cells .block .shadow) (x - 0x60) 0) 0xff))
+      ≡ readByte k l m x
   unfolding readByte meterByte
   map-byte x true e = register-byte x (ltb-true x 0x20 e)
   map-byte x false e = rw e refl
@@ -169,5 +174,7 @@ module _ (k : Common) (l : Label) (m : Meter) where
   pub low-listed : (a : ℕ) (room : List ℕ) {r : List ℕ} → a + length room ≤ 0x20 → r ≡ overOf 0x00 (registersOf k m) a room
       → r ≡ listed (λ i. readByte k l m (a + i)) 0 (length room)
   low-listed a room h e =
-      laid-listed (λ i. getD room i 0) (length room) a room 0x00 (registersOf k m) (itself room) e ∙ listed-same _ (λ i. readByte k l m (a + i)) (length room)
-      (λ i b. rw (registers-length k m, sub-zero (a + i), le-leb 0 (a + i) (omega arith), lt-ltb (a + i) 0x20 (omega arith)) (register-byte (a + i) (omega arith)))
+      laid-listed (λ i. getD room i 0) (length room) a room 0x00 (registersOf k m) (itself room) e
+      ∙ listed-same _ (λ i. readByte k l m (a + i)) (length room)
+      (λ i b. rw (registers-length k m, sub-zero (a + i), le-leb 0 (a + i) (omega arith), lt-ltb (a + i) 0x20 (omega arith))
+      (register-byte (a + i) (omega arith)))

@@ -31,7 +31,8 @@ use Rattle.runs.specs.SessionRecord.{eventDid, ofSession, didOf}
 
 module _ (told : ℕ → List ℕ → Taken) (room : ℕ) (l : List ℕ) where
   -- of a whole record, whose length says n, and of which t was taken
-  pub read-whole : (n kind : ℕ) {t : Taken} → wholeOf l ≡ true → n ≡ pairAt l 0 → kind ≡ pairAt l 2 → t ≡ fittedOf room (told kind (part (4 + n - 4) l 4))
+  pub read-whole : (n kind : ℕ) {t : Taken} → wholeOf l ≡ true → n ≡ pairAt l 0 → kind ≡ pairAt l 2 →
+      t ≡ fittedOf room (told kind (part (4 + n - 4) l 4))
       → takenRead kind (4 + n) t ≡ frontBy told room l
   unfolding frontBy
   read-whole n kind w en ek et = rw (rec-whole l n kind w en ek, size-whole l n kind w en ek) (ap (takenRead kind (4 + n)) et)

@@ -40,7 +40,8 @@ module _ (bytes answers : ℕ) where
 
 -- ---- any two results that the promise of a run allows are equal
 
-module _ {S : Type 0} (did : S → ℕ → Rec → Did S) (start : S) (s room answers : List ℕ) (r r′ : Result S) (after after′ told told′ : List ℕ) where
+module _ {S : Type 0} (did : S → ℕ → Rec → Did S) (start : S) (s room answers : List ℕ) (r r′ : Result S)
+    (after after′ told told′ : List ℕ) where
   idle-same : {o : Outcome} → Idle start o room answers r after told → Idle start o room answers r′ after′ told′
       → (r ≡ r′) × (after ≡ after′) × (told ≡ told′)
   idle-same h k = (h .result ∙ sym (k .result), h .replies ∙ sym (k .replies), h .answered ∙ sym (k .answered))

@@ -48,7 +48,8 @@ module _ {S : Type 0} (k : Steps S) where
   pub ran : {σ : S} {room : ℕ} {l : List ℕ} {r : Record} {e : Event} → Front σ room l r → r .event ≡ asked.Run e → Ran σ room l (r .used) e
   ran {σ} {room} {l} {r} f t = subst (Does σ room l r) t (f .does)
 
-  pub idle : {σ : S} {room : ℕ} {l : List ℕ} {r : Record} → Front σ room l r → r .event ≡ asked.Nothing → recordBy k σ room (recOf l) ≡ silently σ (r .answer)
+  pub idle : {σ : S} {room : ℕ} {l : List ℕ} {r : Record} → Front σ room l r → r .event ≡ asked.Nothing →
+      recordBy k σ room (recOf l) ≡ silently σ (r .answer)
   idle {σ} {room} {l} {r} f t = subst (Does σ room l r) t (f .does)
 
   module _ (h : Replying k) (σ : S) (room : ℕ) (l : List ℕ) where

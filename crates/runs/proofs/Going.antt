@@ -16,7 +16,8 @@ use Rattle.runs.proofs.Records.{recs-cons, sizes}
 use Rattle.runs.proofs.Lines.{Fits}
 
 -- what one record leaves: the state and the room after the record r, where the replies before it took so many bytes, and its line's number
-pub record Turned {S : Type 0} (did : S → ℕ → Rec → Did S) (σ : S) (room : List ℕ) (used : ℕ) (r : Rec) (τ : S) (after : List ℕ) (next line : ℕ)
+pub record Turned {S : Type 0} (did : S → ℕ → Rec → Did S) (σ : S) (room : List ℕ) (used : ℕ) (r : Rec) (τ : S) (after : List ℕ)
+    (next line : ℕ)
     : Type 0 where
   pub state : τ ≡ did σ (length room - used) r .state
   pub rest : after ≡ put room used (did σ (length room - used) r .reply)
@@ -32,9 +33,12 @@ module _ {S : Type 0} (did : S → ℕ → Rec → Did S) (start : S) where
     pub slots : at < length s → 4 * lines ≤ at
     pub ends : endAfter did σ (length room₀ - used) (recsOf (drop at s)) ≡ endAfter did start (length room₀) (recsOf s)
     pub counts : lines + length (linesAfter did σ (length room₀ - used) (recsOf (drop at s))) ≡ length (linesAfter did start (length room₀) (recsOf s))
-    pub sums : used + length (repliesOf (linesAfter did σ (length room₀ - used) (recsOf (drop at s)))) ≡ length (repliesOf (linesAfter did start (length room₀) (recsOf s)))
-    pub replies : put room used (repliesOf (linesAfter did σ (length room₀ - used) (recsOf (drop at s)))) ≡ put room₀ 0 (repliesOf (linesAfter did start (length room₀) (recsOf s)))
-    pub answered : put answers lines (codesOf (linesAfter did σ (length room₀ - used) (recsOf (drop at s)))) ≡ put answers₀ 0 (codesOf (linesAfter did start (length room₀) (recsOf s)))
+    pub sums : used + length (repliesOf (linesAfter did σ (length room₀ - used) (recsOf (drop at s))))
+        ≡ length (repliesOf (linesAfter did start (length room₀) (recsOf s)))
+    pub replies : put room used (repliesOf (linesAfter did σ (length room₀ - used) (recsOf (drop at s))))
+        ≡ put room₀ 0 (repliesOf (linesAfter did start (length room₀) (recsOf s)))
+    pub answered : put answers lines (codesOf (linesAfter did σ (length room₀ - used) (recsOf (drop at s))))
+        ≡ put answers₀ 0 (codesOf (linesAfter did start (length room₀) (recsOf s)))
 
   pub going-start : (s room answers : List ℕ) → Going s room answers start 0 0 0 room answers
   going-start s room answers =
@@ -53,7 +57,8 @@ module _ {S : Type 0} (did : S → ℕ → Rec → Did S) (start : S) where
       }
 
   -- at the end
-  pub going-end : {s room₀ answers₀ : List ℕ} {σ : S} {at used lines : ℕ} {room answers : List ℕ} → Going s room₀ answers₀ σ at used lines room answers → length s ≤ at
+  pub going-end : {s room₀ answers₀ : List ℕ} {σ : S} {at used lines : ℕ} {room answers : List ℕ} →
+      Going s room₀ answers₀ σ at used lines room answers → length s ≤ at
       → Running did start s room₀ answers₀ (record { outcome = Done; state = σ; lines = lines; replied = used }) room answers
   going-end {s} {room₀} {answers₀} {σ} {at} {used} {lines} {room} {answers} g h =
       let e : recsOf (drop at s) ≡ [] = ap recsOf (drop-of-length-le s h) in
@@ -108,26 +113,33 @@ module _ {S : Type 0} (did : S → ℕ → Rec → Did S) (start : S) where
           ap (linesAfter did σ (length room₀ - used)) unroll
           ∙ ap (λ (n : ℕ). lineOf (recOf left) d ∷ linesAfter did (d .state) n (recsOf (drop (at + sizeOf left) s))) less
 
-      stepped : Going s room₀ answers₀ (d .state) (at + sizeOf left) (used + length (d .reply)) (lines + 1) (put room used (d .reply)) (set answers lines code)
+      stepped : Going s room₀ answers₀ (d .state) (at + sizeOf left) (used + length (d .reply)) (lines + 1) (put room used (d .reply))
+          (set answers lines code)
       stepped = record {
         at-fits = omega (arith, sizes left left-some .fits, length-drop at s);
         used-fits = omega (arith, f .reply σ (length room₀ - used) (recOf left), g .used-fits);
         same-room = put-length room used (d .reply) ∙ g .same-room;
         same-answers = length-set answers lines code ∙ g .same-answers;
         slots = λ h. omega (arith, g .slots more, sizes left left-some .four, length-drop at s);
-        ends = sym (ap (endAfter did σ (length room₀ - used)) unroll ∙ ap (λ (m : ℕ). endAfter did (d .state) m (recsOf (drop (at + sizeOf left) s))) less) ∙ g .ends;
+        ends =
+            sym (ap (endAfter did σ (length room₀ - used)) unroll
+            ∙ ap (λ (m : ℕ). endAfter did (d .state) m (recsOf (drop (at + sizeOf left) s))) less) ∙ g .ends;
         counts = omega (arith, g .counts, ap length lines-more);
         sums = omega (arith, g .sums, ap (λ (ls : List Line). length (repliesOf ls)) lines-more, length-append (d .reply) (repliesOf rest));
-        replies = put-next room used (used + length (d .reply)) (d .reply) (repliesOf rest) refl ∙ sym (ap (λ (ls : List Line). put room used (repliesOf ls)) lines-more) ∙ g .replies;
+        replies =
+            put-next room used (used + length (d .reply)) (d .reply) (repliesOf rest) refl
+            ∙ sym (ap (λ (ls : List Line). put room used (repliesOf ls)) lines-more) ∙ g .replies;
         answered = rw (add-one lines) (sym (ap (λ (ls : List Line). put answers lines (codesOf ls)) lines-more) ∙ g .answered);
       }
 
       -- where the record at the front was read from the part l that was lent, and the turn left what it does
-      pub going-more : {l : List ℕ} {size next line : ℕ} {τ : S} {after : List ℕ} → l ≡ left → size ≡ sizeOf l → Turned did σ room used (recOf l) τ after next line
+      pub going-more : {l : List ℕ} {size next line : ℕ} {τ : S} {after : List ℕ} → l ≡ left → size ≡ sizeOf l →
+          Turned did σ room used (recOf l) τ after next line
           → Going s room₀ answers₀ τ (at + size) next (lines + 1) after (set answers lines line)
       going-more {l} {line = line} el es t =
           let e : did σ (length room - used) (recOf l) ≡ d = rw (g .same-room, el) refl in
-          let c : line ≡ code = t .told ∙ ap (λ (x : Did S). codeOf (kindIn (recOf l)) (x .answer) (length (x .reply))) e ∙ ap (λ (x : List ℕ). codeOf (kindIn (recOf x)) (d .answer) (length (d .reply))) el in
+          let c : line ≡ code = t .told ∙ ap (λ (x : Did S). codeOf (kindIn (recOf l)) (x .answer) (length (x .reply))) e
+          ∙ ap (λ (x : List ℕ). codeOf (kindIn (recOf x)) (d .answer) (length (d .reply))) el in
           rw (
             t .state ∙ ap (λ (x : Did S). x .state) e,
             es ∙ ap sizeOf el,

@@ -176,7 +176,8 @@ module _ (kind : ℕ) (p t : List ℕ) where
       rec-whole written (length p) kind written-whole (sym size-read) (sym kind-read)
       ∙ ap (whole kind) (ap (λ (k : ℕ). take k (p ++ t)) n ∙ take-at p t (length p) refl) in
       let rest : drop (sizeOf written) written ≡ t = ap (λ (k : ℕ). drop k written) size ∙ drop-at (recordOf kind p) t (4 + length p) (omega arith) in
-      recs-cons written (omega arith) ∙ ap (λ (r : Rec). r ∷ recsOf (drop (sizeOf written) written)) head ∙ ap (λ (l : List ℕ). whole kind p ∷ recsOf l) rest
+      recs-cons written (omega arith) ∙ ap (λ (r : Rec). r ∷ recsOf (drop (sizeOf written) written)) head
+      ∙ ap (λ (l : List ℕ). whole kind p ∷ recsOf l) rest
 
 -- what is put behind a record that was written stands behind it
 pub record-then : {kind : ℕ} {p before : List ℕ} {at next : ℕ} {after : List ℕ} → Recorded kind p before at next after → (rest : List ℕ)

@@ -66,7 +66,8 @@ whole-more s at w = omega (arith, whole-head (part (length s - at) s at) w, ap l
 pub room-left : (room : List ℕ) (used : ℕ) → length (part (length room - used) room used) ≡ length room - used
 room-left room used = ap length (part-rest room used) ∙ length-drop used room
 
-module _ {S : Type 0} (k : Steps S) (did : S → ℕ → Rec → Did S) (same : (σ : S) (room : ℕ) (r : Rec) → did σ room r ≡ recordBy k σ room r) (Good : S → Type 0) where
+module _ {S : Type 0} (k : Steps S) (did : S → ℕ → Rec → Did S) (same : (σ : S) (room : ℕ) (r : Rec) → did σ room r ≡ recordBy k σ room r)
+    (Good : S → Type 0) where
   -- ---- what each arm leaves
 
   pub record Turn (σ : S) (room : List ℕ) (used : ℕ) (l : List ℕ) (τ : S) (after : List ℕ) (next line : ℕ) : Type 0 where
@@ -140,10 +141,12 @@ module _ {S : Type 0} (k : Steps S) (did : S → ℕ → Rec → Did S) (same : 
 
   -- it ends before a record that is cut, which is told behind it
   pub ended-cut : {start : S} {s room₀ answers₀ : List ℕ} {σ : S} {at used lines line : ℕ} {room answers : List ℕ}
-      → Fits did → Replying k → Stands start s room₀ answers₀ σ at used lines room answers → at < length s → wholeOf (part (length s - at) s at) ≡ false → line ≡ codeOf 0 2 0
+      → Fits did → Replying k → Stands start s room₀ answers₀ σ at used lines room answers → at < length s →
+      wholeOf (part (length s - at) s at) ≡ false → line ≡ codeOf 0 2 0
       → Running did start s room₀ answers₀ (record { outcome = Done; state = σ; lines = lines + 1; replied = used }) room (set answers lines line)
   ended-cut {start} {s} {σ = σ} {at} {used} {room = room} fits replying g more w e =
       let l = part (length s - at) s at in
       let f = front k replying σ (length room - used) l (read-cut (k .told σ) (length room - used) l w) in
       let t = turn-idle f (g .wf) refl refl refl refl e in
-      going-end did start (going-more did start (g .going) more fits (part-rest s at) (sym (size-cut l w)) (t .left)) (omega (arith, ap length (part-rest s at), length-drop at s))
+      going-end did start (going-more did start (g .going) more fits (part-rest s at) (sym (size-cut l w)) (t .left))
+      (omega (arith, ap length (part-rest s at), length-drop at s))

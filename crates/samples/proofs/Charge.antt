@@ -15,7 +15,8 @@ use Rattle.state.specs.declared.Charge.{Charge}
 use Rattle.state.specs.State.{ChargeWF, acrOf}
 use Rattle.conversion.specs.Conversion.{fallOf, grownOf, addedOf, agedOf, turnedOf, negative, countedOf, blankedOf}
 use Rattle.conversion.proofs.ChargeLaws.{counted-wf}
-use Rattle.samples.specs.Stretch.{grownOver, addsOver, dropsOver, ageOver, agingOver, wornOver, countOver, fallenOver, emptyOver, chargeOver, learnfOver}
+use Rattle.samples.specs.Stretch.{grownOver, addsOver, dropsOver, ageOver, agingOver, wornOver, countOver}
+use Rattle.samples.specs.Stretch.{fallenOver, emptyOver, chargeOver, learnfOver}
 use Rattle.samples.proofs.Numbers.{either-way, reached, clamped-more, rises, falls, rises-on, falls-on, lost, lost-fits, lost-due, lost-still}
 
 -- ---- step 3

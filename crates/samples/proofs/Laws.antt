@@ -13,7 +13,8 @@ use Rattle.params.specs.declared.Counting.{Counting}
 use Rattle.params.specs.declared.Limits.{Limits}
 use Rattle.params.specs.Params.{countingOf, limitsOf, capacityOf}
 use Rattle.state.specs.declared.Charge.{Charge}
-use Rattle.conversion.specs.Conversion.{currentOf, tracedOf, fallOf, countedOf, cycledOf, withFlags, offsetTurn, eighth, averagedOf, renewedOf, foundOf, settledOf, convertedOf, filledFlags, flowedOf, chargedOf, convertOf}
+use Rattle.conversion.specs.Conversion.{currentOf, tracedOf, fallOf, countedOf, cycledOf, withFlags, offsetTurn, eighth, averagedOf, renewedOf}
+use Rattle.conversion.specs.Conversion.{foundOf, settledOf, convertedOf, filledFlags, flowedOf, chargedOf, convertOf}
 use Rattle.state.specs.declared.Cycles.{Cycles}
 use Rattle.conversion.proofs.CycleLaws.{cycled-more}
 use Rattle.state.specs.declared.Average.{Average}

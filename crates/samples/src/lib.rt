@@ -12,7 +12,8 @@ ghost use mathlib.Core.Path.{_≡_};
 ghost use Prim.Native.Nat.{_≤_};
 ghost use Rattle.state.specs.State.{ChargeWF, AverageWF, MeterWF};
 ghost use Rattle.samples.specs.Samples.{sampledOf, sampleOf};
-ghost use Rattle.samples.specs.Stretch.{grownOver, addsOver, countOver, dropsOver, ageOver, agingOver, wornOver, learnfOver, chargeOver, traceOver, seventhOf, averageOver, flowedOver, stretchedOf, reachOf};
+ghost use Rattle.samples.specs.Stretch.{grownOver, addsOver, countOver, dropsOver, ageOver, agingOver, wornOver, learnfOver};
+ghost use Rattle.samples.specs.Stretch.{chargeOver, traceOver, seventhOf, averageOver, flowedOver, stretchedOf, reachOf};
 
 // ---- a stretch: k conversions of the same c, of which none but the last may find full
 

@@ -1,4 +1,5 @@
--- The refusals of an image out, in the numbers of the paper: 5 before an image was accepted, else 9 for a room under 60, or under 61 of kind 8; "nothing is written".
+-- The refusals of an image out, in the numbers of the paper: 5 before an image was accepted,
+-- else 9 for a room under 60, or under 61 of kind 8; "nothing is written".
 use mathlib.Core.Path.{_≡_}
 use mathlib.Core.Bool.{true, false}
 use mathlib.Core.List.{List}

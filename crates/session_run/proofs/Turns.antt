@@ -34,12 +34,14 @@ abbrev pub Turn : Session → List ℕ → ℕ → List ℕ → Bool → Gauge �
 Turn σ room used l loaded gauge = every.Turn ofSession didOf did-same SessionWF σ room used l (record { loaded = loaded; gauge = gauge })
 
 abbrev pub Stands : Session → List ℕ → List ℕ → List ℕ → Bool → Gauge → ℕ → ℕ → ℕ → List ℕ → List ℕ → Type 0
-Stands start s room₀ answers₀ loaded gauge = every.Stands ofSession didOf did-same SessionWF start s room₀ answers₀ (record { loaded = loaded; gauge = gauge })
+Stands start s room₀ answers₀ loaded gauge =
+    every.Stands ofSession didOf did-same SessionWF start s room₀ answers₀ (record { loaded = loaded; gauge = gauge })
 
 -- an event that was taken came at its time, with a payload of its kind's size
 pub ran-taking : {σ : Session} {room : ℕ} {l : List ℕ} {used : ℕ} {e : Event} → Ran ofSession σ room l used e
     → Taking false (σ .loaded) (payloadOf used l) (taken.Run e)
-ran-taking {σ} {l = l} {used} x = subst (Taking false (σ .loaded) (payloadOf used l)) (x .told) (timed-taking (σ .loaded) (payloadOf used l) (lastTick σ) (pairAt l 2))
+ran-taking {σ} {l = l} {used} x =
+    subst (Taking false (σ .loaded) (payloadOf used l)) (x .told) (timed-taking (σ .loaded) (payloadOf used l) (lastTick σ) (pairAt l 2))
 
 -- a state in which an image was accepted
 with-gauge : {loaded : Bool} {gauge g h : Gauge} → GaugeWF g → loaded ≡ true → gauge ≡ g → g ≡ h

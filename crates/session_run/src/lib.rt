@@ -40,7 +40,8 @@ pub fn empty() -> Session
 fn run_all(bytes: &[u8], room: &mut [u8], answers: &mut [u64]) -> Ran
     requires { ⌜ length (now bytes) ≤ 32768 ⌝ }
     requires { ⌜ (length (now bytes) + 3) / 4 ≤ length (now answers) ⌝ }
-    ensures { λ r. ⌜ Running didOf emptyOf (now (bytes .entry)) (now (room .entry)) (now (answers .entry)) (resultOf r) (now (room .exit)) (now (answers .exit)) ⌝ }
+    ensures { λ r. ⌜ Running didOf emptyOf (now (bytes .entry)) (now (room .entry)) (now (answers .entry)) (resultOf r) (now (room .exit))
+        (now (answers .exit)) ⌝ }
 {
     let start = empty();
     let mut loaded = start.loaded;
@@ -124,7 +125,8 @@ fn idle(outcome: Outcome) -> Ran
 // A whole session: an answer for each record, the replies one after the other at the front of the room, the state at the end. Nothing
 // is run and nothing written where it is over 32,768 bytes, or where fewer answers are lent than it may have records.
 pub fn run(bytes: &[u8], room: &mut [u8], answers: &mut [u64]) -> Ran
-    ensures { λ r. ⌜ Runs didOf emptyOf (now (bytes .entry)) (now (room .entry)) (now (answers .entry)) (resultOf r) (now (room .exit)) (now (answers .exit)) ⌝ }
+    ensures { λ r. ⌜ Runs didOf emptyOf (now (bytes .entry)) (now (room .entry)) (now (answers .entry)) (resultOf r) (now (room .exit))
+        (now (answers .exit)) ⌝ }
 {
     match runs::outcome_of(bytes.len(), answers.len()) {
         Outcome::Done => run_all(bytes, room, answers),

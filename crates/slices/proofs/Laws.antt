@@ -9,7 +9,8 @@ use native.Mathlib.Numerals.{add-one}
 use native.Mathlib.Omega.{arith}
 use lib.Dec.{eqb, leb}
 use lib.ListN.{length, getD, take, drop, set, length-append, length-take, length-drop, length-set, drop-of-length-le}
-use lib.Seq.{sets-eq, length-sets, drop-cons, drop-length, take-add, take-all, take-nil, take-at, drop-at, drop-drop, length-take-le, getD-set-same, getD-set-other, getD-take, getD-drop}
+use lib.Seq.{sets-eq, length-sets, drop-cons, drop-length, take-add, take-all, take-nil, take-at, drop-at}
+use lib.Seq.{drop-drop, length-take-le, getD-set-same, getD-set-other, getD-take, getD-drop}
 use borrow.Author.Tests.{eqb-true, eqb-false, leb-true, leb-false}
 use Rattle.slices.specs.Slices.{part, put, laidOf, pairAt}
 
@@ -74,7 +75,8 @@ put-copy l s at n e h =
 part-both : (m n : ℕ) (s : List ℕ) (at : ℕ) → part (m + n) s at ≡ part m s at ++ part n s (at + m)
 part-both m n s at = take-add m n (drop at s) ∙ ap (λ (r : List ℕ). part m s at ++ take n r) (drop-drop m at s)
 
-pub put-both : (l s : List ℕ) (at m n : ℕ) → length l ≡ m + n → at + (m + n) ≤ length s → put (put l 0 (part m s at)) m (part n s (at + m)) ≡ part (m + n) s at
+pub put-both : (l s : List ℕ) (at m n : ℕ) → length l ≡ m + n → at + (m + n) ≤ length s →
+    put (put l 0 (part m s at)) m (part n s (at + m)) ≡ part (m + n) s at
 put-both l s at m n e h =
     put-next l 0 m (part m s at) (part n s (at + m)) (omega (arith, part-length m s at (omega arith)))
     ∙ ap (put l 0) (sym (part-both m n s at))
@@ -128,7 +130,8 @@ put-other l i (v ∷ vs) j d h =
     ∙ getD-set-other l i j v d (λ e. ⊎-elim (λ f. omega arith) (λ f. omega arith) h)
 
 -- any other index has what was put there
-put-same : (l : List ℕ) (i : ℕ) (vs : List ℕ) (j d : ℕ) → j < length l → i ≤ j → j < i + length vs → getD (put l i vs) j d ≡ getD vs (j - i) d
+put-same : (l : List ℕ) (i : ℕ) (vs : List ℕ) (j d : ℕ) → j < length l → i ≤ j → j < i + length vs →
+    getD (put l i vs) j d ≡ getD vs (j - i) d
 put-same l i [] j d inside low high = absurd (omega arith)
 put-same l i (v ∷ vs) j d inside low high =
     go (eqb i j) refl (λ apart. put-same (set l i v) (suc i) vs j d (rw (length-set l i v) inside) (omega arith) (omega arith))

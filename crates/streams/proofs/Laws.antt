@@ -46,7 +46,8 @@ module _ {A : Type 0} (f : List ℕ → A) (over : A) (most : ℕ) (alike : (t :
 
 -- ---- two ways to say the same are one
 
-module _ {what : Speech} {before : List ℕ} {x y : Said} {after after′ : List ℕ} (h : Saying what before x after) (h′ : Saying what before y after′) where
+module _ {what : Speech} {before : List ℕ} {x y : Said} {after after′ : List ℕ} (h : Saying what before x after)
+    (h′ : Saying what before y after′) where
   pub same-said : x ≡ y
   same-said = λ i. record { stream = (h .stream ∙ sym (h′ .stream)) i; count = (h .counted ∙ sym (h′ .counted)) i }
 

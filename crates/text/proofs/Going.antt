@@ -58,7 +58,8 @@ module _ {codes replies before : List ℕ} {at : ℕ} {room : List ℕ} {next us
   more {after = after} {last = last} {count = count} h e w₁ w₂ w₃ =
       let asked = codeReplied (getD codes i 0) in
       let left = drop used replies in
-      let w : Writing (17 + 2 * length (take count left)) (lineText (i + 1) (codeKind (getD codes i 0)) (codeAnswer (getD codes i 0)) (take count left)) room next last after
+      let w : Writing (17 + 2 * length (take count left)) (lineText (i + 1) (codeKind (getD codes i 0)) (codeAnswer (getD codes i 0)) (take count left))
+      room next last after
       = wider (then (then w₁ w₂) (rw (part-rest replies used) at w₃)) (omega arith) in
       let n : count ≡ min asked (length left) = rw (part-rest replies used) at e in
       let size : length (take count left) ≡ count = length-take-le count left (omega arith) in

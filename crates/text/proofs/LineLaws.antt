@@ -15,6 +15,7 @@ done-text kind small =
     let low : kind % 256 ≡ kind = omega (arith, small) in
     rw (high, low, sym (single 0 (omega arith))) refl
 
-pub done : {i j k m : ℕ} {l l′ l″ l‴ : List ℕ} (kind : ℕ) → kind < 256 → Writing 3 (ascii " 00") l i j l′ → Writing 2 (pairText lower kind) l′ j k l″
+pub done : {i j k m : ℕ} {l l′ l″ l‴ : List ℕ} (kind : ℕ) → kind < 256 → Writing 3 (ascii " 00") l i j l′ →
+    Writing 2 (pairText lower kind) l′ j k l″
     → Writing 3 (ascii " 0 ") l″ k m l‴ → Writing 8 (fieldsText kind 0) l i m l‴
 done kind small w₁ w₂ w₃ = rw (← done-text kind small) (then w₁ (then w₂ w₃))

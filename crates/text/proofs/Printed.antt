@@ -48,9 +48,12 @@ module _ {S : Type 0} (did : S → ℕ → Rec → Did S) (start : S) (f : Fits 
     told-done h run =
         let ls = lines (length room) in
         let few : length (codesOf ls) ≤ length answers = omega (arith, codes-length ls, lines-few did start (length room) s) in
-        let codes : take (r .lines) told ≡ codesOf ls = rw (run .answered) (front answers (codesOf ls) (r .lines) (run .lines ∙ sym (codes-length ls)) few) in
-        let replies : take (r .replied) after ≡ repliesOf ls = rw (run .replies) (front room (repliesOf ls) (r .replied) (run .replied) (lines-fit did f start (length room) (recsOf s))) in
-        rw (run .outcome, codes, replies, ← append-nil (repliesOf ls)) (ap (λ (t : List ℕ). headerText ++ t) (codes-lines 1 ls [] (lines-coded did f start (length room) s bytes)))
+        let codes : take (r .lines) told
+        ≡ codesOf ls = rw (run .answered) (front answers (codesOf ls) (r .lines) (run .lines ∙ sym (codes-length ls)) few) in
+        let replies : take (r .replied) after
+        ≡ repliesOf ls = rw (run .replies) (front room (repliesOf ls) (r .replied) (run .replied) (lines-fit did f start (length room) (recsOf s))) in
+        rw (run .outcome, codes, replies, ← append-nil (repliesOf ls))
+        (ap (λ (t : List ℕ). headerText ++ t) (codes-lines 1 ls [] (lines-coded did f start (length room) s bytes)))
 
     told-text : (o : Outcome) → outcomeOf (length s) (length answers) ≡ o → RunsTo did start o s room answers r after told
         → codedText (r .outcome) (take (r .lines) told) (take (r .replied) after) ≡ textOf o (lines (length room))
@@ -70,7 +73,8 @@ module _ {S : Type 0} (did : S → ℕ → Rec → Did S) (start : S) (f : Fits 
         rw (le-leb _ _ numbered, le-leb _ _ all) (told-text (outcomeOf (length s) (length answers)) refl runs)
 
     -- so what `report` writes of a run for which a program lent 8,192 answers and 65,536 bytes of reply room is the text of the session
-    pub session-text : {before out : List ℕ} {count : ℕ} → 8192 ≡ length answers → 65536 ≡ length room → Runs did start s room answers r after told
+    pub session-text : {before out : List ℕ} {count : ℕ} → 8192 ≡ length answers → 65536 ≡ length room →
+        Runs did start s room answers r after told
         → mostOf 8192 65536 ≤ length before
         → Reporting (reportOf (r .outcome) (take (r .lines) told) (take (r .replied) after) (length before)) before count out
         → Reporting (textOf (outcomeOf (length s) 8192) (lines 65536)) before count out

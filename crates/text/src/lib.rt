@@ -77,7 +77,8 @@ pub fn put_end(table: &[u8; 512], reply: &[u8], out: &mut [u8], at: usize) -> us
 fn put_codes(codes: &[u64], replies: &[u8], out: &mut [u8], at: usize) -> usize
     requires { ⌜ length (now codes) ≤ 99999 ⌝ }
     requires { ⌜ at + (17 * length (now codes) + 2 * length (now replies)) ≤ length (now out) ⌝ }
-    ensures { λ r. ⌜ Writing (17 * length (now (codes .entry)) + 2 * length (now (replies .entry))) (codesText 1 (now (codes .entry)) (now (replies .entry))) (now (out .entry)) at r (now (out .exit)) ⌝ }
+    ensures { λ r. ⌜ Writing (17 * length (now (codes .entry)) + 2 * length (now (replies .entry)))
+        (codesText 1 (now (codes .entry)) (now (replies .entry))) (now (out .entry)) at r (now (out .exit)) ⌝ }
 {
     let table = digits::lower_pairs();
     let mut four = digits::packed(1);
@@ -129,7 +130,8 @@ fn put_over(out: &mut [u8], at: usize) -> usize
 
 fn put_coded(outcome: Outcome, codes: &[u64], replies: &[u8], out: &mut [u8]) -> usize
     requires { ⌜ Held (length (now codes)) (length (now replies)) (length (now out)) ⌝ }
-    ensures { λ r. ⌜ Writing (mostOf (length (now (codes .entry))) (length (now (replies .entry)))) (codedText outcome (now (codes .entry)) (now (replies .entry))) (now (out .entry)) 0 r (now (out .exit)) ⌝ }
+    ensures { λ r. ⌜ Writing (mostOf (length (now (codes .entry))) (length (now (replies .entry))))
+        (codedText outcome (now (codes .entry)) (now (replies .entry))) (now (out .entry)) 0 r (now (out .exit)) ⌝ }
 {
     match outcome {
         Outcome::Done => {
@@ -161,7 +163,8 @@ fn fits(lines: usize, replied: usize, room: usize) -> bool
 // and of as many bytes of the lent replies. 0, and nothing is written, where the lines are more than five digits can number, or where the room
 // is less than such a text can take: 36 bytes, 17 for each line, 2 for each byte of the replies.
 pub fn report(ended: Ended, answers: &[u64], replies: &[u8], out: &mut [u8]) -> usize
-    ensures { λ r. ⌜ Reporting (endedText ended (now (answers .entry)) (now (replies .entry)) (length (now (out .entry)))) (now (out .entry)) r (now (out .exit)) ⌝ }
+    ensures { λ r. ⌜ Reporting (endedText ended (now (answers .entry)) (now (replies .entry)) (length (now (out .entry))))
+        (now (out .entry)) r (now (out .exit)) ⌝ }
 {
     let outcome = ended.outcome;
     let lines = slices::lesser(ended.lines, answers.len());

@@ -22,7 +22,8 @@ fn put_session(bytes: &[u8], out: &mut [u8]) -> usize
 
 // What the program says. A byte more than a session may have is enough to know of any input. (That the room keeps its length is said for `main`.)
 fn printed(input: &[u8; 32769], got: Input, room: &mut [u8; 270372]) -> Said
-    ensures { λ r. ⌜ ((s : List ℕ) → Front s (now (input .entry)) (got .count) → Saying (trayPrintedOf (got .failed) s) (now (room .entry)) r (now (room .exit))) ⌝ }
+    ensures { λ r. ⌜ ((s : List ℕ) → Front s (now (input .entry)) (got .count) →
+        Saying (trayPrintedOf (got .failed) s) (now (room .entry)) r (now (room .exit))) ⌝ }
     ensures { λ _. ⌜ 270372 ≡ length (now (room .exit)) ⌝ }
 {
     if got.failed {

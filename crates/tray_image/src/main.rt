@@ -102,7 +102,8 @@ fn put_asked(word: &[u8], bytes: &[u8], room: &mut [u8]) -> Said
 
 // What the program says. A byte more than a session may have is enough to know of any input. (That the room keeps its length is said for `main`.)
 fn extracted(word: &[u8], input: &[u8; 32769], got: Input, room: &mut [u8; 61]) -> Said
-    ensures { λ r. ⌜ ((s : List ℕ) → Front s (now (input .entry)) (got .count) → Saying (trayImageOf (got .failed) (now (word .entry)) s) (now (room .entry)) r (now (room .exit))) ⌝ }
+    ensures { λ r. ⌜ ((s : List ℕ) → Front s (now (input .entry)) (got .count) →
+        Saying (trayImageOf (got .failed) (now (word .entry)) s) (now (room .entry)) r (now (room .exit))) ⌝ }
     ensures { λ _. ⌜ 61 ≡ length (now (room .exit)) ⌝ }
 {
     if got.failed {

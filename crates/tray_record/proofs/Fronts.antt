@@ -32,7 +32,8 @@ use Rattle.runs.proofs.AnyRecord.{read-whole, read-cut}
 use Rattle.tray_record.specs.declared.Tray.{Tray}
 use Rattle.tray_record.proofs.Laws.{within}
 use Rattle.runs.specs.declared.Record.{Record}
-use Rattle.tray_record.specs.Tray.{noGauge, packOf, searchOf, isFound, trayKindOf, aheadOf, slotIn, acceptedFor, trayAskedBy, trayAskedAt, againOf, slotTick, trayTold, namedSlot, imageAt, TrayWF}
+use Rattle.tray_record.specs.Tray.{noGauge, packOf, searchOf, isFound, trayKindOf, aheadOf, slotIn, acceptedFor, trayAskedBy}
+use Rattle.tray_record.specs.Tray.{trayAskedAt, againOf, slotTick, trayTold, namedSlot, imageAt, TrayWF}
 
 -- ---- what is asked looks at the address of an image of its size alone, and at the tick of a slot that has a pack
 
@@ -53,11 +54,13 @@ module _ (room count : ℕ) (closed : Bool) (p : List ℕ) (again again′ : Boo
       ap (λ (b : Bool). takenBy b (kind.Image f) (acceptedFor count closed (kind.Image f) p) p) (h (eqb-true (length p) (imageSizeOf f) e))
   sized-image f false e h = rw e refl
 
-  sampled : (b : Bool) → ltb (slotIn p) count ≡ b → (ltb (slotIn p) count ≡ true → last ≡ last′) → asks again last kind.Sample ≡ asks again′ last′ kind.Sample
+  sampled : (b : Bool) → ltb (slotIn p) count ≡ b → (ltb (slotIn p) count ≡ true → last ≡ last′) →
+      asks again last kind.Sample ≡ asks again′ last′ kind.Sample
   sampled true e h = ap (λ (t : Tick). asks again t kind.Sample) (h e)
   sampled false e h = rw e (late (sizedOf kind.Sample (length (drop 1 p))))
     where
-      late : (s : Bool) → fittedOf room (timedOf last (pick s (Refused Order) (Refused Size))) ≡ fittedOf room (timedOf last′ (pick s (Refused Order) (Refused Size)))
+      late : (s : Bool) → fittedOf room (timedOf last (pick s (Refused Order) (Refused Size)))
+          ≡ fittedOf room (timedOf last′ (pick s (Refused Order) (Refused Size)))
       late true = refl
       late false = refl
 
@@ -78,7 +81,8 @@ module _ (room count : ℕ) (closed : Bool) (p : List ℕ) (again again′ : Boo
         → fittedOf room (trayAskedBy count closed again last k p) ≡ fittedOf room (trayAskedBy count closed again′ last′ k p)
     asked-same k image = go (leb (aheadOf k) (length p)) refl
       where
-        go : (b : Bool) → leb (aheadOf k) (length p) ≡ b → fittedOf room (trayAskedBy count closed again last k p) ≡ fittedOf room (trayAskedBy count closed again′ last′ k p)
+        go : (b : Bool) → leb (aheadOf k) (length p) ≡ b →
+            fittedOf room (trayAskedBy count closed again last k p) ≡ fittedOf room (trayAskedBy count closed again′ last′ k p)
         go true e = rw e (by-kind k (leb-true (aheadOf k) (length p) e) image)
         go false e = rw e refl
 
@@ -155,7 +159,8 @@ module _ (τ : Tray) (w : TrayWF τ) (room : ℕ) (l : List ℕ) where
     front-whole : frontBy (trayAskedAt (τ .count) (τ .closed) againAt tickAt) room l ≡ frontBy (trayTold τ) room l
     front-whole =
         sym (read-whole _ room l n (pairAt l 2) whole refl refl refl)
-        ∙ ap (takenRead (pairAt l 2) (4 + n)) (asked-same room (τ .count) (τ .closed) p againAt (againOf τ p) tickAt (slotTick τ p) slot (trayKindOf (pairAt l 2)) image)
+        ∙ ap (takenRead (pairAt l 2) (4 + n))
+        (asked-same room (τ .count) (τ .closed) p againAt (againOf τ p) tickAt (slotTick τ p) slot (trayKindOf (pairAt l 2)) image)
         ∙ read-whole _ room l n (pairAt l 2) whole refl refl refl
 
   pub front-told : frontBy (trayAskedAt (τ .count) (τ .closed) againAt tickAt) room l ≡ frontBy (trayTold τ) room l
@@ -174,9 +179,11 @@ module _ (τ : Tray) (w : TrayWF τ) (room : ℕ) (l : List ℕ) where
 
   pub tick-read : {i : ℕ} (d : Meter) → i ≡ namedSlot l → i < 8 → getD (τ .meters) i d .flow .tick ≡ tickAt
   tick-read {i} d e h =
-      ap (λ (m : Meter). m .flow .tick) (within (τ .meters) i d (noGauge .meter) (omega (arith, w .sizes .2))) ∙ ap (λ (j : ℕ). packOf τ j .meter .flow .tick) e
+      ap (λ (m : Meter). m .flow .tick) (within (τ .meters) i d (noGauge .meter) (omega (arith, w .sizes .2)))
+      ∙ ap (λ (j : ℕ). packOf τ j .meter .flow .tick) e
 
-  pub front-read : {again : Bool} {last : Tick} {r : Record} → again ≡ againAt → last ≡ tickAt → r ≡ frontBy (trayAskedAt (τ .count) (τ .closed) again last) room l
+  pub front-read : {again : Bool} {last : Tick} {r : Record} → again ≡ againAt → last ≡ tickAt →
+      r ≡ frontBy (trayAskedAt (τ .count) (τ .closed) again last) room l
       → r ≡ frontBy (trayTold τ) room l
   front-read ea el er = er ∙ (λ x. frontBy (trayAskedAt (τ .count) (τ .closed) (ea x) (el x)) room l) ∙ front-told
 
@@ -185,7 +192,8 @@ pub image-long : (l : List ℕ) → imageAt l ≡ true → 4 + imageSize ≤ len
 unfolding imageAt
 image-long l e = by (ltb (length l) (4 + imageSize)) refl e
   where
-    by : (b : Bool) → ltb (length l) (4 + imageSize) ≡ b → pick b false (either (eqb (pairAt l 2) 1) (eqb (pairAt l 2) 8)) ≡ true → 4 + imageSize ≤ length l
+    by : (b : Bool) → ltb (length l) (4 + imageSize) ≡ b → pick b false (either (eqb (pairAt l 2) 1) (eqb (pairAt l 2) 8)) ≡ true →
+        4 + imageSize ≤ length l
     by true f g = absurd (never g)
       where
         Is : Bool → Type 0

@@ -30,7 +30,8 @@ use Rattle.record.specs.Record.{takenBy, timedOf, fittedOf}
 use Rattle.tray_record.specs.declared.Tray.{Tray}
 use Rattle.tray_record.specs.declared.Found.{Found}
 use Rattle.tray_record.specs.declared.Found.the-variants.{At, Nowhere}
-use Rattle.tray_record.specs.Tray.{searchFrom, searchOf, matchedOf, aimedBy, noGauge, emptyTray, packOf, storedOf, actedAt, TrayWF, trayKindOf, aheadOf, acceptedFor, trayAskedAt}
+use Rattle.tray_record.specs.Tray.{searchFrom, searchOf, matchedOf, aimedBy, noGauge, emptyTray, packOf, storedOf}
+use Rattle.tray_record.specs.Tray.{actedAt, TrayWF, trayKindOf, aheadOf, acceptedFor, trayAskedAt}
 
 -- ---- before the first record every place has the same
 
@@ -51,7 +52,8 @@ within (x ∷ l) (suc i) d e h = within l i d e (omega arith)
 -- ---- a pack that is stored
 
 -- what holds of each and of the new one holds of each afterwards
-pub set-each : {A : Type 0} (P : A → Type 0) (d : A) (l : List A) (i : ℕ) (x : A) → P x → ((j : ℕ) → P (getD l j d)) → (j : ℕ) → P (getD (set l i x) j d)
+pub set-each : {A : Type 0} (P : A → Type 0) (d : A) (l : List A) (i : ℕ) (x : A) → P x → ((j : ℕ) → P (getD l j d)) → (j : ℕ) →
+    P (getD (set l i x) j d)
 set-each P d [] i x p h j = h j
 set-each P d (y ∷ l) zero x p h zero = p
 set-each P d (y ∷ l) zero x p h (suc j) = h (suc j)
@@ -70,7 +72,8 @@ stored-wf τ i g w v = record {
 }
 
 -- a pack as it was read
-pub pack-at : (τ : Tray) (i : ℕ) (k : Common) (l : Label) (m : Meter) → (length (τ .commons) ≡ 8) × (length (τ .labels) ≡ 8) × (length (τ .meters) ≡ 8) → i < 8
+pub pack-at : (τ : Tray) (i : ℕ) (k : Common) (l : Label) (m : Meter) →
+    (length (τ .commons) ≡ 8) × (length (τ .labels) ≡ 8) × (length (τ .meters) ≡ 8) → i < 8
     → _≡_ {A = Gauge} (record { common = getD (τ .commons) i k; label = getD (τ .labels) i l; meter = getD (τ .meters) i m }) (packOf τ i)
 pack-at τ i k l m sizes h = λ x. record {
   common = within (τ .commons) i k (noGauge .common) (omega (arith, sizes .0)) x;
@@ -101,7 +104,8 @@ stored-other τ i j g h = λ x. record {
 
 -- ---- what a record asks
 
-module _ (room n count : ℕ) (closed again : Bool) (last : Tick) (p : List ℕ) {k : Kind} {from : ℕ} (ek : k ≡ trayKindOf n) (ef : from ≡ aheadOf k) where
+module _ (room n count : ℕ) (closed again : Bool) (last : Tick) (p : List ℕ) {k : Kind} {from : ℕ} (ek : k ≡ trayKindOf n)
+    (ef : from ≡ aheadOf k) where
   -- the slot byte is missing
   pub asked-short : length p < from → Refused Size ≡ fittedOf room (trayAskedAt count closed again last n p)
   asked-short h = rw (← ek, lt-leb (aheadOf k) (length p) (omega (arith, ef))) refl
@@ -144,9 +148,11 @@ search-below : (commons : List Common) (past : Common) (address : List ℕ) (i n
 search-below commons past address i zero = tt
 search-below commons past address i (suc n) =
     picked (Below (i + suc n)) (sameBytes (getD commons i past .address) address) (At i) _ (λ hit. omega arith)
-    (λ miss. let e : i + 1 + n ≡ i + suc n = omega arith in subst (λ (m : ℕ). Below m (searchFrom commons past address (i + 1) n)) e (search-below commons past address (i + 1) n))
+    (λ miss. let e : i + 1 + n ≡ i + suc n = omega arith in
+    subst (λ (m : ℕ). Below m (searchFrom commons past address (i + 1) n)) e (search-below commons past address (i + 1) n))
 
-pub aimed-below : (rom : Rom) (commons : List Common) (count : ℕ) (master : List ℕ) {i : ℕ} → aimedBy rom (matchedOf commons count master) ≡ At i → i < count
+pub aimed-below : (rom : Rom) (commons : List Common) (count : ℕ) (master : List ℕ) {i : ℕ} →
+    aimedBy rom (matchedOf commons count master) ≡ At i → i < count
 unfolding matchedOf searchOf
 aimed-below said commons count master e = subst (Below count) e (by said)
   where

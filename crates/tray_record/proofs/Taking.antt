@@ -66,7 +66,8 @@ module _ (count : ℕ) (closed : Bool) (p : List ℕ) where
       never z = subst Is z tt
   opening false e = (refl, leb-false 8 count e)
 
-  by-event : (again : Bool) (k : Kind) → aheadOf k ≤ length p → (t : Taken) → Sorted k t → Taking again (acceptedFor count closed k p) (drop (aheadOf k) p) t
+  by-event : (again : Bool) (k : Kind) → aheadOf k ≤ length p → (t : Taken) → Sorted k t →
+      Taking again (acceptedFor count closed k p) (drop (aheadOf k) p) t
       → TrayTaking again t
   by-event again k h (Run (Image f)) s x =
       let e = image-kind k s in

@@ -22,7 +22,8 @@ ghost use Rattle.gauge.specs.Act.{actOf, replyOf};
 ghost use Rattle.record.specs.Record.{fittedOf};
 ghost use Rattle.runs.specs.AnyRecord.{frontBy};
 ghost use Rattle.tray_record.specs.Wire.{andBytes};
-ghost use Rattle.tray_record.specs.Tray.{emptyTray, TrayWF, searchOf, trayKindOf, aheadOf, acceptedFor, trayAskedAt, isFound, matchedOf, aimedBy, trayReach, packOf, actedAt, actedFirst, wiredFirst, trayActed, trayReply, namedSlot, imageAt};
+ghost use Rattle.tray_record.specs.Tray.{emptyTray, TrayWF, searchOf, trayKindOf, aheadOf, acceptedFor, trayAskedAt, isFound, matchedOf, aimedBy};
+ghost use Rattle.tray_record.specs.Tray.{trayReach, packOf, actedAt, actedFirst, wiredFirst, trayActed, trayReply, namedSlot, imageAt};
 
 // The packs on one line, each by its parts; how many there are; and whether the opening is closed.
 pub struct Tray {
@@ -258,7 +259,8 @@ fn every(mut tray: Tray, transaction: Transaction, master: &[u8], room: &mut [u8
     requires { ⌜ transaction .count ≤ 256 ⌝ }
     requires { ⌜ transaction .count ≤ length (now room) ⌝ }
     ensures { λ r. ⌜ r ≡ actedFirst transaction (now (master .entry)) tray (tray .count) ⌝ }
-    ensures replied { λ r. ⌜ now (room .exit) ≡ wiredFirst transaction (now (master .entry)) tray (tray .count) ++ drop (transaction .count) (now (room .entry)) ⌝ }
+    ensures replied { λ r. ⌜ now (room .exit)
+        ≡ wiredFirst transaction (now (master .entry)) tray (tray .count) ++ drop (transaction .count) (now (room .entry)) ⌝ }
     ensures kept { λ r. ⌜ TrayWF r ⌝ }
 {
     let n = transaction.count as usize;
@@ -308,7 +310,8 @@ fn one(mut tray: Tray, slot: u8, transaction: Transaction, master: &[u8], room: 
     requires { ⌜ slot < 8 ⌝ }
     requires { ⌜ transaction .count ≤ length (now room) ⌝ }
     ensures { λ r. ⌜ r ≡ actedAt transaction (now (master .entry)) tray slot tray ⌝ }
-    ensures replied { λ r. ⌜ now (room .exit) ≡ replyOf (packOf tray slot) transaction (now (master .entry)) ++ drop (transaction .count) (now (room .entry)) ⌝ }
+    ensures replied { λ r. ⌜ now (room .exit)
+        ≡ replyOf (packOf tray slot) transaction (now (master .entry)) ++ drop (transaction .count) (now (room .entry)) ⌝ }
     ensures kept { λ r. ⌜ TrayWF r ⌝ }
 {
     let i = slices::wide(slot);
@@ -336,7 +339,8 @@ pub fn transacted(tray: Tray, transaction: Transaction, master: &[u8], room: &mu
     requires { ⌜ transaction .count ≤ 256 ⌝ }
     requires { ⌜ transaction .count ≤ length (now room) ⌝ }
     ensures { λ r. ⌜ r ≡ trayActed transaction (now (master .entry)) (trayReach tray transaction (now (master .entry))) tray ⌝ }
-    ensures replied { λ r. ⌜ now (room .exit) ≡ trayReply transaction (now (master .entry)) (trayReach tray transaction (now (master .entry))) tray ++ drop (transaction .count) (now (room .entry)) ⌝ }
+    ensures replied { λ r. ⌜ now (room .exit) ≡ trayReply transaction (now (master .entry)) (trayReach tray transaction (now (master .entry)))
+        tray ++ drop (transaction .count) (now (room .entry)) ⌝ }
     ensures kept { λ r. ⌜ TrayWF r ⌝ }
 {
     let rom = transaction.rom;

@@ -1,4 +1,5 @@
--- The refusals of an image out of a slot, in the numbers of the paper: 5 for a slot without an image, else 9 for a room under 60, or under 61; nothing is written.
+-- The refusals of an image out of a slot, in the numbers of the paper: 5 for a slot without an
+-- image, else 9 for a room under 60, or under 61; nothing is written.
 use mathlib.Core.Path.{_≡_, refl, ap, _∙_}
 use mathlib.Core.Bool.{Bool, true, false}
 use mathlib.Core.List.{List, [], _∷_}
@@ -31,7 +32,8 @@ pub below : (τ : Tray) (i : ℕ) → slotHeld τ i ≡ true → i < 8
 below τ i e = ltb-true i 8 (both-true (ltb i 8) (ltb i (τ .count)) e .0)
 
 -- what the pack in the slot leaves in the room
-pub slot-out : (τ : Tray) (i : ℕ) {g : Gauge} {room after : List ℕ} {answer : ℕ} {done : Bool} → slotHeld τ i ≡ true → g ≡ packOf τ i → ImageOut g room done after
+pub slot-out : (τ : Tray) (i : ℕ) {g : Gauge} {room after : List ℕ} {answer : ℕ} {done : Bool} → slotHeld τ i ≡ true → g ≡ packOf τ i →
+    ImageOut g room done after
     → answer ≡ pick done 0 9 → SlotOut τ i room answer after
 slot-out τ i {g} {room} {after} h e o n = record {
   number = n ∙ ap (λ (b : Bool). pick b 0 9) (o .fits) ∙ ap (λ (k : Gauge). pick (leb (sizeFor k) (length room)) 0 9) e ∙ rw h refl;

@@ -36,7 +36,8 @@ use Rattle.runs.proofs.Fronts.{payloadOf, Ran, Front}
 use Rattle.runs.proofs.Turns as every
 use Rattle.runs.proofs.Turns.{master-part}
 use Rattle.tray_record.specs.declared.Tray.{Tray}
-use Rattle.tray_record.specs.Tray.{noGauge, packOf, storedOf, closedOf, packJoined, slotIn, againOf, namedSlot, trayReach, trayActed, trayReply, ofTray, trayDid, TrayWF}
+use Rattle.tray_record.specs.Tray.{noGauge, packOf, storedOf, closedOf, packJoined, slotIn, againOf, namedSlot}
+use Rattle.tray_record.specs.Tray.{trayReach, trayActed, trayReply, ofTray, trayDid, TrayWF}
 use Rattle.tray_record.proofs.Laws.{within, set-each}
 use Rattle.tray_record.proofs.Hearing.{tray-replying}
 use Rattle.tray_record.proofs.Fronts.{named-slot}
@@ -63,10 +64,12 @@ ran-taking {τ} {l = l} {used} x =
     subst (TrayTaking (τ .count) (τ .closed) (payloadOf used l) (againOf τ (payloadOf used l))) (x .told) (tray-taking τ (pairAt l 2) (payloadOf used l))
 
 -- the slot of a slot's event is one of eight, and the one that was named
-slot-inside : {τ : Tray} {room : ℕ} {l : List ℕ} {used : ℕ} {c : Changes} → TrayWF τ → Ran ofTray τ room l used (Change c) → slotIn (payloadOf used l) < 8
+slot-inside : {τ : Tray} {room : ℕ} {l : List ℕ} {used : ℕ} {c : Changes} → TrayWF τ → Ran ofTray τ room l used (Change c) →
+    slotIn (payloadOf used l) < 8
 slot-inside w x = omega (arith, ran-taking x .1, w .few)
 
-slot-named : {τ : Tray} {room : ℕ} {l : List ℕ} {used : ℕ} {c : Changes} {i : ℕ} → TrayWF τ → Ran ofTray τ room l used (Change c) → i ≡ namedSlot l → i ≡ slotIn (payloadOf used l)
+slot-named : {τ : Tray} {room : ℕ} {l : List ℕ} {used : ℕ} {c : Changes} {i : ℕ} → TrayWF τ → Ran ofTray τ room l used (Change c) →
+    i ≡ namedSlot l → i ≡ slotIn (payloadOf used l)
 slot-named {l = l} {used} w x e = e ∙ named-slot (used - 4) l (ran-taking x .0) (slot-inside w x)
 
 -- ---- what a slot's event leaves
@@ -88,7 +91,13 @@ module _ (τ : Tray) (i : ℕ) (w : TrayWF τ) (h : i < 8) where
   parts-stored : (g : Gauge) → g .common ≡ packOf τ i .common → partsAt τ i (g .label) (g .meter) ≡ storedOf τ i g
   parts-stored g e =
       let c = set-itself (τ .commons) i (noGauge .common) (omega (arith, w .sizes .0)) in
-      λ x. record { count = τ .count; closed = τ .closed; commons = (sym (ap (set (τ .commons) i) e ∙ c)) x; labels = set (τ .labels) i (g .label); meters = set (τ .meters) i (g .meter) }
+      λ x. record {
+        count = τ .count;
+        closed = τ .closed;
+        commons = (sym (ap (set (τ .commons) i) e ∙ c)) x;
+        labels = set (τ .labels) i (g .label);
+        meters = set (τ .meters) i (g .meter);
+      }
 
   meter-stored : (m : Meter) → meterAt τ i m ≡ closedOf (storedOf τ i (withMeter (packOf τ i) m))
   meter-stored m =
@@ -96,11 +105,13 @@ module _ (τ : Tray) (i : ℕ) (w : TrayWF τ) (h : i < 8) where
       (λ x. record { count = τ .count; closed = true; commons = τ .commons; labels = (sym l) x; meters = set (τ .meters) i m })
       ∙ ap closedOf (parts-stored (withMeter (packOf τ i) m) refl)
 
-  powered-stored : (b : Label) (d : Meter) {l : Label} {m : Meter} → l ≡ labelPoweredOf (getD (τ .labels) i b) → m ≡ restartedOf (getD (τ .meters) i d)
+  powered-stored : (b : Label) (d : Meter) {l : Label} {m : Meter} → l ≡ labelPoweredOf (getD (τ .labels) i b) →
+      m ≡ restartedOf (getD (τ .meters) i d)
       → partsAt τ i l m ≡ storedOf τ i (powerOnOf (packOf τ i))
   unfolding powerOnOf
   powered-stored b d {l} {m} el em =
-      let label : l ≡ labelPoweredOf (packOf τ i .label) = el ∙ ap labelPoweredOf (within (τ .labels) i b (noGauge .label) (omega (arith, w .sizes .1))) in
+      let label : l ≡ labelPoweredOf (packOf τ i .label) = el
+      ∙ ap labelPoweredOf (within (τ .labels) i b (noGauge .label) (omega (arith, w .sizes .1))) in
       let meter : m ≡ restartedOf (packOf τ i .meter) = em ∙ ap restartedOf (within (τ .meters) i d (noGauge .meter) (omega (arith, w .sizes .2))) in
       (λ x. partsAt τ i (label x) (meter x)) ∙ parts-stored (powerOnOf (packOf τ i)) refl
 
@@ -119,7 +130,14 @@ module _ (τ : Tray) (i : ℕ) (w : TrayWF τ) (h : i < 8) where
   }
 
 pub joined-at : (τ : Tray) {i : ℕ} {g h : Gauge} → i ≡ τ .count → g ≡ h
-    → _≡_ {A = Tray} (record { count = τ .count + 1; closed = τ .closed; commons = set (τ .commons) i (g .common); labels = set (τ .labels) i (g .label); meters = set (τ .meters) i (g .meter) })
+    → _≡_ {A = Tray} (record {
+      count = τ .count
+          + 1;
+      closed = τ .closed;
+      commons = set (τ .commons) i (g .common);
+      labels = set (τ .labels) i (g .label);
+      meters = set (τ .meters) i (g .meter);
+    })
     (packJoined τ h)
 joined-at τ ei eg = rw (ei, eg) refl
 
@@ -152,7 +170,8 @@ sample-by raw tick g = refl
 
 module _ {τ : Tray} {room : List ℕ} {used : ℕ} {l : List ℕ} {r : Record} {σ : Tray} {after : List ℕ} {next line : ℕ}
     (f : Front ofTray τ (length room - used) l r) (w : TrayWF τ) where
-  pub turn-idle : r .event ≡ asked.Nothing → σ ≡ τ → after ≡ room → next ≡ used → line ≡ codeOf (r .kind) (r .answer) 0 → Turn τ room used l σ after next line
+  pub turn-idle : r .event ≡ asked.Nothing → σ ≡ τ → after ≡ room → next ≡ used → line ≡ codeOf (r .kind) (r .answer) 0 →
+      Turn τ room used l σ after next line
   turn-idle a e = every.turn-idle ofTray trayDid did-same TrayWF f (subst TrayWF (sym e) w) a e
 
   pub turn-image : {k : Profile} {θ : Tray} → Ran ofTray τ (length room - used) l (r .used) (Image k) → TrayWF θ
@@ -167,25 +186,32 @@ module _ {τ : Tray} {room : List ℕ} {used : ℕ} {l : List ℕ} {r : Record} 
         → after ≡ room → next ≡ used → line ≡ codeOf (r .kind) (r .answer) 0 → Turn τ room used l σ after next line
     done {g} eg e v =
         let s : σ ≡ closedOf (storedOf τ (slotIn (payloadOf (r .used) l)) (changedOf (packOf τ (slotIn (payloadOf (r .used) l))) c)) =
-        e ∙ ap (λ (h : Gauge). closedOf (storedOf τ i h)) (sym eg) ∙ ap (λ (j : ℕ). closedOf (storedOf τ j (changedOf (packOf τ j) c))) (slot-named w x ei) in
+        e ∙ ap (λ (h : Gauge). closedOf (storedOf τ i h)) (sym eg)
+        ∙ ap (λ (j : ℕ). closedOf (storedOf τ j (changedOf (packOf τ j) c))) (slot-named w x ei) in
         every.turn-silent ofTray trayDid did-same TrayWF f v x (ap (λ (t : Tray). silently t 0) (sym s))
 
-    pub turn-meter : (M : Meter → Meter) → ((g : Gauge) → changedOf g c ≡ withMeter g (M (g .meter))) → (d : Meter) {m : Meter} → MeterWF m → m ≡ M (getD (τ .meters) i d)
+    pub turn-meter : (M : Meter → Meter) → ((g : Gauge) → changedOf g c ≡ withMeter g (M (g .meter))) → (d : Meter) {m : Meter} → MeterWF m →
+        m ≡ M (getD (τ .meters) i d)
         → σ ≡ meterAt τ i m → after ≡ room → next ≡ used → line ≡ codeOf (r .kind) (r .answer) 0 → Turn τ room used l σ after next line
     turn-meter M by d {m} v em e =
         let inside : i < 8 = omega (arith, slot-named w x ei, slot-inside w x) in
         let same : m ≡ M (packOf τ i .meter) = em ∙ ap M (within (τ .meters) i d (noGauge .meter) (omega (arith, inside, w .sizes .2))) in
-        done (by (packOf τ i) ∙ ap (withMeter (packOf τ i)) (sym same)) (e ∙ meter-stored τ i w inside m) (subst TrayWF (sym e) (meter-wf τ i w inside m v))
+        done (by (packOf τ i) ∙ ap (withMeter (packOf τ i)) (sym same)) (e ∙ meter-stored τ i w inside m)
+        (subst TrayWF (sym e) (meter-wf τ i w inside m v))
 
-    pub turn-powered : c ≡ PowerOn → (b : Label) (d : Meter) {n : Label} {m : Meter} → MeterWF m → n ≡ labelPoweredOf (getD (τ .labels) i b) → m ≡ restartedOf (getD (τ .meters) i d)
-        → σ ≡ closedOf (partsAt τ i n m) → after ≡ room → next ≡ used → line ≡ codeOf (r .kind) (r .answer) 0 → Turn τ room used l σ after next line
+    pub turn-powered : c ≡ PowerOn → (b : Label) (d : Meter) {n : Label} {m : Meter} → MeterWF m → n ≡ labelPoweredOf (getD (τ .labels) i b) →
+        m ≡ restartedOf (getD (τ .meters) i d)
+        → σ ≡ closedOf (partsAt τ i n m) → after ≡ room → next ≡ used → line ≡ codeOf (r .kind) (r .answer) 0 →
+        Turn τ room used l σ after next line
     turn-powered ec b d {n} {m} v en em e =
         let inside : i < 8 = omega (arith, slot-named w x ei, slot-inside w x) in
         let u = parts-wf τ i w inside n m v in
-        done (ap (changedOf (packOf τ i)) ec) (e ∙ ap closedOf (powered-stored τ i w inside b d en em)) (subst TrayWF (sym e) (record { few = u .few; sizes = u .sizes; packs = u .packs }))
+        done (ap (changedOf (packOf τ i)) ec) (e ∙ ap closedOf (powered-stored τ i w inside b d en em))
+        (subst TrayWF (sym e) (record { few = u .few; sizes = u .sizes; packs = u .packs }))
 
   -- a transaction: its master bytes were lent, and the room that is left
-  pub turn-transact : {t : Transaction} {back : List ℕ} {θ : Tray} → Ran ofTray τ (length room - used) l (r .used) (Transact t) → used ≤ length room → TrayWF θ
+  pub turn-transact : {t : Transaction} {back : List ℕ} {θ : Tray} → Ran ofTray τ (length room - used) l (r .used) (Transact t) →
+      used ≤ length room → TrayWF θ
       → let m = part (r .used - (4 + t .start)) l (4 + t .start) in θ ≡ trayActed t m (trayReach τ t m) τ
       → back ≡ trayReply t m (trayReach τ t m) τ ++ drop (t .count) (part (length room - used) room used)
       → σ ≡ closedOf θ
@@ -193,6 +219,9 @@ module _ {τ : Tray} {room : List ℕ} {used : ℕ} {l : List ℕ} {r : Record} 
       → next ≡ used + t .count → line ≡ codeOf (r .kind) (r .answer) (t .count) → Turn τ room used l σ after next line
   turn-transact {t} {back} {θ} x fits v e ea eσ =
       let m = master-part (r .used) (t .start) l in
-      let s : σ ≡ closedOf (trayActed t (masterOf t (payloadOf (r .used) l)) (trayReach τ t (masterOf t (payloadOf (r .used) l))) τ) = eσ ∙ ap closedOf (e ∙ ap (λ (b : List ℕ). trayActed t b (trayReach τ t b) τ) (sym m)) in
-      let b : back ≡ trayReply t (masterOf t (payloadOf (r .used) l)) (trayReach τ t (masterOf t (payloadOf (r .used) l))) τ ++ drop (t .count) (part (length room - used) room used) = rw m ea in
-      every.turn-reply ofTray trayDid did-same TrayWF f (subst TrayWF (sym eσ) (record { few = v .few; sizes = v .sizes; packs = v .packs })) tray-replying x fits s b
+      let s : σ ≡ closedOf (trayActed t (masterOf t (payloadOf (r .used) l)) (trayReach τ t (masterOf t (payloadOf (r .used) l))) τ) = eσ
+      ∙ ap closedOf (e ∙ ap (λ (b : List ℕ). trayActed t b (trayReach τ t b) τ) (sym m)) in
+      let b : back ≡ trayReply t (masterOf t (payloadOf (r .used) l)) (trayReach τ t (masterOf t (payloadOf (r .used) l))) τ
+      ++ drop (t .count) (part (length room - used) room used) = rw m ea in
+      every.turn-reply ofTray trayDid did-same TrayWF f (subst TrayWF (sym eσ) (record { few = v .few; sizes = v .sizes; packs = v .packs })) tray-replying
+      x fits s b

@@ -52,7 +52,8 @@ fn pack_joined(before: Tray, profile: Profile, image: &[u8]) -> Tray
 fn run_all(bytes: &[u8], room: &mut [u8], answers: &mut [u64]) -> Ran
     requires { ⌜ length (now bytes) ≤ 32768 ⌝ }
     requires { ⌜ (length (now bytes) + 3) / 4 ≤ length (now answers) ⌝ }
-    ensures { λ r. ⌜ Running trayDid emptyTray (now (bytes .entry)) (now (room .entry)) (now (answers .entry)) (trayResultOf r) (now (room .exit)) (now (answers .exit)) ⌝ }
+    ensures { λ r. ⌜ Running trayDid emptyTray (now (bytes .entry)) (now (room .entry)) (now (answers .entry)) (trayResultOf r) (now (room .exit))
+        (now (answers .exit)) ⌝ }
 {
     let mut tray = tray_record::empty();
     let mut at = 0;
@@ -214,7 +215,8 @@ pub fn image_size(tray: Tray, slot: u8) -> usize
 // A whole tray session: an answer for each record, the replies one after the other at the front of the room, the state at the end. Nothing
 // is run and nothing written where it is over 32,768 bytes, or where fewer answers are lent than it may have records.
 pub fn run(bytes: &[u8], room: &mut [u8], answers: &mut [u64]) -> Ran
-    ensures { λ r. ⌜ Runs trayDid emptyTray (now (bytes .entry)) (now (room .entry)) (now (answers .entry)) (trayResultOf r) (now (room .exit)) (now (answers .exit)) ⌝ }
+    ensures { λ r. ⌜ Runs trayDid emptyTray (now (bytes .entry)) (now (room .entry)) (now (answers .entry)) (trayResultOf r) (now (room .exit))
+        (now (answers .exit)) ⌝ }
 {
     match runs::outcome_of(bytes.len(), answers.len()) {
         Outcome::Done => run_all(bytes, room, answers),

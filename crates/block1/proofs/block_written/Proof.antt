@@ -14,7 +14,10 @@ unfolding blockWrittenOf
 returns c =
     let test = c .before .before .before .before in
     let start = test .before .before .before .args in
-    simp (not-true (start .locked) (test .if2 .taken), laid-sized 0x60 (start .block .shadow) (start .a) (now (start .bytes)) 32 (search needs) (c .before .laid .ensures))
+    simp (
+      not-true (start .locked) (test .if2 .taken),
+      laid-sized 0x60 (start .block .shadow) (start .a) (now (start .bytes)) 32 (search needs) (c .before .laid .ensures),
+    )
 
 returns-2 : tie.Need-returns-2
 returns-2 c =

@@ -36,4 +36,5 @@ returns-3 c =
     simp (sym (c1 .reaches .ensures) ∙ c .if1 .left)
 
 pub cycles-written-spec : {M : Type 1} → statement M
-cycles-written-spec = tie.close (tie.spec (λ c κs. search needs) (λ c κs. search needs) (λ c κs. search needs) byte-for-requires returns returns-2 returns-3)
+cycles-written-spec =
+    tie.close (tie.spec (λ c κs. search needs) (λ c κs. search needs) (λ c κs. search needs) byte-for-requires returns returns-2 returns-3)

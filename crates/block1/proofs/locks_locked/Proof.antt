@@ -9,4 +9,6 @@ returns c =
     simp (c .or2 .ensures, c .before .and .ensures, clear .and-not .ensures, clear .before .or .ensures, one .in-label .ensures, one .before .in-block .ensures)
 
 pub locks-locked-spec : {M : Type 1} → statement M
-locks-locked-spec = tie.close (tie.spec (λ c κs. search needs) (λ c κs. search needs) (λ c κs. search needs) (λ c κs. search needs) (λ c κs. search needs) (λ c κs. search needs) returns)
+locks-locked-spec =
+    tie.close (tie.spec (λ c κs. search needs) (λ c κs. search needs) (λ c κs. search needs) (λ c κs. search needs) (λ c κs. search needs)
+    (λ c κs. search needs) returns)

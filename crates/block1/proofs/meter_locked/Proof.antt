@@ -6,8 +6,9 @@ use Rattle.block1.proofs.meter_locked.Tie as tie
 returns : tie.Need-returns
 unfolding meterLockedOf
 returns c =
-    let w = c .before .before .before .pre in (
-      simp (c .before .before .locks-locked .ensures),
+    let at-locks-locked = c .before .before in
+    let w = at-locks-locked .before .pre in (
+      simp (at-locks-locked .locks-locked .ensures),
       record { charge = w .charge; average = w .average; full = w .full; volt = w .volt; temp = w .temp },
     )
 

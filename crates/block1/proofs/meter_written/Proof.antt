@@ -10,8 +10,16 @@ use borrow.Author.Needs.{needs}
 use Rattle.block1.proofs.meter_written.Statement.{statement}
 use Rattle.block1.proofs.meter_written.Tie as tie
 
+-- places: `a→b` leads from the record of the place a back to that of the place b
+abbrev then1→start : tie.Then1 → tie.Start
+then1→start c = c .before .before .before
+
+abbrev acr-written→start : tie.After-acr-written → tie.Start
+acr-written→start c = then1→start (c .before .before)
+
 -- the charge is that after a write of ACR, and nothing of the flow is written
-charged : (c : tie.After-acr-written) → let a = c .before .before .before .before .before .args in c .acr-written .result ≡ meterWrittenOf (a .meter) (a .a) (now (a .bytes)) .charge
+charged : (c : tie.After-acr-written) → let a = acr-written→start c .args in
+    c .acr-written .result ≡ meterWrittenOf (a .meter) (a .a) (now (a .bytes)) .charge
 unfolding meterWrittenOf
 charged c = c .acr-written .ensures .0
 

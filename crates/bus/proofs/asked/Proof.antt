@@ -9,7 +9,8 @@ use Rattle.bus.proofs.asked.Statement.{statement}
 use Rattle.bus.proofs.asked.Tie as tie
 
 -- what an arm of the match gives, where the first byte says that arm
-arm : (start count : ℕ) (master : List ℕ) (said rom : Rom) (r : Transaction) → said ≡ romOf master → said ≡ rom → r ≡ askedBy start count master rom → r ≡ askedOf start count master
+arm : (start count : ℕ) (master : List ℕ) (said rom : Rom) (r : Transaction) → said ≡ romOf master → said ≡ rom →
+    r ≡ askedBy start count master rom → r ≡ askedOf start count master
 unfolding askedOf
 arm start count master said rom r e told given = given ∙ ap (askedBy start count master) (sym told ∙ e)
 

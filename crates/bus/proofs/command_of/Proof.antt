@@ -17,15 +17,33 @@ returns-3 c = simp (ne-eqb _ _ (c .before .before .if1 .left), ne-eqb _ _ (c .be
 
 returns-4 : tie.Need-returns-4
 unfolding commandOf
-returns-4 c = simp (ne-eqb _ _ (c .before .before .before .if1 .left), ne-eqb _ _ (c .before .before .if2 .left), ne-eqb _ _ (c .before .if3 .left), eq-eqb _ _ (c .if4 .taken))
+returns-4 c =
+    let at-else2 = c .before .before in
+    simp (ne-eqb _ _ (at-else2 .before .if1 .left), ne-eqb _ _ (at-else2 .if2 .left), ne-eqb _ _ (c .before .if3 .left), eq-eqb _ _ (c .if4 .taken))
 
 returns-5 : tie.Need-returns-5
 unfolding commandOf
-returns-5 c = simp (ne-eqb _ _ (c .before .before .before .before .if1 .left), ne-eqb _ _ (c .before .before .before .if2 .left), ne-eqb _ _ (c .before .before .if3 .left), ne-eqb _ _ (c .before .if4 .left), eq-eqb _ _ (c .if5 .taken))
+returns-5 c =
+    let at-else3 = c .before .before in
+    simp (
+      ne-eqb _ _ (at-else3 .before .before .if1 .left),
+      ne-eqb _ _ (at-else3 .before .if2 .left),
+      ne-eqb _ _ (at-else3 .if3 .left),
+      ne-eqb _ _ (c .before .if4 .left),
+      eq-eqb _ _ (c .if5 .taken),
+    )
 
 returns-6 : tie.Need-returns-6
 unfolding commandOf
-returns-6 c = simp (ne-eqb _ _ (c .before .before .before .before .if1 .left), ne-eqb _ _ (c .before .before .before .if2 .left), ne-eqb _ _ (c .before .before .if3 .left), ne-eqb _ _ (c .before .if4 .left), ne-eqb _ _ (c .if5 .left))
+returns-6 c =
+    let at-else3 = c .before .before in
+    simp (
+      ne-eqb _ _ (at-else3 .before .before .if1 .left),
+      ne-eqb _ _ (at-else3 .before .if2 .left),
+      ne-eqb _ _ (at-else3 .if3 .left),
+      ne-eqb _ _ (c .before .if4 .left),
+      ne-eqb _ _ (c .if5 .left),
+    )
 
 pub command-of-spec : {M : Type 1} → statement M
 command-of-spec = tie.close (tie.spec returns returns-2 returns-3 returns-4 returns-5 returns-6)

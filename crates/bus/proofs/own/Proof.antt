@@ -5,6 +5,10 @@ use borrow.Author.Needs.{needs}
 use Rattle.bus.proofs.own.Statement.{statement}
 use Rattle.bus.proofs.own.Tie as tie
 
+-- places: `a→b` leads from the record of the place a back to that of the place b
+abbrev number82→number8 : tie.After-number82 → tie.After-number8
+number82→number8 c = c .before .before
+
 returns : tie.Need-returns
 unfolding ownOf
 returns c = simp (lt-ltb _ _ (c .if1 .taken))
@@ -29,7 +33,7 @@ number8-requires-2 c κs = search needs
 
 returns-2 : tie.Need-returns-2
 returns-2 c =
-    own-numbers _ _ (c .before .before .before .before .if1 .left) (search needs) (c .before .before .number8 .ensures) (c .number82 .ensures)
+    own-numbers _ _ (number82→number8 c .before .before .if1 .left) (search needs) (number82→number8 c .number8 .ensures) (c .number82 .ensures)
 
 pub own-spec : {M : Type 1} → statement M
 own-spec =

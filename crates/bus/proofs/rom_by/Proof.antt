@@ -17,11 +17,15 @@ returns-3 c = simp (ne-eqb _ _ (c .before .before .if1 .left), ne-eqb _ _ (c .be
 
 returns-4 : tie.Need-returns-4
 unfolding romBy
-returns-4 c = simp (ne-eqb _ _ (c .before .before .before .if1 .left), ne-eqb _ _ (c .before .before .if2 .left), ne-eqb _ _ (c .before .if3 .left), eq-eqb _ _ (c .if4 .taken))
+returns-4 c =
+    let at-else2 = c .before .before in
+    simp (ne-eqb _ _ (at-else2 .before .if1 .left), ne-eqb _ _ (at-else2 .if2 .left), ne-eqb _ _ (c .before .if3 .left), eq-eqb _ _ (c .if4 .taken))
 
 returns-5 : tie.Need-returns-5
 unfolding romBy
-returns-5 c = simp (ne-eqb _ _ (c .before .before .before .if1 .left), ne-eqb _ _ (c .before .before .if2 .left), ne-eqb _ _ (c .before .if3 .left), ne-eqb _ _ (c .if4 .left))
+returns-5 c =
+    let at-else2 = c .before .before in
+    simp (ne-eqb _ _ (at-else2 .before .if1 .left), ne-eqb _ _ (at-else2 .if2 .left), ne-eqb _ _ (c .before .if3 .left), ne-eqb _ _ (c .if4 .left))
 
 pub rom-by-spec : {M : Type 1} → statement M
 rom-by-spec = tie.close (tie.spec returns returns-2 returns-3 returns-4 returns-5)

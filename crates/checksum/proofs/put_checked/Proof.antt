@@ -9,11 +9,16 @@ use Rattle.checksum.proofs.put_checked.Tie as tie
 
 returns : tie.Need-returns
 unfolding checkedText
-returns c = rw (lt-ltb _ _ (c .before .before .before .before .before .if1 .taken)) (wider (c .before .before .put-bytes .ensures) (omega arith))
+returns c =
+    let at-put-bytes = c .before .before in
+    let at-then1 = at-put-bytes .before .before .before in
+    rw (lt-ltb _ _ (at-then1 .if1 .taken)) (wider (at-put-bytes .put-bytes .ensures) (omega arith))
 
 returns-2 : tie.Need-returns-2
 unfolding checkedText
-returns-2 c = rw (le-ltb _ _ (c .before .before .before .before .if1 .left)) (wider (c .before .before .put-sums .ensures) (omega arith))
+returns-2 c =
+    let at-put-sums = c .before .before in
+    rw (le-ltb _ _ (at-put-sums .before .before .if1 .left)) (wider (at-put-sums .put-sums .ensures) (omega arith))
 
 pub put-checked-spec : {M : Type 1} → statement M
 put-checked-spec =

@@ -16,10 +16,14 @@ returns c = (λ s front. rw (c .before .before .before .if1 .taken) (c .put-unre
 
 returns-2 : tie.Need-returns-2
 returns-2 c =
-    let size : length (now (c .before .before .before .before .before .before .before .args .input)) ≡ 65537 = omega arith in
-    let read = ap checkedText (cut (c .before .before .before .before .within .ensures)) in (
+    let at-all = c .before .before .before in
+    let at-within = at-all .before in
+    let at-else1 = at-within .before .before in
+    let at-start = at-else1 .before in
+    let size : length (now (at-start .args .input)) ≡ 65537 = omega arith in
+    let read = ap checkedText (cut (at-within .within .ensures)) in (
       λ s front.
-          rw (c .before .before .before .before .before .before .if1 .left, ← read ∙ seen checkedText cutText 65536 alike size front)
+          rw (at-else1 .if1 .left, ← read ∙ seen checkedText cutText 65536 alike size front)
           (record { stream = refl; counted = c .put-checked .ensures .onward ∙ zero-add _; written = c .put-checked .ensures .written }),
       search needs,
     )

@@ -8,6 +8,10 @@ use borrow.Author.Needs.{needs}
 use Rattle.conversion.proofs.charged.Statement.{statement}
 use Rattle.conversion.proofs.charged.Tie as tie
 
+-- places: `a→b` leads from the record of the place a back to that of the place b
+abbrev meter3→advanced : tie.After-meter3 → tie.After-advanced
+meter3→advanced c = c .before .before
+
 -- the places, from the first on
 abbrev start : tie.After-counts-cycles → tie.Start
 start c = c .before .before .before
@@ -16,7 +20,7 @@ abbrev counting : tie.After-of → tie.Then1
 counting c = c .before .before .before
 
 abbrev shared : tie.After-meter3 → tie.After-of
-shared c = c .before .before .before .before
+shared c = meter3→advanced c .before .before
 
 returns : tie.Need-returns
 returns c =
@@ -28,7 +32,7 @@ returns c =
     let fell = first .pre .1 .1 in
     also MeterWF
     ((λ i. withCycles (withCharge m (s .charge))
-    ((c .before .before .advanced .ensures ∙ (λ j. advancedOf (of .of .ensures j .full40) (m .cycles .count) (m .cycles .rest + fell j))) i))
+    ((meter3→advanced c .advanced .ensures ∙ (λ j. advancedOf (of .of .ensures j .full40) (m .cycles .count) (m .cycles .rest + fell j))) i))
     ∙ charged-counts m _ (s .charge) (sym (turn .before .counts-cycles .ensures) ∙ turn .if1 .taken))
     (charged-wf m (s .charge) _ (first .pre .1 .0) (first .pre .0))
 

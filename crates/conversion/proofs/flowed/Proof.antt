@@ -50,4 +50,6 @@ returns c =
     (search needs) (c5 .pre))
 
 pub flowed-spec : {M : Type 1} → statement M
-flowed-spec = tie.close (tie.spec (λ c κs. search needs) (λ c κs. search needs) (λ c κs. search needs) (λ c κs. search needs) (λ c κs. search needs) averaged-requires returns)
+flowed-spec =
+    tie.close (tie.spec (λ c κs. search needs) (λ c κs. search needs) (λ c κs. search needs) (λ c κs. search needs) (λ c κs. search needs)
+    averaged-requires returns)

@@ -20,4 +20,5 @@ returns-2 c =
 pub counted-up-spec : {M : Type 1} → statement M
 counted-up-spec =
     tie.close
-    (tie.spec (λ c. search needs) (λ c. search needs) (λ c. search needs) (λ c. search needs) (λ c. search needs) (λ c κs. search needs) returns returns-2 (λ c. search needs))
+    (tie.spec (λ c. search needs) (λ c. search needs) (λ c. search needs) (λ c. search needs) (λ c. search needs) (λ c κs. search needs) returns
+    returns-2 (λ c. search needs))

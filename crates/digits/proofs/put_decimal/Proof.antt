@@ -6,7 +6,11 @@ use Rattle.digits.proofs.put_decimal.Statement.{statement}
 use Rattle.digits.proofs.put_decimal.Tie as tie
 
 returns : tie.Need-returns
-returns c = wider (rw (single (c .before .before .before .before .before .before .args .n) (c .before .before .before .before .if1 .taken)) at (c .before .before .put-byte .ensures)) (omega arith)
+returns c =
+    let at-put-byte = c .before .before in
+    let at-then1 = at-put-byte .before .before in
+    let at-start = at-then1 .before .before in
+    wider (rw (single (at-start .args .n) (at-then1 .if1 .taken)) at (at-put-byte .put-byte .ensures)) (omega arith)
 
 pub put-decimal-spec : {M : Type 1} → statement M
 put-decimal-spec =

@@ -16,18 +16,28 @@ Inv-loop table few out₀ at next₀ i₀ out next i = (i ≤ length few) × Wri
 abbrev μ-loop : tie.MeasureT-loop
 μ-loop table few out₀ at next₀ i₀ out next i = length few - i
 
+-- places: `a→b` leads from the record of the place a back to that of the place b
+abbrev slice-known→start : tie.After-slice-known Inv-loop μ-loop → tie.Start Inv-loop μ-loop
+slice-known→start c = c .before .before
+
+abbrev put-entry-arg→loop : tie.After-put-entry-arg Inv-loop μ-loop → tie.At-loop Inv-loop μ-loop
+put-entry-arg→loop c = c .before .before .before
+
 loop-holds : tie.Need-loop-holds Inv-loop μ-loop
-loop-holds c = (omega arith, none (now (c .before .before .args .out)) (c .before .before .args .at))
+loop-holds c = (omega arith, none (now (slice-known→start c .args .out)) (slice-known→start c .args .at))
 
 put-entry-requires : tie.Need-put-entry-requires Inv-loop μ-loop
-put-entry-requires c κs = omega (arith, kept (c .before .before .before .loop .inv .1), c .before .before .before .loop .inv .1 .within)
+put-entry-requires c κs = omega (arith, kept (put-entry-arg→loop c .loop .inv .1), put-entry-arg→loop c .loop .inv .1 .within)
 
 loop-again : tie.Need-loop-again Inv-loop μ-loop
 loop-again c =
-    let turn = c .before .before .before .before .before in
-    let entry = c .before .before .put-entry .ensures in (
+    let at-put-entry = c .before .before in
+    let at-in-loop = at-put-entry .before .before .before in
+    let turn = at-in-loop in
+    let entry = at-put-entry .put-entry .ensures in (
       omega arith,
-      hex-then lower _ _ (turn .loop-test .taken) (turn .before .loop .inv .1) (rw (turn .before .before .before .before .pre .0, paired _ (entry .1)) at (entry .0)),
+      hex-then lower _ _ (turn .loop-test .taken) (turn .before .loop .inv .1)
+          (rw (turn .before .before .before .before .pre .0, paired _ (entry .1)) at (entry .0)),
     )
 
 same-length : tie.Need-same-length Inv-loop μ-loop

@@ -15,17 +15,30 @@ Inv-loop many out₀ at next₀ i₀ out next i = (i ≤ length many) × Writing
 abbrev μ-loop : tie.MeasureT-loop
 μ-loop many out₀ at next₀ i₀ out next i = length many - i
 
+-- places: `a→b` leads from the record of the place a back to that of the place b
+abbrev slice-known→start : tie.After-slice-known Inv-loop μ-loop → tie.Start Inv-loop μ-loop
+slice-known→start c = c .before .before
+
+abbrev put-pair-arg→loop : tie.After-put-pair-arg Inv-loop μ-loop → tie.At-loop Inv-loop μ-loop
+put-pair-arg→loop c = c .before .before .before
+
+abbrev slice-known2→put-pair : tie.After-slice-known2 Inv-loop μ-loop → tie.After-put-pair Inv-loop μ-loop
+slice-known2→put-pair c = c .before .before
+
+abbrev slice-known2→in-loop : tie.After-slice-known2 Inv-loop μ-loop → tie.In-loop Inv-loop μ-loop
+slice-known2→in-loop c = slice-known2→put-pair c .before .before .before
+
 loop-holds : tie.Need-loop-holds Inv-loop μ-loop
-loop-holds c = (omega arith, none (now (c .before .before .args .out)) (c .before .before .args .at))
+loop-holds c = (omega arith, none (now (slice-known→start c .args .out)) (slice-known→start c .args .at))
 
 put-pair-requires : tie.Need-put-pair-requires Inv-loop μ-loop
-put-pair-requires c κs = omega (arith, kept (c .before .before .before .loop .inv .1), c .before .before .before .loop .inv .1 .within)
+put-pair-requires c κs = omega (arith, kept (put-pair-arg→loop c .loop .inv .1), put-pair-arg→loop c .loop .inv .1 .within)
 
 loop-again : tie.Need-loop-again Inv-loop μ-loop
 loop-again c =
-    let turn = c .before .before .before .before .before in (
+    let turn = slice-known2→in-loop c in (
       omega arith,
-      hex-then lower _ _ (turn .loop-test .taken) (turn .before .loop .inv .1) (c .before .before .put-pair .ensures),
+      hex-then lower _ _ (turn .loop-test .taken) (turn .before .loop .inv .1) (slice-known2→put-pair c .put-pair .ensures),
     )
 
 same-length : tie.Need-same-length Inv-loop μ-loop

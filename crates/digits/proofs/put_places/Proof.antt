@@ -9,43 +9,82 @@ use borrow.Author.Needs.{needs}
 use Rattle.digits.proofs.put_places.Statement.{statement}
 use Rattle.digits.proofs.put_places.Tie as tie
 
+-- places: `a→b` leads from the record of the place a back to that of the place b
+abbrev else1→start : tie.Else1 → tie.Start
+else1→start c = c .before .before .before
+
+abbrev put-bytes-arg3→start : tie.After-put-bytes-arg3 → tie.Start
+put-bytes-arg3→start c = else1→start (c .before .before .before)
+
+abbrev put-bytes2→start : tie.After-put-bytes2 → tie.Start
+put-bytes2→start c = put-bytes-arg3→start (c .before)
+
 returns : tie.Need-returns
 unfolding decimalText
 returns c =
-    let n = c .before .before .before .before .before .before .before .args .n in
-    rw (shown n 10000 (omega arith), shown n 1000 (omega arith), shown n 100 (omega arith), shown n 10 (omega arith)) (wider (rw (c .before .before .before .before .before .before .before .pre .0) at (c .before .before .put-bytes .ensures)) (omega arith))
+    let at-put-bytes = c .before .before in
+    let at-all = at-put-bytes .before .before .before in
+    let at-start = at-all .before .before in
+    let n = at-start .args .n in
+    rw (shown n 10000 (omega arith), shown n 1000 (omega arith), shown n 100 (omega arith), shown n 10 (omega arith))
+    (wider (rw (at-start .pre .0) at (at-put-bytes .put-bytes .ensures)) (omega arith))
 
 -- the second arm is for numbers that reach the thousands
 reaches : (c : tie.Then2) → 1000 ≤ c .before .before .before .before .args .n
 reaches c = omega (arith, c .if2 .taken)
 
 -- it gives the last four digits
-four : (c : tie.After-put-bytes2) → let a = c .before .before .before .before .before .before .before .args in Writing 4 (drop 1 (placesOf (a .n))) (now (a .out)) (a .at) (c .put-bytes2 .result) (c .put-bytes2 .last .1 .0)
-four c = rw (c .before .before .before .before .before .before .before .pre .0) at (c .put-bytes2 .ensures)
+four : (c : tie.After-put-bytes2) → let a = put-bytes2→start c .args in
+    Writing 4 (drop 1 (placesOf (a .n))) (now (a .out)) (a .at) (c .put-bytes2 .result) (c .put-bytes2 .last .1 .0)
+four c =
+    let at-then2 = c .before .before .before in
+    let at-slice-known = at-then2 .before .before .before in
+    let at-start = at-slice-known .before in
+    rw (at-start .pre .0) at (c .put-bytes2 .ensures)
 
 returns-2 : tie.Need-returns-2
 unfolding decimalText
 returns-2 c =
-    let n = c .before .before .before .before .before .before .before .before .before .args .n in
-    rw (left-out n 10000 (omega arith), shown n 1000 (reaches (c .before .before .before .before .before)), shown n 100 (omega arith), shown n 10 (omega arith)) (wider (four (c .before .before)) (omega arith))
+    let at-put-bytes2 = c .before .before in
+    let at-then2 = at-put-bytes2 .before .before .before in
+    let at-slice-known = at-then2 .before .before .before in
+    let at-start = at-slice-known .before in
+    let n = at-start .args .n in
+    rw (left-out n 10000 (omega arith), shown n 1000 (reaches at-then2), shown n 100 (omega arith), shown n 10 (omega arith))
+    (wider (four at-put-bytes2) (omega arith))
 
 returns-3 : tie.Need-returns-3
 unfolding decimalText
 returns-3 c =
-    let n = c .before .before .before .before .before .before .before .before .before .before .args .n in
-    rw (left-out n 10000 (omega arith), left-out n 1000 (omega arith), shown n 100 (omega arith), shown n 10 (omega arith)) (wider (rw (c .before .before .before .before .before .before .before .before .before .before .pre .0) at (c .before .before .put-bytes3 .ensures)) (omega arith))
+    let at-put-bytes3 = c .before .before in
+    let at-then3 = at-put-bytes3 .before .before .before in
+    let at-all = at-then3 .before .before .before in
+    let at-start = at-all .before .before in
+    let n = at-start .args .n in
+    rw (left-out n 10000 (omega arith), left-out n 1000 (omega arith), shown n 100 (omega arith), shown n 10 (omega arith))
+    (wider (rw (at-start .pre .0) at (at-put-bytes3 .put-bytes3 .ensures)) (omega arith))
 
 returns-4 : tie.Need-returns-4
 unfolding decimalText
 returns-4 c =
-    let n = c .before .before .before .before .before .before .before .before .before .before .before .args .n in
-    rw (left-out n 10000 (omega arith), left-out n 1000 (omega arith), left-out n 100 (omega arith), shown n 10 (omega arith)) (wider (rw (c .before .before .before .before .before .before .before .before .before .before .before .pre .0) at (c .before .before .put-bytes4 .ensures)) (omega arith))
+    let at-put-bytes4 = c .before .before in
+    let at-then4 = at-put-bytes4 .before .before .before in
+    let at-else1 = at-then4 .before .before .before in
+    let at-start = at-else1 .before .before .before in
+    let n = at-start .args .n in
+    rw (left-out n 10000 (omega arith), left-out n 1000 (omega arith), left-out n 100 (omega arith), shown n 10 (omega arith))
+    (wider (rw (at-start .pre .0) at (at-put-bytes4 .put-bytes4 .ensures)) (omega arith))
 
 returns-5 : tie.Need-returns-5
 unfolding decimalText
 returns-5 c =
-    let n = c .before .before .before .before .before .before .before .before .before .before .before .args .n in
-    rw (left-out n 10000 (omega arith), left-out n 1000 (omega arith), left-out n 100 (omega arith), left-out n 10 (omega arith)) (wider (rw (c .before .before .before .before .before .before .before .before .before .before .before .pre .0) at (c .before .before .put-bytes5 .ensures)) (omega arith))
+    let at-put-bytes5 = c .before .before in
+    let at-else4 = at-put-bytes5 .before .before .before in
+    let at-else1 = at-else4 .before .before .before in
+    let at-start = at-else1 .before .before .before in
+    let n = at-start .args .n in
+    rw (left-out n 10000 (omega arith), left-out n 1000 (omega arith), left-out n 100 (omega arith), left-out n 10 (omega arith))
+    (wider (rw (at-start .pre .0) at (at-put-bytes5 .put-bytes5 .ensures)) (omega arith))
 
 pub put-places-spec : {M : Type 1} → statement M
 put-places-spec =

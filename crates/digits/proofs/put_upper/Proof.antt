@@ -15,17 +15,30 @@ Inv-loop bytes out₀ at next₀ i₀ out next i = (i ≤ length bytes) × Writi
 abbrev μ-loop : tie.MeasureT-loop
 μ-loop bytes out₀ at next₀ i₀ out next i = length bytes - i
 
+-- places: `a→b` leads from the record of the place a back to that of the place b
+abbrev slice-known→start : tie.After-slice-known Inv-loop μ-loop → tie.Start Inv-loop μ-loop
+slice-known→start c = c .before .before
+
+abbrev put-upper-pair-arg→loop : tie.After-put-upper-pair-arg Inv-loop μ-loop → tie.At-loop Inv-loop μ-loop
+put-upper-pair-arg→loop c = c .before .before .before
+
+abbrev slice-known2→put-upper-pair : tie.After-slice-known2 Inv-loop μ-loop → tie.After-put-upper-pair Inv-loop μ-loop
+slice-known2→put-upper-pair c = c .before .before
+
+abbrev slice-known2→in-loop : tie.After-slice-known2 Inv-loop μ-loop → tie.In-loop Inv-loop μ-loop
+slice-known2→in-loop c = slice-known2→put-upper-pair c .before .before .before
+
 loop-holds : tie.Need-loop-holds Inv-loop μ-loop
-loop-holds c = (omega arith, none (now (c .before .before .args .out)) (c .before .before .args .at))
+loop-holds c = (omega arith, none (now (slice-known→start c .args .out)) (slice-known→start c .args .at))
 
 put-upper-pair-requires : tie.Need-put-upper-pair-requires Inv-loop μ-loop
-put-upper-pair-requires c κs = omega (arith, kept (c .before .before .before .loop .inv .1), c .before .before .before .loop .inv .1 .within)
+put-upper-pair-requires c κs = omega (arith, kept (put-upper-pair-arg→loop c .loop .inv .1), put-upper-pair-arg→loop c .loop .inv .1 .within)
 
 loop-again : tie.Need-loop-again Inv-loop μ-loop
 loop-again c =
-    let turn = c .before .before .before .before .before in (
+    let turn = slice-known2→in-loop c in (
       omega arith,
-      hex-then upper _ _ (turn .loop-test .taken) (turn .before .loop .inv .1) (c .before .before .put-upper-pair .ensures),
+      hex-then upper _ _ (turn .loop-test .taken) (turn .before .loop .inv .1) (slice-known2→put-upper-pair c .put-upper-pair .ensures),
     )
 
 same-length : tie.Need-same-length Inv-loop μ-loop

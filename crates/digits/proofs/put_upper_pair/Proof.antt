@@ -5,7 +5,12 @@ use Rattle.digits.proofs.put_upper_pair.Statement.{statement}
 use Rattle.digits.proofs.put_upper_pair.Tie as tie
 
 returns : tie.Need-returns
-returns c = rw (← c .before .before .before .before .before .before .before .before .before .upper-hex .ensures, ← c .before .before .before .before .upper-hex2 .ensures) (then (c .before .before .before .before .before .before .before .put-byte .ensures) (c .before .before .put-byte2 .ensures))
+returns c =
+    let at-put-byte2 = c .before .before in
+    let at-upper-hex2 = at-put-byte2 .before .before in
+    let at-put-byte = at-upper-hex2 .before .before .before in
+    let at-upper-hex = at-put-byte .before .before in
+    rw (← at-upper-hex .upper-hex .ensures, ← at-upper-hex2 .upper-hex2 .ensures) (then (at-put-byte .put-byte .ensures) (at-put-byte2 .put-byte2 .ensures))
 
 pub put-upper-pair-spec : {M : Type 1} → statement M
 put-upper-pair-spec =

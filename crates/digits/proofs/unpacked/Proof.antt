@@ -15,4 +15,5 @@ returns c =
     λ i. digitOf (n / 10000) ∷ b .0 i ∷ b .1 i ∷ b .2 i ∷ b .3 i ∷ []
 
 pub unpacked-spec : {M : Type 1} → statement M
-unpacked-spec = tie.close (tie.spec (λ c. search needs) (λ c. search needs) (λ c. search needs) (λ c. search needs) (λ c. search needs) (λ c. search needs) returns)
+unpacked-spec =
+    tie.close (tie.spec (λ c. search needs) (λ c. search needs) (λ c. search needs) (λ c. search needs) (λ c. search needs) (λ c. search needs) returns)

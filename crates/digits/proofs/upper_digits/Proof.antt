@@ -28,8 +28,12 @@ upper-digit-requires c κs = search needs
 
 returns : tie.Need-returns Inv-loop μ-loop
 returns c =
+    let at-in-loop = c .before .before .before in
+    let at-loop = at-in-loop .before in
+    let at-start = at-loop .before .before in
     let none = not-true _ (c .if1 .taken) in
-    rw (sym (c .before .upper-digit .ensures) ∙ none) at (digits-more upper (now (c .before .before .before .before .before .before .args .text)) (c .before .before .before .before .loop .i) (c .before .before .before .loop-test .taken)) ∙ c .before .before .before .before .loop .inv .1
+    rw (sym (c .before .upper-digit .ensures) ∙ none) at
+    (digits-more upper (now (at-start .args .text)) (at-loop .loop .i) (at-in-loop .loop-test .taken)) ∙ at-loop .loop .inv .1
 
 add-i : tie.Need-add-i Inv-loop μ-loop
 add-i c = search needs
@@ -39,7 +43,13 @@ loop-less c = search needs
 
 loop-again : tie.Need-loop-again Inv-loop μ-loop
 loop-again c =
-    (omega arith, rw (sym (c .before .upper-digit .ensures) ∙ not-false _ (c .if1 .left)) at (digits-more upper (now (c .before .before .before .before .before .before .args .text)) (c .before .before .before .before .loop .i) (c .before .before .before .loop-test .taken)) ∙ c .before .before .before .before .loop .inv .1)
+    let at-in-loop = c .before .before .before in
+    let at-loop = at-in-loop .before in
+    let at-start = at-loop .before .before in (
+      omega arith,
+      rw (sym (c .before .upper-digit .ensures) ∙ not-false _ (c .if1 .left)) at
+          (digits-more upper (now (at-start .args .text)) (at-loop .loop .i) (at-in-loop .loop-test .taken)) ∙ at-loop .loop .inv .1,
+    )
 
 returns-2 : tie.Need-returns-2 Inv-loop μ-loop
 returns-2 c = rw (drop-of-length-le (now (c .before .before .before .args .text)) (c .loop-test .left)) at (c .before .loop .inv .1)

@@ -16,9 +16,14 @@ returns c = (λ s front. rw (c .before .before .before .if1 .taken) (c .put-unre
 
 returns-2 : tie.Need-returns-2
 returns-2 c =
-    let size : length (now (c .before .before .before .before .before .before .before .args .input)) ≡ 32775 = omega arith in
-    let read = ap comparedSpeech (cut (c .before .before .before .before .within .ensures)) in (
-      λ s front. rw (c .before .before .before .before .before .before .if1 .left, ← read ∙ seen comparedSpeech (error (refusedText 4 enginesSizeWords)) 32774 alike size front) (c .put-compared .ensures),
+    let at-all = c .before .before .before in
+    let at-within = at-all .before in
+    let at-else1 = at-within .before .before in
+    let at-start = at-else1 .before in
+    let size : length (now (at-start .args .input)) ≡ 32775 = omega arith in
+    let read = ap comparedSpeech (cut (at-within .within .ensures)) in (
+      λ s front. rw (at-else1 .if1 .left, ← read ∙ seen comparedSpeech (error (refusedText 4 enginesSizeWords)) 32774 alike size front)
+          (c .put-compared .ensures),
       search needs,
     )
 

@@ -6,7 +6,11 @@ use Rattle.engines.proofs.put_registers.Statement.{statement}
 use Rattle.engines.proofs.put_registers.Tie as tie
 
 returns : tie.Need-returns
-returns c = rw (← c .before .before .before .before .before .before .registers .ensures) (wider (c .before .before .put-hex .ensures) (omega arith))
+returns c =
+    let at-put-hex = c .before .before in
+    let at-table = at-put-hex .before .before .before in
+    let at-registers = at-table .before in
+    rw (← at-registers .registers .ensures) (wider (at-put-hex .put-hex .ensures) (omega arith))
 
 pub put-registers-spec : {M : Type 1} → statement M
 put-registers-spec =

@@ -23,13 +23,24 @@ returns c =
 returns-2 : tie.Need-returns-2
 unfolding bytesOf
 returns-2 c =
-    let c2 = c .before .before in
-    let c6 = c2 .before .before .before .before in
-    let c8 = c6 .before .before in
-    let c11 = c8 .before .before .before in
-    let c15 = c11 .before .before .before .before in
-    let c19 = c15 .before .before .before .before in
-    let c24 = c19 .before .before .before .before .before in
+    let at-cycles-out = c .before .before in
+    let at-room4 = at-cycles-out .before .before .before in
+    let at-store4 = at-room4 .before in
+    let at-tail = at-store4 .before .before in
+    let at-store32 = at-tail .before .before .before in
+    let at-room2 = at-store32 .before .before .before in
+    let at-store16 = at-room2 .before in
+    let at-room = at-store16 .before .before .before in
+    let at-store8 = at-room .before in
+    let at-label = at-store8 .before .before .before in
+    let at-else1 = at-label .before .before in
+    let c2 = at-cycles-out in
+    let c6 = at-store4 in
+    let c8 = at-tail in
+    let c11 = at-store32 in
+    let c15 = at-store16 in
+    let c19 = at-store8 in
+    let c24 = at-else1 in
     let c25 = c24 .before in
     let c29 = c25 .before .before .before .before in
     let g = c29 .args .gauge in
@@ -53,4 +64,6 @@ returns-2 c =
     }
 
 pub image-out-spec : {M : Type 1} → statement M
-image-out-spec = tie.close (tie.spec (λ c κs. search needs) returns (λ c κs. search needs) (λ c κs. search needs) (λ c κs. search needs) (λ c κs. search needs) (λ c κs. search needs) (λ c κs. search needs) (λ c. search needs) returns-2)
+image-out-spec =
+    tie.close (tie.spec (λ c κs. search needs) returns (λ c κs. search needs) (λ c κs. search needs) (λ c κs. search needs) (λ c κs. search needs)
+    (λ c κs. search needs) (λ c κs. search needs) (λ c. search needs) returns-2)

@@ -19,15 +19,35 @@ expected-requires c κs = search needs
 
 returns : tie.Need-returns
 unfolding checkedLineOf
-returns c = rw (sym (c .before .before .before .before .before .formed .ensures) ∙ c .before .before .before .before .if1 .taken, sym (c .before .before .before .sums-to-zero .ensures) ∙ c .before .before .if2 .taken, sym (c .before .expected .ensures) ∙ c .if3 .taken) refl
+returns c =
+    let at-then2 = c .before .before in
+    let at-sums-to-zero = at-then2 .before in
+    let at-formed = at-sums-to-zero .before .before in
+    rw (
+      sym (at-formed .formed .ensures) ∙ at-sums-to-zero .before .if1 .taken,
+      sym (at-sums-to-zero .sums-to-zero .ensures)
+          ∙ at-then2 .if2 .taken,
+      sym (c .before .expected .ensures) ∙ c .if3 .taken,
+    ) refl
 
 returns-2 : tie.Need-returns-2
 unfolding checkedLineOf
-returns-2 c = rw (sym (c .before .before .before .before .before .formed .ensures) ∙ c .before .before .before .before .if1 .taken, sym (c .before .before .before .sums-to-zero .ensures) ∙ c .before .before .if2 .taken, sym (c .before .expected .ensures) ∙ c .if3 .left) refl
+returns-2 c =
+    let at-then2 = c .before .before in
+    let at-sums-to-zero = at-then2 .before in
+    let at-formed = at-sums-to-zero .before .before in
+    rw (
+      sym (at-formed .formed .ensures) ∙ at-sums-to-zero .before .if1 .taken,
+      sym (at-sums-to-zero .sums-to-zero .ensures)
+          ∙ at-then2 .if2 .taken,
+      sym (c .before .expected .ensures) ∙ c .if3 .left,
+    ) refl
 
 returns-3 : tie.Need-returns-3
 unfolding checkedLineOf
-returns-3 c = rw (sym (c .before .before .before .formed .ensures) ∙ c .before .before .if1 .taken, sym (c .before .sums-to-zero .ensures) ∙ c .if2 .left) refl
+returns-3 c =
+    let at-then1 = c .before .before in
+    rw (sym (at-then1 .before .formed .ensures) ∙ at-then1 .if1 .taken, sym (c .before .sums-to-zero .ensures) ∙ c .if2 .left) refl
 
 returns-4 : tie.Need-returns-4
 unfolding checkedLineOf

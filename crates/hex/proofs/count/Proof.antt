@@ -14,10 +14,21 @@ use Rattle.hex.proofs.count.Statement.{statement}
 use Rattle.hex.proofs.count.Tie as tie
 
 abbrev Inv-loop : tie.InvT-loop
-Inv-loop text address n₀ at₀ n at = (at ≤ length text) × (n ≤ at) × (n + countOf address (textLines (drop at text)) ≡ countOf address (textLines text))
+Inv-loop text address n₀ at₀ n at =
+    (at ≤ length text) × (n ≤ at) × (n + countOf address (textLines (drop at text)) ≡ countOf address (textLines text))
 
 abbrev μ-loop : tie.MeasureT-loop
 μ-loop text address n₀ at₀ n at = length text - at
+
+-- places: `a→b` leads from the record of the place a back to that of the place b
+abbrev one→line-end : tie.After-one Inv-loop μ-loop → tie.After-line-end Inv-loop μ-loop
+one→line-end c = c .before .before .before
+
+abbrev one→loop : tie.After-one Inv-loop μ-loop → tie.At-loop Inv-loop μ-loop
+one→loop c = one→line-end c .before .before
+
+abbrev one→start : tie.After-one Inv-loop μ-loop → tie.Start Inv-loop μ-loop
+one→start c = one→loop c .before .before
 
 loop-holds : tie.Need-loop-holds Inv-loop μ-loop
 loop-holds c = (omega arith, omega arith, zero-add _)
@@ -41,17 +52,18 @@ one-requires : tie.Need-one-requires Inv-loop μ-loop
 one-requires c κs = search needs
 
 add-n : tie.Need-add-n Inv-loop μ-loop
-add-n c = omega (arith, c .before .before .before .line-end .ensures .onward, c .before .before .before .line-end .ensures .within, c .one .ensures .1, c .before .before .before .before .before .loop .inv .1)
+add-n c =
+    omega (arith, one→line-end c .line-end .ensures .onward, one→line-end c .line-end .ensures .within, c .one .ensures .1, one→loop c .loop .inv .1)
 
 loop-less : tie.Need-loop-less Inv-loop μ-loop
-loop-less c = omega (arith, c .before .before .before .line-end .ensures .onward, c .before .before .before .line-end .ensures .within)
+loop-less c = omega (arith, one→line-end c .line-end .ensures .onward, one→line-end c .line-end .ensures .within)
 
 loop-again : tie.Need-loop-again Inv-loop μ-loop
 loop-again c =
-    let here = ap {B = ℕ} (λ (x : ℕ). pick (eqb x (c .before .before .before .before .before .before .before .args .address)) 1 0) (c .before .address-in .ensures) in (
-      c .before .before .before .line-end .ensures .within,
-      omega (arith, c .before .before .before .line-end .ensures .onward, c .one .ensures .1, c .before .before .before .before .before .loop .inv .1),
-      omega (arith, c .one .ensures .0, here, count-more (c .before .before .before .line-end .ensures) (c .before .before .before .before .before .before .before .args .address), c .before .before .before .before .before .loop .inv .2),
+    let here = ap {B = ℕ} (λ (x : ℕ). pick (eqb x (one→start c .args .address)) 1 0) (c .before .address-in .ensures) in (
+      one→line-end c .line-end .ensures .within,
+      omega (arith, one→line-end c .line-end .ensures .onward, c .one .ensures .1, one→loop c .loop .inv .1),
+      omega (arith, c .one .ensures .0, here, count-more (one→line-end c .line-end .ensures) (one→start c .args .address), one→loop c .loop .inv .2),
     )
 
 returns : tie.Need-returns Inv-loop μ-loop

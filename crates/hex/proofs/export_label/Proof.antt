@@ -13,11 +13,47 @@ use borrow.Author.Needs.{needs}
 use Rattle.hex.proofs.export_label.Statement.{statement}
 use Rattle.hex.proofs.export_label.Tie as tie
 
+-- places: `a→b` leads from the record of the place a back to that of the place b
+abbrev both-accepted→start : tie.After-both-accepted → tie.Start
+both-accepted→start c = c .before .before .before
+
+abbrev then1→start : tie.Then1 → tie.Start
+then1→start c = both-accepted→start (c .before)
+
+abbrev shared-slice-known3→both-accepted : tie.After-shared-slice-known3 → tie.After-both-accepted
+shared-slice-known3→both-accepted c = c .before .before
+
+abbrev shared-slice-known3→start : tie.After-shared-slice-known3 → tie.Start
+shared-slice-known3→start c = both-accepted→start (shared-slice-known3→both-accepted c)
+
+abbrev else2→then1 : tie.Else2 → tie.Then1
+else2→then1 c = c .before .before
+
+abbrev else2→start : tie.Else2 → tie.Start
+else2→start c = then1→start (else2→then1 c)
+
+abbrev then2→then1 : tie.Then2 → tie.Then1
+then2→then1 c = c .before .before
+
+abbrev then2→start : tie.Then2 → tie.Start
+then2→start c = then1→start (then2→then1 c)
+
+abbrev result→then1 : tie.After-result → tie.Then1
+result→then1 c = c .before .before .before
+
+abbrev result→start : tie.After-result → tie.Start
+result→start c = then1→start (result→then1 c)
+
 both-accepted-requires : tie.Need-both-accepted-requires
 both-accepted-requires c κs = search needs
 
 shared-slice-read-if2 : tie.Need-shared-slice-read-if2
-shared-slice-read-if2 c = omega (arith, pack-sized (now (c .before .before .before .before .before .args .pack)) (now (c .before .before .before .before .before .args .factory)) (sym (c .before .before .both-accepted .ensures) ∙ c .before .if1 .taken))
+shared-slice-read-if2 c =
+    omega (
+      arith,
+      pack-sized (now (shared-slice-known3→start c .args .pack)) (now (shared-slice-known3→start c .args .factory))
+          (sym (shared-slice-known3→both-accepted c .both-accepted .ensures) ∙ c .before .if1 .taken),
+    )
 
 sub-result : tie.Need-sub-result
 sub-result c = search needs
@@ -26,7 +62,12 @@ part-result-start : tie.Need-part-result-start
 part-result-start c = search needs
 
 part-result-end : tie.Need-part-result-end
-part-result-end c = omega (arith, pack-sized (now (c .before .before .before .before .before .before .args .pack)) (now (c .before .before .before .before .before .before .args .factory)) (sym (c .before .before .before .both-accepted .ensures) ∙ c .before .before .if1 .taken))
+part-result-end c =
+    omega (
+      arith,
+      pack-sized (now (then2→start c .args .pack)) (now (then2→start c .args .factory))
+          (sym (then2→then1 c .before .both-accepted .ensures) ∙ then2→then1 c .if1 .taken),
+    )
 
 -- the label is the pack's where block 0 is locked there
 own : (pack factory : List ℕ) → bothAccepted pack factory ≡ true → imageBl0 pack ≡ true → exportLabel pack factory ≡ imageLabel pack
@@ -34,13 +75,13 @@ unfolding exportLabel
 own pack factory accepted lock = rw (accepted, lock) refl
 
 -- so it is in the first arm
-locked : (c : tie.Then2) → imageBl0 (now (c .before .before .before .before .before .before .args .pack)) ≡ true
+locked : (c : tie.Then2) → imageBl0 (now (then2→start c .args .pack)) ≡ true
 locked c = eq-eqb _ _ (c .if2 .taken)
 
 returns : tie.Need-returns
 returns c =
-    let a = c .before .before .before .before .before .before .before .args in
-    sym (own (now (a .pack)) (now (a .factory)) (sym (c .before .before .before .before .both-accepted .ensures) ∙ c .before .before .before .if1 .taken) (locked (c .before)))
+    let a = result→start c .args in
+    sym (own (now (a .pack)) (now (a .factory)) (sym (result→then1 c .before .both-accepted .ensures) ∙ result→then1 c .if1 .taken) (locked (c .before)))
 
 sub-result-2 : tie.Need-sub-result-2
 sub-result-2 c = search needs
@@ -49,11 +90,18 @@ part-result-start-2 : tie.Need-part-result-start-2
 part-result-start-2 c = search needs
 
 part-result-end-2 : tie.Need-part-result-end-2
-part-result-end-2 c = omega (arith, factory-sized (now (c .before .before .before .before .before .before .args .pack)) (now (c .before .before .before .before .before .before .args .factory)) (sym (c .before .before .before .both-accepted .ensures) ∙ c .before .before .if1 .taken))
+part-result-end-2 c =
+    omega (
+      arith,
+      factory-sized (now (else2→start c .args .pack)) (now (else2→start c .args .factory))
+          (sym (else2→then1 c .before .both-accepted .ensures) ∙ else2→then1 c .if1 .taken),
+    )
 
 returns-2 : tie.Need-returns-2
 unfolding exportLabel
-returns-2 c = rw (sym (c .before .before .before .before .both-accepted .ensures) ∙ c .before .before .before .if1 .taken, ne-eqb _ _ (c .before .if2 .left)) refl
+returns-2 c =
+    let at-then1 = c .before .before .before in
+    rw (sym (at-then1 .before .both-accepted .ensures) ∙ at-then1 .if1 .taken, ne-eqb _ _ (c .before .if2 .left)) refl
 
 sub-result-3 : tie.Need-sub-result-3
 sub-result-3 c = search needs

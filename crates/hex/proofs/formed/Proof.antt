@@ -6,6 +6,19 @@ use borrow.Author.Needs.{needs}
 use Rattle.hex.proofs.formed.Statement.{statement}
 use Rattle.hex.proofs.formed.Tie as tie
 
+-- places: `a→b` leads from the record of the place a back to that of the place b
+abbrev byte-in→start : tie.After-byte-in → tie.Start
+byte-in→start c = c .before .before .before
+
+abbrev shared-slice-known3→start : tie.After-shared-slice-known3 → tie.Start
+shared-slice-known3→start c = byte-in→start (c .before .before .before)
+
+abbrev upper-digits→start : tie.After-upper-digits → tie.Start
+upper-digits→start c = shared-slice-known3→start (c .before .before .before)
+
+abbrev and3→start : tie.After-and3 → tie.Start
+and3→start c = upper-digits→start (c .before .before)
+
 returns : tie.Need-returns
 returns c = formed-short (now (c .before .before .args .line)) (c .if1 .taken)
 
@@ -58,7 +71,7 @@ and-requires-3 : tie.Need-and-requires-3
 and-requires-3 c κs = search needs
 
 returns-2 : tie.Need-returns-2
-returns-2 c = cc (formed-asked (now (c .before .before .before .before .before .before .before .before .before .before .before .args .line)) (omega arith))
+returns-2 c = cc (formed-asked (now (and3→start c .args .line)) (omega arith))
 
 pub formed-spec : {M : Type 1} → statement M
 formed-spec =

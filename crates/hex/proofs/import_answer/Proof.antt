@@ -17,18 +17,40 @@ whole-text-requires c κs = search needs
 
 returns : tie.Need-returns
 unfolding importAnswer
-returns c = rw (sym (c .before .before .before .before .before .lines-answer .ensures) ∙ c .before .before .before .enum-told .given .1, sym (c .before .before .whole-text .ensures) ∙ c .before .if1 .taken, lt-ltb _ _ (c .if2 .taken)) refl
+returns c =
+    let at-whole-text = c .before .before in
+    let at-lines-answer = at-whole-text .before .before .before in
+    rw (
+      sym (at-lines-answer .lines-answer .ensures) ∙ at-whole-text .before .enum-told .given .1,
+      sym (at-whole-text .whole-text .ensures)
+          ∙ c .before .if1 .taken,
+      lt-ltb _ _ (c .if2 .taken),
+    ) refl
 
 returns-2 : tie.Need-returns-2
 unfolding importAnswer
-returns-2 c = rw (sym (c .before .before .before .before .before .lines-answer .ensures) ∙ c .before .before .before .enum-told .given .1, sym (c .before .before .whole-text .ensures) ∙ c .before .if1 .taken, le-ltb _ _ (c .if2 .left)) refl
+returns-2 c =
+    let at-whole-text = c .before .before in
+    let at-lines-answer = at-whole-text .before .before .before in
+    rw (
+      sym (at-lines-answer .lines-answer .ensures) ∙ at-whole-text .before .enum-told .given .1,
+      sym (at-whole-text .whole-text .ensures)
+          ∙ c .before .if1 .taken,
+      le-ltb _ _ (c .if2 .left),
+    ) refl
 
 enum-known-lines : tie.Need-enum-known-lines
 enum-known-lines c = search needs
 
 returns-3 : tie.Need-returns-3
 unfolding importAnswer
-returns-3 c = rw (sym (c .before .before .before .before .lines-answer .ensures) ∙ c .before .before .enum-told .given .1, sym (c .before .whole-text .ensures) ∙ c .if1 .left) refl
+returns-3 c =
+    let at-enum-told = c .before .before in
+    rw (
+      sym (at-enum-told .before .before .lines-answer .ensures) ∙ at-enum-told .enum-told .given .1,
+      sym (c .before .whole-text .ensures)
+          ∙ c .if1 .left,
+    ) refl
 
 returns-4 : tie.Need-returns-4
 unfolding importAnswer

@@ -16,6 +16,16 @@ Inv-loop text address₀ at₀ address at = (at ≤ length text) × (lastAddress
 abbrev μ-loop : tie.MeasureT-loop
 μ-loop text address₀ at₀ address at = length text - at
 
+-- places: `a→b` leads from the record of the place a back to that of the place b
+abbrev address-in→line-end : tie.After-address-in Inv-loop μ-loop → tie.After-line-end Inv-loop μ-loop
+address-in→line-end c = c .before .before
+
+abbrev address-in→loop : tie.After-address-in Inv-loop μ-loop → tie.At-loop Inv-loop μ-loop
+address-in→loop c = address-in→line-end c .before .before
+
+abbrev address-in→start : tie.After-address-in Inv-loop μ-loop → tie.Start Inv-loop μ-loop
+address-in→start c = address-in→loop c .before .before
+
 loop-holds : tie.Need-loop-holds Inv-loop μ-loop
 loop-holds c = (omega arith, refl)
 
@@ -35,14 +45,14 @@ address-requires : tie.Need-address-in-requires Inv-loop μ-loop
 address-requires c κs = search needs
 
 loop-less : tie.Need-loop-less Inv-loop μ-loop
-loop-less c = omega (arith, c .before .before .line-end .ensures .onward, c .before .before .line-end .ensures .within)
+loop-less c = omega (arith, address-in→line-end c .line-end .ensures .onward, address-in→line-end c .line-end .ensures .within)
 
 loop-again : tie.Need-loop-again Inv-loop μ-loop
 loop-again c =
-    let text = now (c .before .before .before .before .before .before .args .text) in (
-      c .before .before .line-end .ensures .within,
-      ap (λ (a : ℕ). lastAddress a (textLines (drop (c .before .before .line-end .result) text))) (c .address-in .ensures)
-          ∙ sym (last-more (c .before .before .line-end .ensures) (c .before .before .before .before .loop .address)) ∙ c .before .before .before .before .loop .inv .1,
+    let text = now (address-in→start c .args .text) in (
+      address-in→line-end c .line-end .ensures .within,
+      ap (λ (a : ℕ). lastAddress a (textLines (drop (address-in→line-end c .line-end .result) text))) (c .address-in .ensures)
+          ∙ sym (last-more (address-in→line-end c .line-end .ensures) (address-in→loop c .loop .address)) ∙ address-in→loop c .loop .inv .1,
     )
 
 returns : tie.Need-returns Inv-loop μ-loop

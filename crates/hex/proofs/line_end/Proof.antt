@@ -15,6 +15,28 @@ Inv-loop text at end₀ end = (at ≤ end) × (end ≤ length text) × Unfed tex
 abbrev μ-loop : tie.MeasureT-loop
 μ-loop text at end₀ end = length text - end
 
+-- places: `a→b` leads from the record of the place a back to that of the place b
+abbrev after-loop→start : tie.After-loop Inv-loop μ-loop → tie.Start Inv-loop μ-loop
+after-loop→start c = c .before .before
+
+abbrev else1→in-loop : tie.Else1 Inv-loop μ-loop → tie.In-loop Inv-loop μ-loop
+else1→in-loop c = c .before .before
+
+abbrev else1→loop : tie.Else1 Inv-loop μ-loop → tie.At-loop Inv-loop μ-loop
+else1→loop c = c .before .before .before
+
+abbrev else1→start : tie.Else1 Inv-loop μ-loop → tie.Start Inv-loop μ-loop
+else1→start c = else1→loop c .before
+
+abbrev then1→in-loop : tie.Then1 Inv-loop μ-loop → tie.In-loop Inv-loop μ-loop
+then1→in-loop c = c .before .before
+
+abbrev then1→loop : tie.Then1 Inv-loop μ-loop → tie.At-loop Inv-loop μ-loop
+then1→loop c = c .before .before .before
+
+abbrev then1→start : tie.Then1 Inv-loop μ-loop → tie.Start Inv-loop μ-loop
+then1→start c = then1→loop c .before
+
 loop-holds : tie.Need-loop-holds Inv-loop μ-loop
 loop-holds c = (omega arith, omega arith, unfed-none (now (c .args .text)) (c .args .at))
 
@@ -25,7 +47,9 @@ add-result : tie.Need-add-result Inv-loop μ-loop
 add-result c = search needs
 
 returns : tie.Need-returns Inv-loop μ-loop
-returns c = line-fed (now (c .before .before .before .before .args .text)) (c .before .before .before .before .args .at) (c .before .before .before .loop .end) (c .before .before .before .loop .inv .0) (c .before .before .loop-test .taken) (eq-eqb _ _ (c .if1 .taken)) (c .before .before .before .loop .inv .2)
+returns c =
+    line-fed (now (then1→start c .args .text)) (then1→start c .args .at) (then1→loop c .loop .end) (then1→loop c .loop .inv .0)
+    (then1→in-loop c .loop-test .taken) (eq-eqb _ _ (c .if1 .taken)) (then1→loop c .loop .inv .2)
 
 add-end : tie.Need-add-end Inv-loop μ-loop
 add-end c = search needs
@@ -34,10 +58,17 @@ loop-less : tie.Need-loop-less Inv-loop μ-loop
 loop-less c = search needs
 
 loop-again : tie.Need-loop-again Inv-loop μ-loop
-loop-again c = (omega arith, omega arith, line-more (now (c .before .before .before .before .args .text)) (c .before .before .before .before .args .at) (c .before .before .before .loop .end) (c .before .before .before .loop .inv .0) (c .before .before .loop-test .taken) (ne-eqb _ _ (c .if1 .left)) (c .before .before .before .loop .inv .2))
+loop-again c = (
+  omega arith,
+  omega arith,
+  line-more (now (else1→start c .args .text)) (else1→start c .args .at) (else1→loop c .loop .end) (else1→loop c .loop .inv .0)
+      (else1→in-loop c .loop-test .taken) (ne-eqb _ _ (c .if1 .left)) (else1→loop c .loop .inv .2),
+)
 
 returns-2 : tie.Need-returns-2 Inv-loop μ-loop
-returns-2 c = line-last (now (c .before .before .args .text)) (c .before .before .args .at) (c .before .loop .end) (c .before .loop .inv .0) (c .before .before .pre) (c .loop-test .left) (c .before .loop .inv .1) (c .before .loop .inv .2)
+returns-2 c =
+    line-last (now (after-loop→start c .args .text)) (after-loop→start c .args .at) (c .before .loop .end) (c .before .loop .inv .0)
+    (after-loop→start c .pre) (c .loop-test .left) (c .before .loop .inv .1) (c .before .loop .inv .2)
 
 pub line-end-spec : {M : Type 1} → statement M
 line-end-spec =

@@ -16,6 +16,31 @@ Inv-loop text at₀ at = (at ≤ length text) × (linesAnswer (textLines (drop a
 abbrev μ-loop : tie.MeasureT-loop
 μ-loop text at₀ at = length text - at
 
+-- places: `a→b` leads from the record of the place a back to that of the place b
+abbrev line-end→loop : tie.After-line-end Inv-loop μ-loop → tie.At-loop Inv-loop μ-loop
+line-end→loop c = c .before .before
+
+abbrev checked-line→line-end : tie.After-checked-line Inv-loop μ-loop → tie.After-line-end Inv-loop μ-loop
+checked-line→line-end c = c .before .before
+
+abbrev enum-told→checked-line : tie.After-enum-told Inv-loop μ-loop → tie.After-checked-line Inv-loop μ-loop
+enum-told→checked-line c = c .before .before
+
+abbrev enum-told→line-end : tie.After-enum-told Inv-loop μ-loop → tie.After-line-end Inv-loop μ-loop
+enum-told→line-end c = checked-line→line-end (enum-told→checked-line c)
+
+abbrev enum-told→loop : tie.After-enum-told Inv-loop μ-loop → tie.At-loop Inv-loop μ-loop
+enum-told→loop c = line-end→loop (enum-told→line-end c)
+
+abbrev known-told→checked-line : tie.After-known-told Inv-loop μ-loop → tie.After-checked-line Inv-loop μ-loop
+known-told→checked-line c = c .before .before .before
+
+abbrev known-told→line-end : tie.After-known-told Inv-loop μ-loop → tie.After-line-end Inv-loop μ-loop
+known-told→line-end c = checked-line→line-end (known-told→checked-line c)
+
+abbrev known-told→loop : tie.After-known-told Inv-loop μ-loop → tie.At-loop Inv-loop μ-loop
+known-told→loop c = line-end→loop (known-told→line-end c)
+
 loop-holds : tie.Need-loop-holds Inv-loop μ-loop
 loop-holds c = (omega arith, refl)
 
@@ -38,16 +63,22 @@ enum-told : tie.Need-enum-told Inv-loop μ-loop
 enum-told c = search needs
 
 loop-less : tie.Need-loop-less Inv-loop μ-loop
-loop-less c = omega (arith, c .before .before .before .before .line-end .ensures .onward, c .before .before .before .before .line-end .ensures .within)
+loop-less c = omega (arith, enum-told→line-end c .line-end .ensures .onward, enum-told→line-end c .line-end .ensures .within)
 
 loop-again : tie.Need-loop-again Inv-loop μ-loop
-loop-again c = (c .before .before .before .before .line-end .ensures .within, sym (answer-good (c .before .before .before .before .line-end .ensures) (sym (c .before .before .checked-line .ensures) ∙ c .enum-told .given .1)) ∙ c .before .before .before .before .before .before .loop .inv .1)
+loop-again c = (
+  enum-told→line-end c .line-end .ensures .within,
+  sym (answer-good (enum-told→line-end c .line-end .ensures) (sym (enum-told→checked-line c .checked-line .ensures) ∙ c .enum-told .given .1))
+      ∙ enum-told→loop c .loop .inv .1,
+)
 
 enum-known-line : tie.Need-enum-known-line Inv-loop μ-loop
 enum-known-line c = search needs
 
 returns : tie.Need-returns Inv-loop μ-loop
-returns c = sym (answer-bad (c .before .before .before .before .before .line-end .ensures) (sym (c .before .before .before .checked-line .ensures) ∙ c .before .line .given .1)) ∙ c .before .before .before .before .before .before .before .loop .inv .1
+returns c =
+    sym (answer-bad (known-told→line-end c .line-end .ensures) (sym (known-told→checked-line c .checked-line .ensures) ∙ c .before .line .given .1))
+    ∙ known-told→loop c .loop .inv .1
 
 returns-2 : tie.Need-returns-2 Inv-loop μ-loop
 returns-2 c = rw (drop-of-length-le (now (c .before .before .before .args .text)) (c .loop-test .left)) at (c .before .loop .inv .1)

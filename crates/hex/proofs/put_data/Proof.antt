@@ -19,6 +19,13 @@ Inv-loop l out₀ at i₀ out i = (i ≤ 16) × (length out ≡ length out₀) �
 abbrev μ-loop : tie.MeasureT-loop
 μ-loop l out₀ at i₀ out i = 16 - i
 
+-- places: `a→b` leads from the record of the place a back to that of the place b
+abbrev byte-in→loop : tie.After-byte-in Inv-loop μ-loop → tie.At-loop Inv-loop μ-loop
+byte-in→loop c = c .before .before
+
+abbrev byte-in→start : tie.After-byte-in Inv-loop μ-loop → tie.Start Inv-loop μ-loop
+byte-in→start c = byte-in→loop c .before .before .before
+
 loop-holds : tie.Need-loop-holds Inv-loop μ-loop
 loop-holds c = (omega arith, refl, rw add-zero refl)
 
@@ -42,14 +49,15 @@ loop-less c = search needs
 
 loop-again : tie.Need-loop-again Inv-loop μ-loop
 loop-again c =
-    let l = now (c .before .before .before .before .before .args .line) in
-    let i = c .before .before .loop .i in
-    let at = c .before .before .before .before .before .args .at in
+    let l = now (byte-in→start c .args .line) in
+    let i = byte-in→loop c .loop .i in
+    let at = byte-in→start c .args .at in
     let byte = c .byte-in .ensures ∙ data-at l i (c .before .loop-test .taken) in (
       omega (arith, c .before .loop-test .taken),
-      length-set (c .before .before .loop .out) (at + i) (c .byte-in .result) ∙ c .before .before .loop .inv .1,
-      ap (λ (b : ℕ). put (set (c .before .before .loop .out) (at + i) b) (at + (i + 1)) (drop (i + 1) (dataIn l))) byte
-          ∙ sym (put-more (c .before .before .loop .out) (dataIn l) at i (omega (arith, c .before .loop-test .taken, data-length l (c .before .before .before .before .before .pre .0)))) ∙ c .before .before .loop .inv .2,
+      length-set (byte-in→loop c .loop .out) (at + i) (c .byte-in .result) ∙ byte-in→loop c .loop .inv .1,
+      ap (λ (b : ℕ). put (set (byte-in→loop c .loop .out) (at + i) b) (at + (i + 1)) (drop (i + 1) (dataIn l))) byte
+          ∙ sym (put-more (byte-in→loop c .loop .out) (dataIn l) at i
+          (omega (arith, c .before .loop-test .taken, data-length l (byte-in→start c .pre .0)))) ∙ byte-in→loop c .loop .inv .2,
     )
 
 same-length : tie.Need-same-length Inv-loop μ-loop
@@ -57,7 +65,10 @@ same-length c = c .before .loop .inv .1
 
 returns : tie.Need-returns Inv-loop μ-loop
 returns c =
-    let none = drop-of-length-le (dataIn (now (c .before .before .before .before .args .line))) {i = c .before .loop .i} (omega (arith, data-length (now (c .before .before .before .before .args .line)) (c .before .before .before .before .pre .0), c .loop-test .left)) in
+    let at-shared-slice-known = c .before .before .before in
+    let at-start = at-shared-slice-known .before in
+    let none = drop-of-length-le (dataIn (now (at-start .args .line))) {i = c .before .loop .i}
+    (omega (arith, data-length (now (at-start .args .line)) (at-start .pre .0), c .loop-test .left)) in
     rw none at (c .before .loop .inv .2)
 
 pub put-data-spec : {M : Type 1} → statement M

@@ -22,6 +22,58 @@ Inv-loop text address room₀ to at₀ room at =
 abbrev μ-loop : tie.MeasureT-loop
 μ-loop text address room₀ to at₀ room at = length text - at
 
+-- places: `a→b` leads from the record of the place a back to that of the place b
+abbrev loop→start : tie.At-loop Inv-loop μ-loop → tie.Start Inv-loop μ-loop
+loop→start c = c .before .before .before
+
+abbrev after-loop→start : tie.After-loop Inv-loop μ-loop → tie.Start Inv-loop μ-loop
+after-loop→start c = loop→start (c .before)
+
+abbrev line-end→loop : tie.After-line-end Inv-loop μ-loop → tie.At-loop Inv-loop μ-loop
+line-end→loop c = c .before .before
+
+abbrev else1→line-end : tie.Else1 Inv-loop μ-loop → tie.After-line-end Inv-loop μ-loop
+else1→line-end c = c .before .before .before
+
+abbrev else1→loop : tie.Else1 Inv-loop μ-loop → tie.At-loop Inv-loop μ-loop
+else1→loop c = line-end→loop (else1→line-end c)
+
+abbrev else1→start : tie.Else1 Inv-loop μ-loop → tie.Start Inv-loop μ-loop
+else1→start c = loop→start (else1→loop c)
+
+abbrev then1→line-end : tie.Then1 Inv-loop μ-loop → tie.After-line-end Inv-loop μ-loop
+then1→line-end c = c .before .before .before
+
+abbrev put-data-arg2→then1 : tie.After-put-data-arg2 Inv-loop μ-loop → tie.Then1 Inv-loop μ-loop
+put-data-arg2→then1 c = c .before .before
+
+abbrev put-data-arg2→line-end : tie.After-put-data-arg2 Inv-loop μ-loop → tie.After-line-end Inv-loop μ-loop
+put-data-arg2→line-end c = then1→line-end (put-data-arg2→then1 c)
+
+abbrev put-data-arg2→loop : tie.After-put-data-arg2 Inv-loop μ-loop → tie.At-loop Inv-loop μ-loop
+put-data-arg2→loop c = line-end→loop (put-data-arg2→line-end c)
+
+abbrev put-data-arg2→start : tie.After-put-data-arg2 Inv-loop μ-loop → tie.Start Inv-loop μ-loop
+put-data-arg2→start c = loop→start (put-data-arg2→loop c)
+
+abbrev slice-known2→put-data : tie.After-slice-known2 Inv-loop μ-loop → tie.After-put-data Inv-loop μ-loop
+slice-known2→put-data c = c .before .before
+
+abbrev slice-known2→then1 : tie.After-slice-known2 Inv-loop μ-loop → tie.Then1 Inv-loop μ-loop
+slice-known2→then1 c = put-data-arg2→then1 (c .before .before .before)
+
+abbrev slice-known2→address-in : tie.After-slice-known2 Inv-loop μ-loop → tie.After-address-in Inv-loop μ-loop
+slice-known2→address-in c = slice-known2→then1 c .before
+
+abbrev slice-known2→line-end : tie.After-slice-known2 Inv-loop μ-loop → tie.After-line-end Inv-loop μ-loop
+slice-known2→line-end c = then1→line-end (slice-known2→then1 c)
+
+abbrev slice-known2→loop : tie.After-slice-known2 Inv-loop μ-loop → tie.At-loop Inv-loop μ-loop
+slice-known2→loop c = line-end→loop (slice-known2→line-end c)
+
+abbrev slice-known2→start : tie.After-slice-known2 Inv-loop μ-loop → tie.Start Inv-loop μ-loop
+slice-known2→start c = loop→start (slice-known2→loop c)
+
 loop-holds : tie.Need-loop-holds Inv-loop μ-loop
 loop-holds c = (omega arith, refl, refl)
 
@@ -41,49 +93,61 @@ address-requires : tie.Need-address-in-requires Inv-loop μ-loop
 address-requires c κs = search needs
 
 sub-put-data : tie.Need-sub-put-data Inv-loop μ-loop
-sub-put-data c = omega (arith, c .before .before .before .line-end .ensures .onward, c .before .before .before .line-end .ensures .within)
+sub-put-data c = omega (arith, then1→line-end c .line-end .ensures .onward, then1→line-end c .line-end .ensures .within)
 
 part-put-data-start : tie.Need-part-put-data-start Inv-loop μ-loop
-part-put-data-start c = omega (arith, c .before .before .before .line-end .ensures .onward, c .before .before .before .line-end .ensures .within)
+part-put-data-start c = omega (arith, then1→line-end c .line-end .ensures .onward, then1→line-end c .line-end .ensures .within)
 
 part-put-data-end : tie.Need-part-put-data-end Inv-loop μ-loop
-part-put-data-end c = omega (arith, c .before .before .before .line-end .ensures .onward, c .before .before .before .line-end .ensures .within)
+part-put-data-end c = omega (arith, then1→line-end c .line-end .ensures .onward, then1→line-end c .line-end .ensures .within)
 
 put-data-requires : tie.Need-put-data-requires Inv-loop μ-loop
 put-data-requires c κs =
-    let text = now (c .before .before .before .before .before .before .before .before .before .before .args .text) in
-    let line = part (c .before .before .before .before .before .line-end .result - c .before .before .before .before .before .before .before .loop .at) text (c .before .before .before .before .before .before .before .loop .at) in
-    let same = ap (λ (x : ℕ). eqb x (c .before .before .before .before .before .before .before .before .before .before .args .address)) (sym (c .before .before .before .address-in .ensures)) ∙ eq-eqb _ _ (c .before .before .if1 .taken) in
-    let found = sym (data-here (c .before .before .before .before .before .line-end .ensures) (c .before .before .before .before .before .before .before .before .before .before .args .address) same) ∙ c .before .before .before .before .before .before .before .loop .inv .2 in
-    (data-long line (ap length found ∙ c .before .before .before .before .before .before .before .before .before .before .pre .0), omega (arith, ap length (c .before .before .before .before .before .before .before .loop .inv .1), c .before .before .before .before .before .before .before .before .before .before .pre .1))
+    let text = now (put-data-arg2→start c .args .text) in
+    let line = part (put-data-arg2→line-end c .line-end .result - put-data-arg2→loop c .loop .at) text (put-data-arg2→loop c .loop .at) in
+    let same = ap (λ (x : ℕ). eqb x (put-data-arg2→start c .args .address)) (sym (put-data-arg2→then1 c .before .address-in .ensures))
+    ∙ eq-eqb _ _ (put-data-arg2→then1 c .if1 .taken) in
+    let found = sym (data-here (put-data-arg2→line-end c .line-end .ensures) (put-data-arg2→start c .args .address) same)
+    ∙ put-data-arg2→loop c .loop .inv .2 in (
+      data-long line (ap length found ∙ put-data-arg2→start c .pre .0),
+      omega (arith, ap length (put-data-arg2→loop c .loop .inv .1), put-data-arg2→start c .pre .1),
+    )
 
 same-length : tie.Need-same-length Inv-loop μ-loop
-same-length c = c .before .before .put-data .kept .1 .0 ∙ ap length (c .before .before .before .before .before .before .before .before .before .before .loop .inv .1)
+same-length c = slice-known2→put-data c .put-data .kept .1 .0 ∙ ap length (slice-known2→loop c .loop .inv .1)
 
 returns : tie.Need-returns Inv-loop μ-loop
 returns c =
-    let same = ap (λ (x : ℕ). eqb x (c .before .before .before .before .before .before .before .before .before .before .before .before .before .args .address)) (sym (c .before .before .before .before .before .before .address-in .ensures)) ∙ eq-eqb _ _ (c .before .before .before .before .before .if1 .taken) in
-    let found = sym (data-here (c .before .before .before .before .before .before .before .before .line-end .ensures) (c .before .before .before .before .before .before .before .before .before .before .before .before .before .args .address) same) ∙ c .before .before .before .before .before .before .before .before .before .before .loop .inv .2 in
-    c .before .before .put-data .ensures
-    ∙ ap (λ (xs : List ℕ). put (c .before .before .before .before .before .before .before .before .before .before .loop .room) (c .before .before .before .before .before .before .before .before .before .before .before .before .before .args .to) xs) found
-    ∙ ap (λ (l : List ℕ). put l (c .before .before .before .before .before .before .before .before .before .before .before .before .before .args .to) (dataAt (c .before .before .before .before .before .before .before .before .before .before .before .before .before .args .address) (textLines (now (c .before .before .before .before .before .before .before .before .before .before .before .before .before .args .text))))) (c .before .before .before .before .before .before .before .before .before .before .loop .inv .1)
+    let same = ap (λ (x : ℕ). eqb x (slice-known2→start c .args .address)) (sym (slice-known2→address-in c .address-in .ensures))
+    ∙ eq-eqb _ _ (slice-known2→then1 c .if1 .taken) in
+    let found = sym (data-here (slice-known2→line-end c .line-end .ensures) (slice-known2→start c .args .address) same)
+    ∙ slice-known2→loop c .loop .inv .2 in
+    slice-known2→put-data c .put-data .ensures
+    ∙ ap (λ (xs : List ℕ). put (slice-known2→loop c .loop .room) (slice-known2→start c .args .to) xs) found
+    ∙ ap (λ (l : List ℕ). put l (slice-known2→start c .args .to)
+    (dataAt (slice-known2→start c .args .address) (textLines (now (slice-known2→start c .args .text))))) (slice-known2→loop c .loop .inv .1)
 
 loop-less : tie.Need-loop-less Inv-loop μ-loop
-loop-less c = omega (arith, c .before .before .before .line-end .ensures .onward, c .before .before .before .line-end .ensures .within)
+loop-less c = omega (arith, else1→line-end c .line-end .ensures .onward, else1→line-end c .line-end .ensures .within)
 
 loop-again : tie.Need-loop-again Inv-loop μ-loop
 loop-again c =
-    let other = ap (λ (x : ℕ). eqb x (c .before .before .before .before .before .before .before .before .args .address)) (sym (c .before .address-in .ensures)) ∙ ne-eqb _ _ (c .if1 .left) in
-    (c .before .before .before .line-end .ensures .within, c .before .before .before .before .before .loop .inv .1, sym (data-later (c .before .before .before .line-end .ensures) (c .before .before .before .before .before .before .before .before .args .address) other) ∙ c .before .before .before .before .before .loop .inv .2)
+    let other = ap (λ (x : ℕ). eqb x (else1→start c .args .address)) (sym (c .before .address-in .ensures)) ∙ ne-eqb _ _ (c .if1 .left) in (
+      else1→line-end c .line-end .ensures .within,
+      else1→loop c .loop .inv .1,
+      sym (data-later (else1→line-end c .line-end .ensures) (else1→start c .args .address) other) ∙ else1→loop c .loop .inv .2,
+    )
 
 same-length-2 : tie.Need-same-length-2 Inv-loop μ-loop
 same-length-2 c = ap length (c .before .loop .inv .1)
 
 returns-2 : tie.Need-returns-2 Inv-loop μ-loop
 returns-2 c =
-    let none : drop (c .before .loop .at) (now (c .before .before .before .before .args .text)) ≡ [] = drop-of-length-le (now (c .before .before .before .before .args .text)) {i = c .before .loop .at} (c .loop-test .left) in
-    let empty = ap (λ (s : List ℕ). length (dataAt (c .before .before .before .before .args .address) (textLines s))) (sym none) ∙ ap length (c .before .loop .inv .2) in
-    absurd (omega (arith, empty, c .before .before .before .before .pre .0))
+    let none : drop (c .before .loop .at) (now (after-loop→start c .args .text))
+    ≡ [] = drop-of-length-le (now (after-loop→start c .args .text)) {i = c .before .loop .at} (c .loop-test .left) in
+    let empty = ap (λ (s : List ℕ). length (dataAt (after-loop→start c .args .address) (textLines s))) (sym none)
+    ∙ ap length (c .before .loop .inv .2) in
+    absurd (omega (arith, empty, after-loop→start c .pre .0))
 
 pub put-found-spec : {M : Type 1} → statement M
 put-found-spec =

@@ -9,6 +9,13 @@ use borrow.Author.Needs.{needs}
 use Rattle.hex.proofs.read_text.Statement.{statement}
 use Rattle.hex.proofs.read_text.Tie as tie
 
+-- places: `a→b` leads from the record of the place a back to that of the place b
+abbrev put-imported-arg→import-answer : tie.After-put-imported-arg → tie.After-import-answer
+put-imported-arg→import-answer c = c .before .before .before
+
+abbrev put-imported-arg→start : tie.After-put-imported-arg → tie.Start
+put-imported-arg→start c = put-imported-arg→import-answer c .before .before .before
+
 import-answer-requires : tie.Need-import-answer-requires
 import-answer-requires c κs = search needs
 
@@ -17,10 +24,10 @@ enum-told c = search needs
 
 put-imported-requires : tie.Need-put-imported-requires
 put-imported-requires c κs =
-    let ls = textLines (now (c .before .before .before .before .before .before .args .text)) in
-    let done = sym (c .before .before .before .import-answer .ensures) ∙ c .before .enum-told .given .1 in
-    let sized = import-sized ls (length (now (c .before .before .before .before .before .before .args .room))) done in
-    (sized .0, (sized .1, (sized .2, import-fits ls (length (now (c .before .before .before .before .before .before .args .room))) done)))
+    let ls = textLines (now (put-imported-arg→start c .args .text)) in
+    let done = sym (put-imported-arg→import-answer c .import-answer .ensures) ∙ c .before .enum-told .given .1 in
+    let sized = import-sized ls (length (now (put-imported-arg→start c .args .room))) done in
+    (sized .0, (sized .1, (sized .2, import-fits ls (length (now (put-imported-arg→start c .args .room))) done)))
 
 enum-known-found : tie.Need-enum-known-found
 enum-known-found c = search needs
@@ -30,8 +37,11 @@ same-length c = search needs
 
 returns : tie.Need-returns
 returns c =
-    let found = sym (c .before .before .before .before .before .before .import-answer .ensures) ∙ c .before .before .before .before .enum-told .given .1 in
-    record { number = ap answerNumber (sym found); answer = sym found; written = rw found (c .before .before .put-imported .ensures) }
+    let at-put-imported = c .before .before in
+    let at-enum-told = at-put-imported .before .before in
+    let at-import-answer = at-enum-told .before .before in
+    let found = sym (at-import-answer .import-answer .ensures) ∙ at-enum-told .enum-told .given .1 in
+    record { number = ap answerNumber (sym found); answer = sym found; written = rw found (at-put-imported .put-imported .ensures) }
 
 returns-2 : tie.Need-returns-2
 returns-2 c =

@@ -16,6 +16,16 @@ Inv-loop bytes sum₀ i₀ sum i = (i ≤ length bytes) × (sum < 256) × ((sum 
 abbrev μ-loop : tie.MeasureT-loop
 μ-loop bytes sum₀ i₀ sum i = length bytes - i
 
+-- places: `a→b` leads from the record of the place a back to that of the place b
+abbrev wrapping-add-u8→in-loop : tie.After-wrapping-add-u8 Inv-loop μ-loop → tie.In-loop Inv-loop μ-loop
+wrapping-add-u8→in-loop c = c .before .before
+
+abbrev wrapping-add-u8→loop : tie.After-wrapping-add-u8 Inv-loop μ-loop → tie.At-loop Inv-loop μ-loop
+wrapping-add-u8→loop c = c .before .before .before
+
+abbrev wrapping-add-u8→start : tie.After-wrapping-add-u8 Inv-loop μ-loop → tie.Start Inv-loop μ-loop
+wrapping-add-u8→start c = wrapping-add-u8→loop c .before .before
+
 loop-holds : tie.Need-loop-holds Inv-loop μ-loop
 loop-holds c = (omega arith, omega arith, omega arith)
 
@@ -32,10 +42,24 @@ loop-less : tie.Need-loop-less Inv-loop μ-loop
 loop-less c = search needs
 
 loop-again : tie.Need-loop-again Inv-loop μ-loop
-loop-again c = (omega arith, omega (arith, c .wrapping-add-u8 .ensures), omega (arith, sum-more (now (c .before .before .before .before .before .args .bytes)) (c .before .before .before .loop .i) (c .before .before .loop-test .taken), c .wrapping-add-u8 .ensures, c .before .before .before .loop .inv .2))
+loop-again c = (
+  omega arith,
+  omega (arith, c .wrapping-add-u8 .ensures),
+  omega (
+    arith,
+    sum-more (now (wrapping-add-u8→start c .args .bytes)) (wrapping-add-u8→loop c .loop .i) (wrapping-add-u8→in-loop c .loop-test .taken),
+    c .wrapping-add-u8 .ensures,
+    wrapping-add-u8→loop c .loop .inv .2,
+  ),
+)
 
 returns : tie.Need-returns Inv-loop μ-loop
-returns c = omega (arith, c .before .loop .inv .1, rw (drop-of-length-le (now (c .before .before .before .args .bytes)) (c .loop-test .left)) at (c .before .loop .inv .2))
+returns c =
+    omega (
+      arith,
+      c .before .loop .inv .1,
+      rw (drop-of-length-le (now (c .before .before .before .args .bytes)) (c .loop-test .left)) at (c .before .loop .inv .2),
+    )
 
 pub total-spec : {M : Type 1} → statement M
 total-spec =

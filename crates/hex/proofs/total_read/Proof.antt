@@ -12,10 +12,27 @@ use Rattle.hex.proofs.total_read.Statement.{statement}
 use Rattle.hex.proofs.total_read.Tie as tie
 
 abbrev Inv-loop : tie.InvT-loop
-Inv-loop text sum₀ i₀ sum i = (i ≤ length text) × (sum < 256) × ((sum + byteSum (hexBytes upper (drop i text))) % 256 ≡ byteSum (hexBytes upper text) % 256)
+Inv-loop text sum₀ i₀ sum i =
+    (i ≤ length text) × (sum < 256) × ((sum + byteSum (hexBytes upper (drop i text))) % 256 ≡ byteSum (hexBytes upper text) % 256)
 
 abbrev μ-loop : tie.MeasureT-loop
 μ-loop text sum₀ i₀ sum i = length text - i
+
+-- places: `a→b` leads from the record of the place a back to that of the place b
+abbrev after-loop→start : tie.After-loop Inv-loop μ-loop → tie.Start Inv-loop μ-loop
+after-loop→start c = c .before .before .before
+
+abbrev upper-byte→in-loop : tie.After-upper-byte Inv-loop μ-loop → tie.In-loop Inv-loop μ-loop
+upper-byte→in-loop c = c .before .before .before
+
+abbrev wrapping-add-u8→in-loop : tie.After-wrapping-add-u8 Inv-loop μ-loop → tie.In-loop Inv-loop μ-loop
+wrapping-add-u8→in-loop c = upper-byte→in-loop (c .before)
+
+abbrev wrapping-add-u8→loop : tie.After-wrapping-add-u8 Inv-loop μ-loop → tie.At-loop Inv-loop μ-loop
+wrapping-add-u8→loop c = wrapping-add-u8→in-loop c .before
+
+abbrev wrapping-add-u8→start : tie.After-wrapping-add-u8 Inv-loop μ-loop → tie.Start Inv-loop μ-loop
+wrapping-add-u8→start c = wrapping-add-u8→loop c .before .before
 
 loop-holds : tie.Need-loop-holds Inv-loop μ-loop
 loop-holds c = (omega arith, omega arith, omega arith)
@@ -45,10 +62,27 @@ loop-less : tie.Need-loop-less Inv-loop μ-loop
 loop-less c = search needs
 
 loop-again : tie.Need-loop-again Inv-loop μ-loop
-loop-again c = (omega arith, omega (arith, c .wrapping-add-u8 .ensures), omega (arith, read-more (now (c .before .before .before .before .before .before .before .args .text)) (c .before .before .before .before .before .loop .i) (c .before .before .before .before .loop-test .taken), c .wrapping-add-u8 .ensures, c .before .upper-byte .ensures, c .before .before .before .before .before .loop .inv .2))
+loop-again c = (
+  omega arith,
+  omega (arith, c .wrapping-add-u8 .ensures),
+  omega (
+    arith,
+    read-more (now (wrapping-add-u8→start c .args .text)) (wrapping-add-u8→loop c .loop .i) (wrapping-add-u8→in-loop c .loop-test .taken),
+    c .wrapping-add-u8 .ensures,
+    c .before .upper-byte .ensures,
+    wrapping-add-u8→loop c .loop .inv .2,
+  ),
+)
 
 returns : tie.Need-returns Inv-loop μ-loop
-returns c = omega (arith, read-end (drop (c .before .loop .i) (now (c .before .before .before .args .text))) (omega (arith, length-drop (c .before .loop .i) (now (c .before .before .before .args .text)), c .loop-test .left)), c .before .loop .inv .1, c .before .loop .inv .2)
+returns c =
+    omega (
+      arith,
+      read-end (drop (c .before .loop .i) (now (after-loop→start c .args .text)))
+          (omega (arith, length-drop (c .before .loop .i) (now (after-loop→start c .args .text)), c .loop-test .left)),
+      c .before .loop .inv .1,
+      c .before .loop .inv .2,
+    )
 
 pub total-read-spec : {M : Type 1} → statement M
 total-read-spec =

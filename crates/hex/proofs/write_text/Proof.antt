@@ -12,6 +12,34 @@ use borrow.Author.Needs.{needs}
 use Rattle.hex.proofs.write_text.Statement.{statement}
 use Rattle.hex.proofs.write_text.Tie as tie
 
+-- places: `a→b` leads from the record of the place a back to that of the place b
+abbrev slice-known→start : tie.After-slice-known → tie.Start
+slice-known→start c = c .before .before .before
+
+abbrev export-answer→start : tie.After-export-answer → tie.Start
+export-answer→start c = slice-known→start (c .before)
+
+abbrev export-label→export-answer : tie.After-export-label → tie.After-export-answer
+export-label→export-answer c = c .before .before .before
+
+abbrev export-label→start : tie.After-export-label → tie.Start
+export-label→start c = export-answer→start (export-label→export-answer c)
+
+abbrev put-text-arg2→export-label : tie.After-put-text-arg2 → tie.After-export-label
+put-text-arg2→export-label c = c .before .before
+
+abbrev put-text-arg2→export-answer : tie.After-put-text-arg2 → tie.After-export-answer
+put-text-arg2→export-answer c = export-label→export-answer (put-text-arg2→export-label c)
+
+abbrev put-text-arg2→start : tie.After-put-text-arg2 → tie.Start
+put-text-arg2→start c = export-answer→start (put-text-arg2→export-answer c)
+
+abbrev put-text→export-label : tie.After-put-text → tie.After-export-label
+put-text→export-label c = c .before .before .before
+
+abbrev put-text→start : tie.After-put-text → tie.Start
+put-text→start c = export-label→start (put-text→export-label c)
+
 export-answer-requires : tie.Need-export-answer-requires
 export-answer-requires c κs = search needs
 
@@ -29,15 +57,17 @@ part-put-text-start c = search needs
 
 part-put-text-end : tie.Need-part-put-text-end
 part-put-text-end c =
-    let g = granted (now (c .before .before .before .before .before .before .before .args .pack)) (now (c .before .before .before .before .before .before .before .args .factory)) (length (now (c .before .before .before .before .before .before .before .args .room))) (sym (c .before .before .before .export-answer .ensures) ∙ c .before .enum-told .given .1) in
-    omega (arith, pack-sized (now (c .before .before .before .before .before .before .before .args .pack)) (now (c .before .before .before .before .before .before .before .args .factory)) (g .0))
+    let g = granted (now (export-label→start c .args .pack)) (now (export-label→start c .args .factory))
+    (length (now (export-label→start c .args .room))) (sym (export-label→export-answer c .export-answer .ensures) ∙ c .before .enum-told .given .1) in
+    omega (arith, pack-sized (now (export-label→start c .args .pack)) (now (export-label→start c .args .factory)) (g .0))
 
 put-text-requires : tie.Need-put-text-requires
 put-text-requires c κs =
-    let pack = now (c .before .before .before .before .before .before .before .before .before .args .pack) in
-    let factory = now (c .before .before .before .before .before .before .before .before .before .args .factory) in
-    let g = granted pack factory (length (now (c .before .before .before .before .before .before .before .before .before .args .room))) (sym (c .before .before .before .before .before .export-answer .ensures) ∙ c .before .before .before .enum-told .given .1) in
-    (ap length (c .before .before .export-label .ensures) ∙ label-sized pack factory (g .0), (block-sized pack factory (g .0), g .1))
+    let pack = now (put-text-arg2→start c .args .pack) in
+    let factory = now (put-text-arg2→start c .args .factory) in
+    let g = granted pack factory (length (now (put-text-arg2→start c .args .room)))
+    (sym (put-text-arg2→export-answer c .export-answer .ensures) ∙ put-text-arg2→export-label c .before .enum-told .given .1) in
+    (ap length (put-text-arg2→export-label c .export-label .ensures) ∙ label-sized pack factory (g .0), (block-sized pack factory (g .0), g .1))
 
 enum-known-found : tie.Need-enum-known-found
 enum-known-found c = search needs
@@ -46,17 +76,27 @@ same-length : tie.Need-same-length
 same-length c = search needs
 
 -- the text of the label that was handed back and of the pack's block 1
-text : (c : tie.After-put-text) → let a = c .before .before .before .before .before .before .before .before .before .before .args in c .put-text .last .1 .1 .0 ≡ exportText (now (c .before .before .before .export-label .result)) (imageBlock (now (a .pack))) ++ drop exportSize (now (a .room))
+text : (c : tie.After-put-text) → let a = put-text→start c .args in
+    c .put-text .last .1 .1 .0
+    ≡ exportText (now (put-text→export-label c .export-label .result)) (imageBlock (now (a .pack))) ++ drop exportSize (now (a .room))
 text c = c .put-text .ensures
 
 returns : tie.Need-returns
 returns c =
-    let a = c .before .before .before .before .before .before .before .before .before .before .before .before .args in
-    let found = sym (c .before .before .before .before .before .before .before .before .export-answer .ensures) ∙ c .before .before .before .before .before .before .enum-told .given .1 in
+    let at-put-text = c .before .before in
+    let at-export-label = at-put-text .before .before .before in
+    let at-enum-told = at-export-label .before in
+    let at-export-answer = at-enum-told .before .before in
+    let at-shared-slice-known = at-export-answer .before .before .before in
+    let at-start = at-shared-slice-known .before in
+    let a = at-start .args in
+    let found = sym (at-export-answer .export-answer .ensures) ∙ at-enum-told .enum-told .given .1 in
     record {
       number = ap answerNumber (sym found);
       answer = sym found;
-      written = rw found (text (c .before .before) ∙ ap (λ (l : List ℕ). exportText l (imageBlock (now (a .pack))) ++ drop exportSize (now (a .room))) (c .before .before .before .before .before .export-label .ensures));
+      written =
+          rw found (text at-put-text
+          ∙ ap (λ (l : List ℕ). exportText l (imageBlock (now (a .pack))) ++ drop exportSize (now (a .room))) (at-export-label .export-label .ensures));
     }
 
 returns-2 : tie.Need-returns-2

@@ -31,9 +31,13 @@ put-import-requires c κs = search needs
 
 returns-2 : tie.Need-returns-2
 returns-2 c =
-    let size : length (now (c .before .before .before .before .before .before .before .args .input)) ≡ 65537 = omega arith in
-    let read = ap hexInSpeech (cut (c .before .before .before .before .within .ensures)) in (
-      λ s front. rw (c .before .before .before .before .before .before .if1 .left, ← read ∙ seen hexInSpeech (error hexInOverText) mostText alike size front) (c .put-import .ensures),
+    let at-all = c .before .before .before in
+    let at-within = at-all .before in
+    let at-else1 = at-within .before .before in
+    let at-start = at-else1 .before in
+    let size : length (now (at-start .args .input)) ≡ 65537 = omega arith in
+    let read = ap hexInSpeech (cut (at-within .within .ensures)) in (
+      λ s front. rw (at-else1 .if1 .left, ← read ∙ seen hexInSpeech (error hexInOverText) mostText alike size front) (c .put-import .ensures),
       search needs,
     )
 

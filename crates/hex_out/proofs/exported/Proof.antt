@@ -8,6 +8,22 @@ use borrow.Author.Needs.{needs}
 use Rattle.hex_out.proofs.exported.Statement.{statement}
 use Rattle.hex_out.proofs.exported.Tie as tie
 
+-- places: `a→b` leads from the record of the place a back to that of the place b
+abbrev put-export-arg→within2 : tie.After-put-export-arg → tie.After-within2
+put-export-arg→within2 c = c .before .before .before
+
+abbrev put-export→within2 : tie.After-put-export → tie.After-within2
+put-export→within2 c = put-export-arg→within2 (c .before .before .before)
+
+abbrev put-export→within : tie.After-put-export → tie.After-within
+put-export→within c = put-export→within2 c .before .before
+
+abbrev put-export→or : tie.After-put-export → tie.After-or
+put-export→or c = put-export→within c .before .before
+
+abbrev put-export→start : tie.After-put-export → tie.Start
+put-export→start c = put-export→or c .before
+
 or-requires : tie.Need-or-requires
 or-requires c κs = search needs
 
@@ -28,10 +44,13 @@ put-export-requires c κs = search needs
 
 returns : tie.Need-returns
 returns c =
-    let one : length (now (c .before .before .before .before .before .before .before .before .before .before .before .args .pack)) ≡ 61 = omega arith in
-    let two : length (now (c .before .before .before .before .before .before .before .before .before .before .before .args .factory)) ≡ 61 = omega arith in (
+    let one : length (now (put-export→start c .args .pack)) ≡ 61 = omega arith in
+    let two : length (now (put-export→start c .args .factory)) ≡ 61 = omega arith in (
       λ s t front other.
-          rw (← c .before .before .before .before .before .before .before .before .before .before .or .ensures, ← both-seen one two (c .before .before .before .before .before .before .before .before .within .ensures) (c .before .before .before .before .before .before .within2 .ensures) front other)
+          rw (
+            ← put-export→or c .or .ensures,
+            ← both-seen one two (put-export→within c .within .ensures) (put-export→within2 c .within2 .ensures) front other,
+          )
           (c .put-export .ensures),
       search needs,
     )

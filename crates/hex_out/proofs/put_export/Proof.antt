@@ -24,13 +24,28 @@ same-length : tie.Need-same-length
 same-length c = search needs
 
 returns-2 : tie.Need-returns-2
-returns-2 c = rw (c .before .before .before .before .before .before .if1 .left) (text-said (c .before .before .before .before .write-text .ensures) (c .before .before .before .before .before .before .before .before .before .before .pre) (c .enum-told .given .1) (c .before .before .before .before .write-text .kept .1 .1 .0))
+returns-2 c =
+    let at-room = c .before .before .before in
+    let at-write-text = at-room .before in
+    let at-else1 = at-write-text .before .before in
+    let at-shared-slice-known = at-else1 .before .before .before in
+    let at-start = at-shared-slice-known .before in
+    rw (at-else1 .if1 .left)
+    (text-said (at-write-text .write-text .ensures) (at-start .pre) (c .enum-told .given .1) (at-write-text .write-text .kept .1 .1 .0))
 
 same-length-2 : tie.Need-same-length-2
 same-length-2 c = search needs
 
 returns-3 : tie.Need-returns-3
-returns-3 c = rw (c .before .before .before .before .before .before .before .before .before .before .before .if1 .left) (refusal-said (c .before .before .before .before .before .before .before .before .before .write-text .ensures) (c .before .before .before .before .before .before .before .before .before .before .before .before .before .before .before .pre) (c .before .before .before .before .before .answer .given .1) (c .before .before .put-why .ensures))
+returns-3 c =
+    let at-put-why = c .before .before in
+    let at-answer = at-put-why .before .before .before in
+    let at-room = at-answer .before .before .before in
+    let at-write-text = at-room .before in
+    let at-else1 = at-write-text .before .before in
+    let at-shared-slice-known = at-else1 .before .before .before in
+    let at-start = at-shared-slice-known .before in
+    rw (at-else1 .if1 .left) (refusal-said (at-write-text .write-text .ensures) (at-start .pre) (at-answer .answer .given .1) (at-put-why .put-why .ensures))
 
 pub put-export-spec : {M : Type 1} → statement M
 put-export-spec =

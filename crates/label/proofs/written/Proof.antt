@@ -31,14 +31,22 @@ returns c =
     let test = c .before in
     let start = test .before .before .before .before .args in
     let both = both-true (eqb (start .a) 0x20) (leb 16 (length (now (start .bytes)))) (sym (test .before .and .ensures) ∙ test .if2 .taken) in
-    simp (not-true (start .locked) (test .before .before .if1 .taken), whole (start .label) (start .a) (now (start .bytes)) (eqb-true _ _ (both .0)) (leb-true _ _ (both .1)) (search needs) (c .sixteen .ensures))
+    simp (
+      not-true (start .locked) (test .before .before .if1 .taken),
+      whole (start .label) (start .a) (now (start .bytes)) (eqb-true _ _ (both .0)) (leb-true _ _ (both .1)) (search needs) (c .sixteen .ensures),
+    )
 
 returns-2 : tie.Need-returns-2
 unfolding labelWrittenOf
 returns-2 c =
-    let test = c .before .before .before .before .before .before in
+    let at-shadow = c .before .before .before in
+    let at-then1 = at-shadow .before .before .before in
+    let test = at-then1 in
     let start = test .before .before .args in
-    simp (not-true (start .locked) (test .if1 .taken), laid-sized 0x20 (start .label .shadow) (start .a) (now (start .bytes)) 16 (search needs) (c .before .laid .ensures))
+    simp (
+      not-true (start .locked) (test .if1 .taken),
+      laid-sized 0x20 (start .label .shadow) (start .a) (now (start .bytes)) 16 (search needs) (c .before .laid .ensures),
+    )
 
 returns-3 : tie.Need-returns-3
 unfolding labelWrittenOf

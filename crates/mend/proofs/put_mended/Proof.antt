@@ -6,10 +6,20 @@ use Rattle.mend.proofs.put_mended.Statement.{statement}
 use Rattle.mend.proofs.put_mended.Tie as tie
 
 returns : tie.Need-returns
-returns c = rw (c .before .before .before .before .before .if1 .taken) (record { saying = c .before .before .put-unread .ensures; filed = refl })
+returns c =
+    let at-put-unread = c .before .before in
+    let at-then1 = at-put-unread .before .before .before in
+    rw (at-then1 .if1 .taken) (record { saying = at-put-unread .put-unread .ensures; filed = refl })
 
 returns-2 : tie.Need-returns-2
-returns-2 c = rw (c .before .before .before .before .before .before .before .before .if1 .left) (record { saying = c .before .before .put-lines .ensures; filed = filed (c .before .before .before .before .before .before .before .before .before .before .before .before .pre .0) (c .before .before .before .before .before .before .mend .ensures) })
+returns-2 c =
+    let at-put-lines = c .before .before in
+    let at-file = at-put-lines .before .before .before in
+    let at-mend = at-file .before in
+    let at-else1 = at-mend .before .before in
+    let at-shared-slice-known = at-else1 .before .before .before in
+    let at-start = at-shared-slice-known .before in
+    rw (at-else1 .if1 .left) (record { saying = at-put-lines .put-lines .ensures; filed = filed (at-start .pre .0) (at-mend .mend .ensures) })
 
 pub put-mended-spec : {M : Type 1} → statement M
 put-mended-spec =

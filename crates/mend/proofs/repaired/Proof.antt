@@ -8,8 +8,20 @@ use borrow.Author.Needs.{needs}
 use Rattle.mend.proofs.repaired.Statement.{statement}
 use Rattle.mend.proofs.repaired.Tie as tie
 
+-- places: `a→b` leads from the record of the place a back to that of the place b
+abbrev put-mended-arg2→within : tie.After-put-mended-arg2 → tie.After-within
+put-mended-arg2→within c = c .before .before .before
+
+abbrev put-mended→within : tie.After-put-mended → tie.After-within
+put-mended→within c = put-mended-arg2→within (c .before .before)
+
+abbrev put-mended→start : tie.After-put-mended → tie.Start
+put-mended→start c = put-mended→within c .before .before
+
 returns : tie.Need-returns
-returns c = let size : length (now (c .before .before .before .before .before .before .before .args .input)) ≡ 61 = omega arith in (λ s front. read-seen size (c .before .before .before .before .before .within .ensures) front (c .put-mended .ensures), search needs)
+returns c =
+    let size : length (now (put-mended→start c .args .input)) ≡ 61 = omega arith in
+    (λ s front. read-seen size (put-mended→within c .within .ensures) front (c .put-mended .ensures), search needs)
 
 pub repaired-spec : {M : Type 1} → statement M
 repaired-spec =

@@ -11,12 +11,16 @@ use borrow.Author.Needs.{needs}
 use Rattle.mending.proofs.answer.Statement.{statement}
 use Rattle.mending.proofs.answer.Tie as tie
 
+-- places: `a→b` leads from the record of the place a back to that of the place b
+abbrev then2→start : tie.Then2 → tie.Start
+then2→start c = c .before .before
+
 returns : tie.Need-returns
 unfolding mendingAnswer
 returns c = simp (ne-eqb _ _ (c .if1 .taken))
 
 -- the room has too few bytes in the second arm
-small : (c : tie.Then2) → ltb (c .before .before .args .room) (c .before .before .args .least) ≡ true
+small : (c : tie.Then2) → ltb (then2→start c .args .room) (then2→start c .args .least) ≡ true
 small c = lt-ltb _ _ (c .if2 .taken)
 
 returns-2 : tie.Need-returns-2
@@ -25,7 +29,9 @@ returns-2 c = simp (eq-eqb _ _ (c .before .if1 .left), small c)
 
 returns-3 : tie.Need-returns-3
 unfolding mendingAnswer
-returns-3 c = simp (eq-eqb _ _ (c .before .before .before .if1 .left), le-ltb _ _ (c .before .before .if2 .left), ne-eqb _ _ (c .if3 .taken))
+returns-3 c =
+    let at-else2 = c .before .before in
+    simp (eq-eqb _ _ (at-else2 .before .if1 .left), le-ltb _ _ (at-else2 .if2 .left), ne-eqb _ _ (c .if3 .taken))
 
 -- the family is right in the last
 right : (c : tie.Else3) → eqb (getD (now (c .before .before .before .before .args .image)) addressAt 0) 0x3d ≡ true
@@ -33,7 +39,9 @@ right c = eq-eqb _ _ (c .if3 .left)
 
 returns-4 : tie.Need-returns-4
 unfolding mendingAnswer
-returns-4 c = simp (eq-eqb _ _ (c .before .before .before .if1 .left), le-ltb _ _ (c .before .before .if2 .left), right c)
+returns-4 c =
+    let at-else2 = c .before .before in
+    simp (eq-eqb _ _ (at-else2 .before .if1 .left), le-ltb _ _ (at-else2 .if2 .left), right c)
 
 pub answer-spec : {M : Type 1} → statement M
 answer-spec = tie.close (tie.spec returns returns-2 (λ c. search needs) returns-3 returns-4)

@@ -5,16 +5,26 @@ use borrow.Author.Needs.{needs}
 use Rattle.mending.proofs.arranged.Statement.{statement}
 use Rattle.mending.proofs.arranged.Tie as tie
 
+-- places: `a→b` leads from the record of the place a back to that of the place b
+abbrev larger2→start : tie.After-larger2 → tie.Start
+larger2→start c = c .before .before .before
+
+abbrev larger3→start : tie.After-larger3 → tie.Start
+larger3→start c = larger2→start (c .before .before)
+
+abbrev smaller3→start : tie.After-smaller3 → tie.Start
+smaller3→start c = larger3→start (c .before)
+
 -- each of the three by itself
-largest : (c : tie.After-larger2) → c .larger2 .result ≡ arrangedOf (c .before .before .before .args .breaks) .b34
+largest : (c : tie.After-larger2) → c .larger2 .result ≡ arrangedOf (larger2→start c .args .breaks) .b34
 unfolding arrangedOf
 largest c = cc
 
-middle : (c : tie.After-larger3) → c .larger3 .result ≡ arrangedOf (c .before .before .before .before .before .args .breaks) .b23
+middle : (c : tie.After-larger3) → c .larger3 .result ≡ arrangedOf (larger3→start c .args .breaks) .b23
 unfolding arrangedOf
 middle c = cc
 
-smallest : (c : tie.After-smaller3) → c .smaller3 .result ≡ arrangedOf (c .before .before .before .before .before .before .args .breaks) .b12
+smallest : (c : tie.After-smaller3) → c .smaller3 .result ≡ arrangedOf (smaller3→start c .args .breaks) .b12
 unfolding arrangedOf
 smallest c = cc
 

@@ -12,16 +12,26 @@ use borrow.Author.Needs.{needs}
 use Rattle.mending.proofs.mend.Statement.{statement}
 use Rattle.mending.proofs.mend.Tie as tie
 
+-- places: `a→b` leads from the record of the place a back to that of the place b
+abbrev put-mended-arg→answer : tie.After-put-mended-arg → tie.After-answer
+put-mended-arg→answer c = c .before .before .before
+
+abbrev put-mended-arg→start : tie.After-put-mended-arg → tie.Start
+put-mended-arg→start c = put-mended-arg→answer c .before .before .before
+
 put-mended-requires : tie.Need-put-mended-requires
 put-mended-requires c κs =
-    let a = c .before .before .before .before .before .before .args in
-    let g = granted 60 (now (a .image)) (length (now (a .room))) (sym (c .before .before .before .answer .ensures) ∙ c .before .enum-told .given .1) in
+    let a = put-mended-arg→start c .args in
+    let g = granted 60 (now (a .image)) (length (now (a .room))) (sym (put-mended-arg→answer c .answer .ensures) ∙ c .before .enum-told .given .1) in
     (g .sized, g .fits)
 
 returns : tie.Need-returns
 returns c =
-    let found = sym (c .before .before .before .before .before .before .answer .ensures) ∙ c .before .before .before .before .enum-told .given .1 in
-    record { number = ap mendedNumber (sym found); answer = sym found; written = rw found (c .before .before .put-mended .ensures) }
+    let at-put-mended = c .before .before in
+    let at-enum-told = at-put-mended .before .before in
+    let at-answer = at-enum-told .before .before in
+    let found = sym (at-answer .answer .ensures) ∙ at-enum-told .enum-told .given .1 in
+    record { number = ap mendedNumber (sym found); answer = sym found; written = rw found (at-put-mended .put-mended .ensures) }
 
 -- a refusal leaves the room as it is
 untouched : (why : MendRefusal) (image room : List ℕ) → mendedRoom (Refused why) image room ≡ room
@@ -29,9 +39,15 @@ untouched why image room = refl
 
 returns-2 : tie.Need-returns-2
 returns-2 c =
-    let a = c .before .before .before .before .before .before .args in
-    let found = sym (c .before .before .before .answer .ensures) ∙ c .before .found .given .1 in
-    record { number = ap mendedNumber (sym found); answer = sym found; written = rw found (sym (untouched (c .before .found .given .0 .0) (now (a .image)) (now (a .room)))) }
+    let at-answer = c .before .before .before in
+    let at-start = at-answer .before .before .before in
+    let a = at-start .args in
+    let found = sym (at-answer .answer .ensures) ∙ c .before .found .given .1 in
+    record {
+      number = ap mendedNumber (sym found);
+      answer = sym found;
+      written = rw found (sym (untouched (c .before .found .given .0 .0) (now (a .image)) (now (a .room))));
+    }
 
 pub mend-spec : {M : Type 1} → statement M
 mend-spec =

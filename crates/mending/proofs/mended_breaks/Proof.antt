@@ -6,8 +6,14 @@ use borrow.Author.Needs.{needs}
 use Rattle.mending.proofs.mended_breaks.Statement.{statement}
 use Rattle.mending.proofs.mended_breaks.Tie as tie
 
+-- places: `a→b` leads from the record of the place a back to that of the place b
+abbrev arranged→of : tie.After-arranged → tie.After-of
+arranged→of c = c .before .before
+
 returns : tie.Need-returns
-returns c = c .arranged .ensures ∙ ap arrangedOf (c .before .capped .ensures ∙ ap cappedOf (c .before .before .of .ensures ∙ ap breaksOf (c .before .before .before .before .thirty-two .ensures)))
+returns c =
+    c .arranged .ensures ∙ ap arrangedOf
+    (c .before .capped .ensures ∙ ap cappedOf (arranged→of c .of .ensures ∙ ap breaksOf (arranged→of c .before .before .thirty-two .ensures)))
 
 pub mended-breaks-spec : {M : Type 1} → statement M
 mended-breaks-spec =

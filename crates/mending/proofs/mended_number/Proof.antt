@@ -15,4 +15,5 @@ returns-2 : tie.Need-returns-2
 returns-2 c = sized c
 
 pub mended-number-spec : {M : Type 1} → statement M
-mended-number-spec = tie.close (tie.spec (λ c. search needs) (λ c. search needs) (λ c. search needs) (λ c. search needs) (λ c. search needs) returns-2 (λ c. search needs))
+mended-number-spec =
+    tie.close (tie.spec (λ c. search needs) (λ c. search needs) (λ c. search needs) (λ c. search needs) (λ c. search needs) returns-2 (λ c. search needs))

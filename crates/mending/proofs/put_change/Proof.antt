@@ -13,13 +13,17 @@ use borrow.Author.Needs.{needs}
 use Rattle.mending.proofs.put_change.Statement.{statement}
 use Rattle.mending.proofs.put_change.Tie as tie
 
+-- places: `a→b` leads from the record of the place a back to that of the place b
+abbrev then1→start : tie.Then1 → tie.Start
+then1→start c = c .before .before
+
 -- of a byte that is as it was there is no line
 no-line : (offset old new : ℕ) → eqb old new ≡ true → changeText offset old new ≡ []
 unfolding changeText
 no-line offset old new same = rw same refl
 
 -- the first arm is for such a byte
-as-it-was : (c : tie.Then1) → eqb (c .before .before .args .old) (c .before .before .args .new) ≡ true
+as-it-was : (c : tie.Then1) → eqb (then1→start c .args .old) (then1→start c .args .new) ≡ true
 as-it-was c = eq-eqb _ _ (c .if1 .taken)
 
 returns : tie.Need-returns
@@ -29,7 +33,9 @@ returns c =
 
 returns-2 : tie.Need-returns-2
 unfolding changeText
-returns-2 c = rw (ne-eqb _ _ (c .before .before .before .before .if1 .left)) (c .before .before .put-line .ensures)
+returns-2 c =
+    let at-put-line = c .before .before in
+    rw (ne-eqb _ _ (at-put-line .before .before .if1 .left)) (at-put-line .put-line .ensures)
 
 pub put-change-spec : {M : Type 1} → statement M
 put-change-spec = tie.close (tie.spec returns (λ c κs. search needs) (λ c. search needs) returns-2)

@@ -18,20 +18,71 @@ Inv-loop old new room₀ table next₀ i₀ room next i = (i ≤ length old) × 
 abbrev μ-loop : tie.MeasureT-loop
 μ-loop old new room₀ table next₀ i₀ room next i = length old - i
 
+-- places: `a→b` leads from the record of the place a back to that of the place b
+abbrev slice-known→start : tie.After-slice-known Inv-loop μ-loop → tie.Start Inv-loop μ-loop
+slice-known→start c = c .before .before .before
+
+abbrev lower-pairs→start : tie.After-lower-pairs Inv-loop μ-loop → tie.Start Inv-loop μ-loop
+lower-pairs→start c = slice-known→start (c .before)
+
+abbrev after-loop→start : tie.After-loop Inv-loop μ-loop → tie.Start Inv-loop μ-loop
+after-loop→start c = slice-known→start (c .before .before .before)
+
+abbrev shared-slice-known4→in-loop : tie.After-shared-slice-known4 Inv-loop μ-loop → tie.In-loop Inv-loop μ-loop
+shared-slice-known4→in-loop c = c .before .before .before
+
+abbrev put-change-arg→in-loop : tie.After-put-change-arg Inv-loop μ-loop → tie.In-loop Inv-loop μ-loop
+put-change-arg→in-loop c = shared-slice-known4→in-loop (c .before)
+
+abbrev put-change-arg→loop : tie.After-put-change-arg Inv-loop μ-loop → tie.At-loop Inv-loop μ-loop
+put-change-arg→loop c = put-change-arg→in-loop c .before
+
+abbrev put-change-arg→lower-pairs : tie.After-put-change-arg Inv-loop μ-loop → tie.After-lower-pairs Inv-loop μ-loop
+put-change-arg→lower-pairs c = put-change-arg→loop c .before
+
+abbrev put-change-arg→start : tie.After-put-change-arg Inv-loop μ-loop → tie.Start Inv-loop μ-loop
+put-change-arg→start c = lower-pairs→start (put-change-arg→lower-pairs c)
+
+abbrev slice-known2→in-loop : tie.After-slice-known2 Inv-loop μ-loop → tie.In-loop Inv-loop μ-loop
+slice-known2→in-loop c = put-change-arg→in-loop (c .before .before .before)
+
+abbrev slice-known2→loop : tie.After-slice-known2 Inv-loop μ-loop → tie.At-loop Inv-loop μ-loop
+slice-known2→loop c = slice-known2→in-loop c .before
+
+abbrev slice-known2→start : tie.After-slice-known2 Inv-loop μ-loop → tie.Start Inv-loop μ-loop
+slice-known2→start c = put-change-arg→start (c .before .before .before)
+
 loop-holds : tie.Need-loop-holds Inv-loop μ-loop
-loop-holds c = (omega arith, none (now (c .before .before .before .before .args .room)) 0)
+loop-holds c = (omega arith, none (now (lower-pairs→start c .args .room)) 0)
 
 put-change-requires : tie.Need-put-change-requires Inv-loop μ-loop
-put-change-requires c κs = (c .before .before .before .before .before .before .lower-pairs .ensures, omega (arith, kept (c .before .before .before .before .before .loop .inv .1), c .before .before .before .before .before .loop .inv .1 .within, c .before .before .before .before .before .before .before .before .before .before .pre .0, c .before .before .before .before .before .before .before .before .before .before .pre .1 .1, c .before .before .before .before .loop-test .taken))
+put-change-requires c κs = (
+  put-change-arg→lower-pairs c .lower-pairs .ensures,
+  omega (
+    arith,
+    kept (put-change-arg→loop c .loop .inv .1),
+    put-change-arg→loop c .loop .inv .1 .within,
+    put-change-arg→start c .pre .0,
+    put-change-arg→start c .pre .1 .1,
+    put-change-arg→in-loop c .loop-test .taken,
+  ),
+)
 
 loop-again : tie.Need-loop-again Inv-loop μ-loop
-loop-again c = (omega arith, changes-then _ _ _ (c .before .before .before .before .before .before .before .loop-test .taken) (c .before .before .before .before .before .before .before .before .before .before .before .before .before .pre .0 ∙ sym (c .before .before .before .before .before .before .before .before .before .before .before .before .before .pre .1 .0)) (c .before .before .before .before .before .before .before .before .loop .inv .1) (c .before .before .put-change .ensures))
+loop-again c = (
+  omega arith,
+  changes-then _ _ _ (slice-known2→in-loop c .loop-test .taken)
+      (slice-known2→start c .pre .0 ∙ sym (slice-known2→start c .pre .1 .0)) (slice-known2→loop c .loop .inv .1)
+      (c .before .before .put-change .ensures),
+)
 
 same-length : tie.Need-same-length Inv-loop μ-loop
 same-length c = kept (c .before .loop .inv .1)
 
 returns : tie.Need-returns Inv-loop μ-loop
-returns c = changes-all _ _ _ (c .loop-test .left) (omega (arith, c .before .loop .inv .0, c .before .before .before .before .before .before .pre .0)) (c .before .before .before .before .before .before .pre .0 ∙ sym (c .before .before .before .before .before .before .pre .1 .0)) (c .before .loop .inv .1)
+returns c =
+    changes-all _ _ _ (c .loop-test .left) (omega (arith, c .before .loop .inv .0, after-loop→start c .pre .0))
+    (after-loop→start c .pre .0 ∙ sym (after-loop→start c .pre .1 .0)) (c .before .loop .inv .1)
 
 pub put-changes-spec : {M : Type 1} → statement M
 put-changes-spec =

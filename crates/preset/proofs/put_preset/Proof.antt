@@ -10,13 +10,25 @@ returns c = rw (c .if1 .taken) (record { stream = refl; counted = refl; written 
 
 returns-2 : tie.Need-returns-2
 returns-2 c =
-    rw (c .before .before .before .before .before .before .if1 .left)
-    (session-said (c .before .before .before .before .write-session .ensures) (c .before .before .before .before .before .before .before .before .before .before .pre) (c .enum-told .given .1) (c .before .before .before .before .write-session .kept .1 .1 .0))
+    let at-room = c .before .before .before in
+    let at-write-session = at-room .before in
+    let at-else1 = at-write-session .before .before in
+    let at-shared-slice-known = at-else1 .before .before .before in
+    let at-start = at-shared-slice-known .before in
+    rw (at-else1 .if1 .left)
+    (session-said (at-write-session .write-session .ensures) (at-start .pre) (c .enum-told .given .1) (at-write-session .write-session .kept .1 .1 .0))
 
 returns-3 : tie.Need-returns-3
 returns-3 c =
-    rw (c .before .before .before .before .before .before .before .before .before .before .before .if1 .left)
-    (refusal-said (c .before .before .before .before .before .before .before .before .before .write-session .ensures) (c .before .before .before .before .before .before .before .before .before .before .before .before .before .before .before .pre) (c .before .before .before .before .before .written .given .1) (c .before .before .put-why .ensures))
+    let at-put-why = c .before .before in
+    let at-written = at-put-why .before .before .before in
+    let at-room = at-written .before .before .before in
+    let at-write-session = at-room .before in
+    let at-else1 = at-write-session .before .before in
+    let at-shared-slice-known = at-else1 .before .before .before in
+    let at-start = at-shared-slice-known .before in
+    rw (at-else1 .if1 .left)
+    (refusal-said (at-write-session .write-session .ensures) (at-start .pre) (at-written .written .given .1) (at-put-why .put-why .ensures))
 
 pub put-preset-spec : {M : Type 1} → statement M
 put-preset-spec =

@@ -7,8 +7,16 @@ use borrow.Author.Needs.{needs}
 use Rattle.preset_session.proofs.answer.Statement.{statement}
 use Rattle.preset_session.proofs.answer.Tie as tie
 
+-- places: `a→b` leads from the record of the place a back to that of the place b
+abbrev enum-told→judged : tie.After-enum-told → tie.After-judged
+enum-told→judged c = c .before .before
+
+abbrev enum-told→start : tie.After-enum-told → tie.Start
+enum-told→start c = enum-told→judged c .before .before .before
+
 accepted-answer-requires : tie.Need-accepted-answer-requires
-accepted-answer-requires c κs = judged-sized Ds2781 (now (c .before .before .before .before .before .args .image)) (sym (c .before .before .judged .ensures) ∙ c .enum-told .given .1)
+accepted-answer-requires c κs =
+    judged-sized Ds2781 (now (enum-told→start c .args .image)) (sym (enum-told→judged c .judged .ensures) ∙ c .enum-told .given .1)
 
 returns : tie.Need-returns
 unfolding presetAnswer

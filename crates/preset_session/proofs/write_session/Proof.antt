@@ -14,16 +14,33 @@ use borrow.Author.Needs.{needs}
 use Rattle.preset_session.proofs.write_session.Statement.{statement}
 use Rattle.preset_session.proofs.write_session.Tie as tie
 
+-- places: `a→b` leads from the record of the place a back to that of the place b
+abbrev slice-known→start : tie.After-slice-known → tie.Start
+slice-known→start c = c .before .before .before
+
+abbrev answer→start : tie.After-answer → tie.Start
+answer→start c = slice-known→start (c .before)
+
+abbrev put-session-arg→answer : tie.After-put-session-arg → tie.After-answer
+put-session-arg→answer c = c .before .before .before
+
+abbrev put-session-arg→start : tie.After-put-session-arg → tie.Start
+put-session-arg→start c = answer→start (put-session-arg→answer c)
+
 put-session-requires : tie.Need-put-session-requires
 put-session-requires c κs =
-    let a = c .before .before .before .before .before .before .before .args in
-    let g = granted (now (a .image)) (now (a .wanted)) (length (now (a .room))) (sym (c .before .before .before .answer .ensures) ∙ c .before .enum-told .given .1) in
+    let a = put-session-arg→start c .args in
+    let g = granted (now (a .image)) (now (a .wanted)) (length (now (a .room)))
+    (sym (put-session-arg→answer c .answer .ensures) ∙ c .before .enum-told .given .1) in
     (judged-sized Ds2781 (now (a .image)) (g .accepted), (g .all, g .fits))
 
 returns : tie.Need-returns
 returns c =
-    let found = sym (c .before .before .before .before .before .before .answer .ensures) ∙ c .before .before .before .before .enum-told .given .1 in
-    record { number = ap writtenNumber (sym found); answer = sym found; written = rw found (c .before .before .put-session .ensures) }
+    let at-put-session = c .before .before in
+    let at-enum-told = at-put-session .before .before in
+    let at-answer = at-enum-told .before .before in
+    let found = sym (at-answer .answer .ensures) ∙ at-enum-told .enum-told .given .1 in
+    record { number = ap writtenNumber (sym found); answer = sym found; written = rw found (at-put-session .put-session .ensures) }
 
 -- a refusal leaves the room as it is
 untouched : (why : PresetRefusal) (image wanted room : List ℕ) → roomBy (Refused why) image wanted room ≡ room
@@ -31,9 +48,16 @@ untouched why image wanted room = refl
 
 returns-2 : tie.Need-returns-2
 returns-2 c =
-    let a = c .before .before .before .before .before .before .before .args in
-    let found = sym (c .before .before .before .answer .ensures) ∙ c .before .found .given .1 in
-    record { number = ap writtenNumber (sym found); answer = sym found; written = rw found (sym (untouched (c .before .found .given .0 .0) (now (a .image)) (now (a .wanted)) (now (a .room)))) }
+    let at-answer = c .before .before .before in
+    let at-shared-slice-known = at-answer .before .before .before in
+    let at-start = at-shared-slice-known .before in
+    let a = at-start .args in
+    let found = sym (at-answer .answer .ensures) ∙ c .before .found .given .1 in
+    record {
+      number = ap writtenNumber (sym found);
+      answer = sym found;
+      written = rw found (sym (untouched (c .before .found .given .0 .0) (now (a .image)) (now (a .wanted)) (now (a .room))));
+    }
 
 pub write-session-spec : {M : Type 1} → statement M
 write-session-spec =

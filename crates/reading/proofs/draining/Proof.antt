@@ -11,4 +11,5 @@ returns c =
     simp (c .and3 .ensures, c1 .and2 .ensures, c4 .and .ensures)
 
 pub draining-spec : {M : Type 1} → statement M
-draining-spec = tie.close (tie.spec (λ c. search needs) (λ c. search needs) (λ c κs. search needs) (λ c κs. search needs) (λ c κs. search needs) returns)
+draining-spec =
+    tie.close (tie.spec (λ c. search needs) (λ c. search needs) (λ c κs. search needs) (λ c κs. search needs) (λ c κs. search needs) returns)

@@ -13,4 +13,5 @@ returns c =
     simp (c .or .ensures, c2 .choose-bool .ensures, c3 .and-not3 .ensures, c5 .and-not2 .ensures, c7 .and-not .ensures)
 
 pub flagged-spec : {M : Type 1} → statement M
-flagged-spec = tie.close (tie.spec (λ c κs. search needs) (λ c κs. search needs) (λ c κs. search needs) (λ c κs. search needs) (λ c κs. search needs) returns)
+flagged-spec =
+    tie.close (tie.spec (λ c κs. search needs) (λ c κs. search needs) (λ c κs. search needs) (λ c κs. search needs) (λ c κs. search needs) returns)

@@ -13,7 +13,18 @@ returns c =
     let c5 = c4 .before in
     let c6 = c5 .before in
     let c7 = c6 .before in
-    simp (c .amount2 .ensures, c1 .amount .ensures, c2 .percent2 .ensures, c3 .usable2 .ensures, c4 .percent .ensures, c5 .usable .ensures, c6 .left2 .ensures .0, c7 .left .ensures .0)
+    simp (
+      c .amount2 .ensures,
+      c1 .amount .ensures,
+      c2 .percent2 .ensures,
+      c3 .usable2 .ensures,
+      c4 .percent .ensures,
+      c5 .usable .ensures,
+      c6 .left2 .ensures .0,
+      c7 .left .ensures .0,
+    )
 
 pub results-of-spec : {M : Type 1} → statement M
-results-of-spec = tie.close (tie.spec (λ c κs. search needs) (λ c κs. search needs) (λ c κs. search needs) (λ c κs. search needs) (λ c κs. search needs) (λ c κs. search needs) (λ c κs. search needs) (λ c κs. search needs) returns)
+results-of-spec =
+    tie.close (tie.spec (λ c κs. search needs) (λ c κs. search needs) (λ c κs. search needs) (λ c κs. search needs) (λ c κs. search needs)
+    (λ c κs. search needs) (λ c κs. search needs) (λ c κs. search needs) returns)

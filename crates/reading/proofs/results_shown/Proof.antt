@@ -11,8 +11,16 @@ use borrow.Author.Needs.{needs}
 use Rattle.reading.proofs.results_shown.Statement.{statement}
 use Rattle.reading.proofs.results_shown.Tie as tie
 
+-- places: `a→b` leads from the record of the place a back to that of the place b
+abbrev and-not→start : tie.After-and-not → tie.Start
+and-not→start c = c .before .before .before
+
+abbrev kept→start : tie.After-kept → tie.Start
+kept→start c = and-not→start (c .before)
+
 -- the cells, with what step 6 saves
-cells : (c : tie.After-kept) → let a = c .before .before .before .before .args in withSaved (a .meter .cells) (c .kept .result) ≡ resultsShown (a .meter) (a .seen) (a .charge) (a .results) .cells
+cells : (c : tie.After-kept) → let a = kept→start c .args in
+    withSaved (a .meter .cells) (c .kept .result) ≡ resultsShown (a .meter) (a .seen) (a .charge) (a .results) .cells
 unfolding resultsShown
 cells c = simp (c .kept .ensures, c .before .and-not .ensures)
 
@@ -31,7 +39,7 @@ unfolding resultsShown
 returns c =
     let c4 = c .before .before .before .before in
     let c8 = c4 .before .before .before .before in
-    let c12 = c8 .before .before .before .before in
+    let c12 = kept→start c8 in
     let a = c12 .args in
     also MeterWF
     (λ i. record {
@@ -39,7 +47,13 @@ returns c =
       charge = charge (a .meter) (a .seen) (a .charge) (a .results) i;
       cycles = cycles (a .meter) (a .seen) (a .charge) (a .results) i;
       flow = withSince (a .meter .flow) (c4 .lowered .ensures i);
-      shown = record { model = a .seen .lines; results = a .results; reading = resultsShown (a .meter) (a .seen) (a .charge) (a .results) .shown .reading; flags = c .flagged .ensures i };
+      shown =
+          record {
+            model = a .seen .lines;
+            results = a .results;
+            reading = resultsShown (a .meter) (a .seen) (a .charge) (a .results) .shown .reading;
+            flags = c .flagged .ensures i;
+          };
     })
     (results-shown-wf (a .meter) (a .seen) (a .charge) (a .results) (c12 .pre .1 .0) (c12 .pre .1 .1) (c12 .pre .0))
 

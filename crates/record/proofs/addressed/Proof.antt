@@ -11,4 +11,6 @@ returns c =
     simp (c .and .ensures, c2 .family .ensures, c4 .crc .ensures)
 
 pub addressed-spec : {M : Type 1} → statement M
-addressed-spec = tie.close (tie.spec (λ c. search needs) (λ c. search needs) (λ c. search needs) (λ c κs. search needs) (λ c. search needs) (λ c κs. search needs) (λ c. search needs) (λ c κs. search needs) returns)
+addressed-spec =
+    tie.close (tie.spec (λ c. search needs) (λ c. search needs) (λ c. search needs) (λ c κs. search needs) (λ c. search needs)
+    (λ c κs. search needs) (λ c. search needs) (λ c κs. search needs) returns)

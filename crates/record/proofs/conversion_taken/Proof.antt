@@ -7,7 +7,9 @@ returns : tie.Need-returns
 returns c = simp (ne-eqb _ _ (c .if1 .taken))
 
 returns-2 : tie.Need-returns-2
-returns-2 c = simp (eq-eqb _ _ (c .before .before .before .if1 .left), c .before .before .if2 .taken, c .offset32 .ensures, c .before .quad .ensures)
+returns-2 c =
+    let at-then2 = c .before .before in
+    simp (eq-eqb _ _ (at-then2 .before .if1 .left), at-then2 .if2 .taken, c .offset32 .ensures, c .before .quad .ensures)
 
 returns-3 : tie.Need-returns-3
 returns-3 c = simp (eq-eqb _ _ (c .before .if1 .left), c .if2 .left)

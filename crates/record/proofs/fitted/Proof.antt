@@ -11,7 +11,8 @@ returns : tie.Need-returns
 unfolding takenOf
 returns c =
     let a = c .before .before .before .args in
-    c .fitted-by .ensures ∙ ap (λ (k : Kind). fittedOf (a .room) (timedOf (a .last) (takenBy false k (a .loaded) (now (a .payload))))) (c .before .kind-of .ensures)
+    c .fitted-by .ensures ∙ ap (λ (k : Kind). fittedOf (a .room) (timedOf (a .last) (takenBy false k (a .loaded) (now (a .payload)))))
+    (c .before .kind-of .ensures)
 
 pub fitted-spec : {M : Type 1} → statement M
 fitted-spec = tie.close (tie.spec (λ c κs. search needs) (λ c κs. search needs) returns)

@@ -13,6 +13,25 @@ use borrow.Author.Needs.{needs}
 use Rattle.record.proofs.fitted_by.Statement.{statement}
 use Rattle.record.proofs.fitted_by.Tie as tie
 
+-- places: `a→b` leads from the record of the place a back to that of the place b
+abbrev enum-told→start : tie.After-enum-told → tie.Start
+enum-told→start c = c .before .before .before
+
+abbrev reading-taken→start : tie.After-reading-taken → tie.Start
+reading-taken→start c = enum-told→start (c .before)
+
+abbrev image-taken→kind : tie.After-image-taken → tie.After-kind
+image-taken→kind c = c .before .before
+
+abbrev image-taken→start : tie.After-image-taken → tie.Start
+image-taken→start c = image-taken→kind c .before .before .before
+
+abbrev transaction-taken→kind2 : tie.After-transaction-taken → tie.After-kind2
+transaction-taken→kind2 c = c .before .before
+
+abbrev transaction-taken→start : tie.After-transaction-taken → tie.Start
+transaction-taken→start c = transaction-taken→kind2 c .before .before .before
+
 -- what an arm of the match gives, where the number stands for that kind
 arm : (room : ℕ) (last : Tick) (again loaded : Bool) (p : List ℕ) (said k : Kind) (r : Taken) → said ≡ k
     → r ≡ fittedOf room (timedOf last (takenBy again k loaded p)) → r ≡ fittedOf room (timedOf last (takenBy again said loaded p))
@@ -25,16 +44,17 @@ stateless room last again loaded p said k r told s given = arm room last again l
 
 returns : tie.Need-returns
 returns c =
-    let a = c .before .before .before .before .before .args in
-    stateless (a .room) (a .last) (a .again) (a .loaded) (now (a .payload)) _ _ _ (c .before .before .kind .given .1) tt (c .image-taken .ensures)
+    let a = image-taken→start c .args in
+    stateless (a .room) (a .last) (a .again) (a .loaded) (now (a .payload)) _ _ _ (image-taken→kind c .kind .given .1) tt (c .image-taken .ensures)
 
 -- a reading is taken by whether an image was accepted
-read : (c : tie.After-reading-taken) → let a = c .before .before .before .before .args in c .reading-taken .result ≡ takenBy false kind.Reading (a .loaded) (now (a .payload))
+read : (c : tie.After-reading-taken) → let a = reading-taken→start c .args in
+    c .reading-taken .result ≡ takenBy false kind.Reading (a .loaded) (now (a .payload))
 read c = c .reading-taken .ensures
 
 returns-2 : tie.Need-returns-2
 returns-2 c =
-    let a = c .before .before .before .before .args in
+    let a = reading-taken→start c .args in
     stateless (a .room) (a .last) (a .again) (a .loaded) (now (a .payload)) _ _ _ (c .before .enum-told .given .1) tt (read c)
 
 returns-3 : tie.Need-returns-3
@@ -44,9 +64,10 @@ returns-3 c =
 
 returns-4 : tie.Need-returns-4
 returns-4 c =
-    let a = c .before .before .before .before .before .args in
-    arm (a .room) (a .last) (a .again) (a .loaded) (now (a .payload)) _ _ _ (c .before .before .kind2 .given .1)
-    (c .transaction-taken .ensures ∙ ap (fittedOf (a .room)) (transaction-timely (a .last) (a .again) (a .loaded) (now (a .payload)) (c .before .before .kind2 .given .0 .0)))
+    let a = transaction-taken→start c .args in
+    arm (a .room) (a .last) (a .again) (a .loaded) (now (a .payload)) _ _ _ (transaction-taken→kind2 c .kind2 .given .1)
+    (c .transaction-taken .ensures
+    ∙ ap (fittedOf (a .room)) (transaction-timely (a .last) (a .again) (a .loaded) (now (a .payload)) (transaction-taken→kind2 c .kind2 .given .0 .0)))
 
 returns-5 : tie.Need-returns-5
 returns-5 c =

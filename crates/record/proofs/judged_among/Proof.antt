@@ -11,8 +11,19 @@ use borrow.Author.Needs.{needs}
 use Rattle.record.proofs.judged_among.Statement.{statement}
 use Rattle.record.proofs.judged_among.Tie as tie
 
+-- places: `a→b` leads from the record of the place a back to that of the place b
+abbrev then1→start : tie.Then1 → tie.Start
+then1→start c = c .before .before .before
+
+abbrev then2→start : tie.Then2 → tie.Start
+then2→start c = then1→start (c .before .before .before)
+
+abbrev else3→start : tie.Else3 → tie.Start
+else3→start c = then2→start (c .before .before)
+
 -- what is told of the breakpoints of a block, by the calls that lead there
-told : {block part : List ℕ} {b : Breaks} {t u : Bool} → block ≡ part → b ≡ breaksOf block → t ≡ orderedOf b → t ≡ u → orderedOf (breaksOf part) ≡ u
+told : {block part : List ℕ} {b : Breaks} {t u : Bool} → block ≡ part → b ≡ breaksOf block → t ≡ orderedOf b → t ≡ u →
+    orderedOf (breaksOf part) ≡ u
 told copied read judged u = ap (λ (l : List ℕ). orderedOf (breaksOf l)) (sym copied) ∙ ap orderedOf (sym read) ∙ sym judged ∙ u
 
 returns : tie.Need-returns
@@ -72,7 +83,7 @@ returns-3 c =
 
 -- where the third test fails the lock byte is above 3 ..
 abbrev Above : tie.Else3 → Type 0
-Above c = lockableOf (now (c .before .before .before .before .before .before .before .before .args .image)) ≡ false
+Above c = lockableOf (now (else3→start c .args .image)) ≡ false
 
 above : (c : tie.Else3) → Above c
 above c = lt-leb _ _ (c .if3 .left)
@@ -105,4 +116,6 @@ returns-6 c =
     simp (ne-eqb _ _ (λ e. c .if1 .left (e ∙ sym (c1 .image-size .ensures .0))))
 
 pub judged-among-spec : {M : Type 1} → statement M
-judged-among-spec = tie.close (tie.spec (λ c κs. search needs) (λ c. search needs) (λ c. search needs) (λ c. search needs) (λ c κs. search needs) (λ c. search needs) (λ c κs. search needs) (λ c κs. search needs) (λ c κs. search needs) returns returns-2 returns-3 returns-4 returns-5 returns-6)
+judged-among-spec =
+    tie.close (tie.spec (λ c κs. search needs) (λ c. search needs) (λ c. search needs) (λ c. search needs) (λ c κs. search needs)
+    (λ c. search needs) (λ c κs. search needs) (λ c κs. search needs) (λ c κs. search needs) returns returns-2 returns-3 returns-4 returns-5 returns-6)

@@ -9,6 +9,13 @@ use borrow.Author.Needs.{needs}
 use Rattle.record.proofs.read_count.Statement.{statement}
 use Rattle.record.proofs.read_count.Tie as tie
 
+-- places: `a→b` leads from the record of the place a back to that of the place b
+abbrev wide→enum-told : tie.After-wide → tie.After-enum-told
+wide→enum-told c = c .before .before
+
+abbrev wide→start : tie.After-wide → tie.Start
+wide→start c = wide→enum-told c .before .before .before
+
 -- the bytes of the read count are there
 there : (n : ℕ) (said f : Form) → headOf said ≤ n → said ≡ f → headOf f ≤ n
 there n said f fits told = omega (arith, ap headOf told)
@@ -24,7 +31,7 @@ pair-requires : tie.Need-pair-requires
 pair-requires c κs = there _ _ _ (c .before .before .before .pre) (c .enum-told2 .given .1)
 
 returns : tie.Need-returns
-returns c = c .wide .ensures .0 ∙ count _ _ (now (c .before .before .before .before .before .args .payload)) (c .before .before .enum-told .given .1)
+returns c = c .wide .ensures .0 ∙ count _ _ (now (wide→start c .args .payload)) (wide→enum-told c .enum-told .given .1)
 
 returns-2 : tie.Need-returns-2
 returns-2 c = c .pair .ensures ∙ count _ _ (now (c .before .before .before .before .args .payload)) (c .before .enum-told2 .given .1)

@@ -73,10 +73,11 @@ returns-15 c = rw (c .before .match .keys15) (c .two4 .ensures)
 returns-16 : tie.Need-returns-16
 unfolding registersOf
 returns-16 c =
-    let start = c .before .before .before .before in
+    let at-cycle-byte = c .before .before in
+    let start = at-cycle-byte .before .before in
     let at = start .args .at in
     let even = start .pre .1 .1 in
-    let r = c .before .before .before .match .rest in
+    let r = at-cycle-byte .before .match .rest in
     let h₁ = past at 0x0 even (omega arith) (r .0 .0 .0 .0 .0 .0 .0 .0 .0 .0 .0 .0 .0 .0 .1) in
     let h₂ = past at 0x1 even h₁ (r .0 .0 .0 .0 .0 .0 .0 .0 .0 .0 .0 .0 .0 .1) in
     let h₃ = past at 0x2 even h₂ (r .0 .0 .0 .0 .0 .0 .0 .0 .0 .0 .0 .0 .1) in
@@ -93,7 +94,7 @@ returns-16 c =
     let h₁₄ = past at 0xd even h₁₃ (r .0 .1) in
     let h₁₅ = past at 0xe even h₁₄ (r .1) in
     let last : at ≡ 0x1e = omega (arith, h₁₅, start .pre .1) in
-    rw last (c .two5 .ensures ∙ (λ i. twoOf (c .before .before .cycle-byte .ensures i) (c .before .eeprom .ensures i)))
+    rw last (c .two5 .ensures ∙ (λ i. twoOf (at-cycle-byte .cycle-byte .ensures i) (c .before .eeprom .ensures i)))
 
 pub register-spec : {M : Type 1} → statement M
 register-spec =

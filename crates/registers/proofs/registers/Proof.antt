@@ -9,6 +9,55 @@ use borrow.Author.Needs.{needs}
 use Rattle.registers.proofs.registers.Statement.{statement}
 use Rattle.registers.proofs.registers.Tie as tie
 
+-- places: `a→b` leads from the record of the place a back to that of the place b
+abbrev put→start : tie.After-put → tie.Start
+put→start c = c .before .before .before
+
+abbrev put2→start : tie.After-put2 → tie.Start
+put2→start c = put→start (c .before .before .before)
+
+abbrev put3→start : tie.After-put3 → tie.Start
+put3→start c = put2→start (c .before .before .before)
+
+abbrev put4→start : tie.After-put4 → tie.Start
+put4→start c = put3→start (c .before .before .before)
+
+abbrev put5→start : tie.After-put5 → tie.Start
+put5→start c = put4→start (c .before .before .before)
+
+abbrev put6→start : tie.After-put6 → tie.Start
+put6→start c = put5→start (c .before .before .before)
+
+abbrev bytes7→start : tie.After-bytes7 → tie.Start
+bytes7→start c = put6→start (c .before)
+
+abbrev bytes8→start : tie.After-bytes8 → tie.Start
+bytes8→start c = bytes7→start (c .before .before .before)
+
+abbrev bytes9→start : tie.After-bytes9 → tie.Start
+bytes9→start c = bytes8→start (c .before .before .before)
+
+abbrev bytes10→start : tie.After-bytes10 → tie.Start
+bytes10→start c = bytes9→start (c .before .before .before)
+
+abbrev bytes11→start : tie.After-bytes11 → tie.Start
+bytes11→start c = bytes10→start (c .before .before .before)
+
+abbrev bytes12→start : tie.After-bytes12 → tie.Start
+bytes12→start c = bytes11→start (c .before .before .before)
+
+abbrev bytes13→start : tie.After-bytes13 → tie.Start
+bytes13→start c = bytes12→start (c .before .before .before)
+
+abbrev bytes14→start : tie.After-bytes14 → tie.Start
+bytes14→start c = bytes13→start (c .before .before .before)
+
+abbrev bytes15→start : tie.After-bytes15 → tie.Start
+bytes15→start c = bytes14→start (c .before .before .before)
+
+abbrev bytes16→start : tie.After-bytes16 → tie.Start
+bytes16→start c = bytes15→start (c .before .before .before)
+
 -- one more pair
 then : {p q : Pair} {r s t : List ℕ} (at : ℕ) → r ≡ putOf s at p → p ≡ q → s ≡ t → r ≡ putOf t at q
 then at e f g = e ∙ (λ i. putOf (g i) at (f i))
@@ -64,24 +113,24 @@ registers-spec =
     (λ c κs. search needs)
     (λ c κs. search needs)
     (λ c κs. search needs)
-    (λ c κs. (c .before .before .before .before .before .before .before .before .before .before .before .before .before .before .before .before .before .before .before .pre, (omega arith, refl)))
+    (λ c κs. (bytes7→start c .pre, (omega arith, refl)))
     (λ c κs. search needs)
-    (λ c κs. (c .before .before .before .before .before .before .before .before .before .before .before .before .before .before .before .before .before .before .before .before .before .before .pre, (omega arith, refl)))
+    (λ c κs. (bytes8→start c .pre, (omega arith, refl)))
     (λ c κs. search needs)
-    (λ c κs. (c .before .before .before .before .before .before .before .before .before .before .before .before .before .before .before .before .before .before .before .before .before .before .before .before .before .pre, (omega arith, refl)))
+    (λ c κs. (bytes9→start c .pre, (omega arith, refl)))
     (λ c κs. search needs)
-    (λ c κs. (c .before .before .before .before .before .before .before .before .before .before .before .before .before .before .before .before .before .before .before .before .before .before .before .before .before .before .before .before .pre, (omega arith, refl)))
+    (λ c κs. (bytes10→start c .pre, (omega arith, refl)))
     (λ c κs. search needs)
-    (λ c κs. (c .before .before .before .before .before .before .before .before .before .before .before .before .before .before .before .before .before .before .before .before .before .before .before .before .before .before .before .before .before .before .before .pre, (omega arith, refl)))
+    (λ c κs. (bytes11→start c .pre, (omega arith, refl)))
     (λ c κs. search needs)
-    (λ c κs. (c .before .before .before .before .before .before .before .before .before .before .before .before .before .before .before .before .before .before .before .before .before .before .before .before .before .before .before .before .before .before .before .before .before .before .pre, (omega arith, refl)))
+    (λ c κs. (bytes12→start c .pre, (omega arith, refl)))
     (λ c κs. search needs)
-    (λ c κs. (c .before .before .before .before .before .before .before .before .before .before .before .before .before .before .before .before .before .before .before .before .before .before .before .before .before .before .before .before .before .before .before .before .before .before .before .before .before .pre, (omega arith, refl)))
+    (λ c κs. (bytes13→start c .pre, (omega arith, refl)))
     (λ c κs. search needs)
-    (λ c κs. (c .before .before .before .before .before .before .before .before .before .before .before .before .before .before .before .before .before .before .before .before .before .before .before .before .before .before .before .before .before .before .before .before .before .before .before .before .before .before .before .before .pre, (omega arith, refl)))
+    (λ c κs. (bytes14→start c .pre, (omega arith, refl)))
     (λ c κs. search needs)
-    (λ c κs. (c .before .before .before .before .before .before .before .before .before .before .before .before .before .before .before .before .before .before .before .before .before .before .before .before .before .before .before .before .before .before .before .before .before .before .before .before .before .before .before .before .before .before .before .pre, (omega arith, refl)))
+    (λ c κs. (bytes15→start c .pre, (omega arith, refl)))
     (λ c κs. search needs)
-    (λ c κs. (c .before .before .before .before .before .before .before .before .before .before .before .before .before .before .before .before .before .before .before .before .before .before .before .before .before .before .before .before .before .before .before .before .before .before .before .before .before .before .before .before .before .before .before .before .before .before .pre, (omega arith, refl)))
+    (λ c κs. (bytes16→start c .pre, (omega arith, refl)))
     (λ c κs. search needs)
     returns)

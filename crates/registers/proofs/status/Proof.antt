@@ -6,7 +6,14 @@ use Rattle.registers.proofs.status.Tie as tie
 returns : tie.Need-returns
 unfolding statusOf
 returns c =
-    simp (c .flag5 .ensures .0, c .before .flag4 .ensures .0, c .before .before .flag3 .ensures .0, c .before .before .before .flag2 .ensures .0, c .before .before .before .before .flag .ensures .0)
+    let at-flag3 = c .before .before in
+    simp (
+      c .flag5 .ensures .0,
+      c .before .flag4 .ensures .0,
+      at-flag3 .flag3 .ensures .0,
+      at-flag3 .before .flag2 .ensures .0,
+      at-flag3 .before .before .flag .ensures .0,
+    )
 
 pub status-spec : {M : Type 1} → statement M
 status-spec =

@@ -8,9 +8,22 @@ use borrow.Author.Needs.{needs}
 use Rattle.replies.proofs.net_reply.Statement.{statement}
 use Rattle.replies.proofs.net_reply.Tie as tie
 
+-- places: `a→b` leads from the record of the place a back to that of the place b
+abbrev laid-arg→start : tie.After-laid-arg → tie.Start
+laid-arg→start c = c .before .before .before
+
+abbrev laid→start : tie.After-laid → tie.Start
+laid→start c = laid-arg→start (c .before .before)
+
+abbrev slice-known3→laid : tie.After-slice-known3 → tie.After-laid
+slice-known3→laid c = c .before .before
+
+abbrev slice-known3→start : tie.After-slice-known3 → tie.Start
+slice-known3→start c = laid→start (slice-known3→laid c)
+
 returns : tie.Need-returns
 returns c =
-    let laid = c .before .before in
+    let laid = slice-known3→laid c in
     let join = laid .before .before .before in
     let a = join .before .before .args in
     ⊎-elim
@@ -20,7 +33,7 @@ returns c =
 
 same-length : tie.Need-same-length
 same-length c =
-    let a = c .before .before .before .before .before .before .before .args in
+    let a = slice-known3→start c .args in
     ap length (returns c) ∙ listed-length (netByte (a .t1)) 0 (length (now (a .room)))
 
 pub net-reply-spec : {M : Type 1} → statement M

@@ -8,21 +8,26 @@ use borrow.Author.Needs.{needs}
 use Rattle.replies.proofs.register_reply.Statement.{statement}
 use Rattle.replies.proofs.register_reply.Tie as tie
 
+-- places: `a→b` leads from the record of the place a back to that of the place b
+abbrev then1→start : tie.Then1 → tie.Start
+then1→start c = c .before .before .before
+
 register-requires : tie.Need-register-requires
 register-requires c κs = (c .before .pre .0, (omega (arith, c .before .pre .1), omega arith))
 
 slice-write-room-2 : tie.Need-slice-write-room-2
-slice-write-room-2 c = omega (arith, c .if1 .taken, length-set (now (c .before .before .before .args .room)) 0 (c .before .register .result .high))
+slice-write-room-2 c = omega (arith, c .if1 .taken, length-set (now (then1→start c .args .room)) 0 (c .before .register .result .high))
 
 returns : tie.Need-returns
 returns c =
-    let start = c .before .before .before in
+    let start = then1→start c in
     let a = start .args in
     let room = now (a .room) in
     let p = c .before .register .ensures in
     filling-end _ room _ 2
     (filling-more _ room _ 1 _
-    (filling-more _ room room 0 _ (filling-start _ room) (omega (arith, c .if1 .taken)) (high-byte (a .common) (a .meter) (a .a) _ p 0 (omega (arith, c .if1 .taken, start .pre .1 .1))))
+    (filling-more _ room room 0 _ (filling-start _ room) (omega (arith, c .if1 .taken))
+    (high-byte (a .common) (a .meter) (a .a) _ p 0 (omega (arith, c .if1 .taken, start .pre .1 .1))))
     (omega (arith, c .if1 .taken))
     (low-byte (a .common) (a .meter) (a .a) _ p 1 (omega (arith, c .if1 .taken, start .pre .1 .1))))
     (omega (arith, c .if1 .taken))
@@ -34,7 +39,8 @@ returns-2 c =
     let a = start .args in
     let room = now (a .room) in
     filling-end _ room _ 1
-    (filling-more _ room room 0 _ (filling-start _ room) (omega (arith, c .before .if2 .taken)) (c .choose8 .ensures ∙ one-byte (a .common) (a .meter) (a .a) _ (read .register .ensures)))
+    (filling-more _ room room 0 _ (filling-start _ room) (omega (arith, c .before .if2 .taken))
+    (c .choose8 .ensures ∙ one-byte (a .common) (a .meter) (a .a) _ (read .register .ensures)))
     (omega (arith, c .before .if2 .taken))
 
 returns-3 : tie.Need-returns-3

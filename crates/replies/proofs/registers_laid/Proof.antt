@@ -12,11 +12,18 @@ use borrow.Author.Needs.{needs}
 use Rattle.replies.proofs.registers_laid.Statement.{statement}
 use Rattle.replies.proofs.registers_laid.Tie as tie
 
+-- places: `a→b` leads from the record of the place a back to that of the place b
+abbrev slice-known2→laid : tie.After-slice-known2 → tie.After-laid
+slice-known2→laid c = c .before .before
+
+abbrev slice-known2→registers : tie.After-slice-known2 → tie.After-registers
+slice-known2→registers c = slice-known2→laid c .before .before .before
+
 returns : tie.Need-returns
 returns c =
-    let registers = c .before .before .before .before .before in
+    let registers = slice-known2→registers c in
     let a = registers .before .before .before .args in
-    c .before .before .laid .ensures ∙ ap (λ (bytes : List ℕ). overOf 0x00 bytes (a .a) (now (a .room))) (registers .registers .ensures)
+    slice-known2→laid c .laid .ensures ∙ ap (λ (bytes : List ℕ). overOf 0x00 bytes (a .a) (now (a .room))) (registers .registers .ensures)
 
 returns-2 : tie.Need-returns-2
 returns-2 c =

@@ -8,18 +8,25 @@ use borrow.Author.Needs.{needs}
 use Rattle.samples.proofs.average_over.Statement.{statement}
 use Rattle.samples.proofs.average_over.Tie as tie
 
+-- places: `a→b` leads from the record of the place a back to that of the place b
+abbrev then1→start : tie.Then1 → tie.Start
+then1→start c = c .before .before .before
+
+abbrev struct-known3→start : tie.After-struct-known3 → tie.Start
+struct-known3→start c = then1→start (c .before)
+
 mul-mean : tie.Need-mul-mean
-mul-mean c = let c3 = c .before .before .before in omega (arith, eight-few (c3 .args .average) (c3 .args .c) (search needs) (c3 .pre))
+mul-mean c = let c3 = then1→start c in omega (arith, eight-few (c3 .args .average) (c3 .args .c) (search needs) (c3 .pre))
 
 add-mean : tie.Need-add-mean
-add-mean c = let c4 = c .before .before .before .before in omega (arith, eight-few (c4 .args .average) (c4 .args .c) (search needs) (c4 .pre))
+add-mean c = let c4 = struct-known3→start c in omega (arith, eight-few (c4 .args .average) (c4 .args .c) (search needs) (c4 .pre))
 
 cast-mean : tie.Need-cast-mean
-cast-mean c = let c4 = c .before .before .before .before in omega (arith, eight-few (c4 .args .average) (c4 .args .c) (search needs) (c4 .pre))
+cast-mean c = let c4 = struct-known3→start c in omega (arith, eight-few (c4 .args .average) (c4 .args .c) (search needs) (c4 .pre))
 
 mul-t14 : tie.Need-mul-t14
 mul-t14 c =
-    let a = c .before .before .before .before .args in
+    let a = struct-known3→start c .args in
     omega (arith, times ((a .average .made + a .k) % 8) (a .c) 7 65535 (omega arith) (search needs))
 
 mul-t25 : tie.Need-mul-t25
@@ -37,4 +44,6 @@ unfolding averageOver
 returns-2 c = simp (lt-leb _ _ (c .before .if1 .left))
 
 pub average-over-spec : {M : Type 1} → statement M
-average-over-spec = tie.close (tie.spec (λ c. search needs) (λ c. search needs) (λ c. search needs) (λ c. search needs) (λ c. search needs) mul-mean add-mean cast-mean (λ c. search needs) mul-t14 (λ c. search needs) (λ c κs. search needs) (λ c. search needs) mul-t25 add-t26 returns returns-2)
+average-over-spec =
+    tie.close (tie.spec (λ c. search needs) (λ c. search needs) (λ c. search needs) (λ c. search needs) (λ c. search needs) mul-mean add-mean cast-mean
+    (λ c. search needs) mul-t14 (λ c. search needs) (λ c κs. search needs) (λ c. search needs) mul-t25 add-t26 returns returns-2)

@@ -11,4 +11,5 @@ returns c =
     simp (c .worn-over .ensures, c2 .fall .ensures, c3 .learnf-over .ensures, c3 .before .count-over .ensures)
 
 pub charge-over-spec : {M : Type 1} → statement M
-charge-over-spec = tie.close (tie.spec (λ c κs. search needs) (λ c κs. search needs) (λ c κs. search needs) (λ c. search needs) (λ c κs. search needs) returns)
+charge-over-spec =
+    tie.close (tie.spec (λ c κs. search needs) (λ c κs. search needs) (λ c κs. search needs) (λ c. search needs) (λ c κs. search needs) returns)

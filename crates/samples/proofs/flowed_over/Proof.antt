@@ -20,12 +20,31 @@ returns c =
     also MeterWF
     (⊎-elim
     (λ w. ⊎-elim
-    (λ x. simp (w .7, w .6, x .3, x .1 .ensures, rw (w .1 .ensures .0) at (sym (w .2 .ensures) ∙ x .0 .taken), le-leb _ _ (w .0 .taken), c2 .average-over .ensures, c3 .trace-over .ensures))
-    (λ x. simp (w .7, w .6, x .1, rw (w .1 .ensures .0) at (sym (w .2 .ensures) ∙ x .0 .left), le-leb _ _ (w .0 .taken), c2 .average-over .ensures, c3 .trace-over .ensures))
+    (λ x. simp (
+      w .7,
+      w .6,
+      x .3,
+      x .1 .ensures,
+      rw (w .1 .ensures .0) at (sym (w .2 .ensures) ∙ x .0 .taken),
+      le-leb _ _ (w .0 .taken),
+      c2 .average-over .ensures,
+      c3 .trace-over .ensures,
+    ))
+    (λ x. simp (
+      w .7,
+      w .6,
+      x .1,
+      rw (w .1 .ensures .0) at (sym (w .2 .ensures) ∙ x .0 .left),
+      le-leb _ _ (w .0 .taken),
+      c2 .average-over .ensures,
+      c3 .trace-over .ensures,
+    ))
     (w .3 .came))
     (λ w. simp (w .2, w .1, lt-leb _ _ (w .0 .left), c2 .average-over .ensures, c3 .trace-over .ensures))
     (c .if1 .came))
     (flowed-over-wf (a .meter) (a .limits) (a .full40) (a .c) (a .k) (search needs) (search needs) (c5 .pre))
 
 pub flowed-over-spec : {M : Type 1} → statement M
-flowed-over-spec = tie.close (tie.spec (λ c κs. search needs) (λ c κs. search needs) (λ c. search needs) (λ c. search needs) (λ c κs. search needs) (λ c κs. search needs) (λ c κs. search needs) returns)
+flowed-over-spec =
+    tie.close (tie.spec (λ c κs. search needs) (λ c κs. search needs) (λ c. search needs) (λ c. search needs) (λ c κs. search needs)
+    (λ c κs. search needs) (λ c κs. search needs) returns)

@@ -12,4 +12,6 @@ add-sum : tie.Need-add-sum
 add-sum c = let a = c .args in omega (arith, times (a .k) (a .counted + a .ab) 65535 65790 (search needs) (search needs))
 
 pub grown-over-spec : {M : Type 1} → statement M
-grown-over-spec = tie.close (tie.spec (λ c. search needs) (λ c. search needs) (λ c. search needs) (λ c. search needs) mul-sum add-sum (λ c. search needs) (λ c κs. search needs) (λ c κs. search needs) (λ c. search needs) (λ c. search needs))
+grown-over-spec =
+    tie.close (tie.spec (λ c. search needs) (λ c. search needs) (λ c. search needs) (λ c. search needs) mul-sum add-sum (λ c. search needs)
+    (λ c κs. search needs) (λ c κs. search needs) (λ c. search needs) (λ c. search needs))

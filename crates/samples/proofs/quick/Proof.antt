@@ -39,4 +39,5 @@ returns c =
     (ap (sampledOf (l .meter) (c .before .before .args .raw)) none ∙ l .inv .0, l .inv .1)
 
 pub quick-spec : {M : Type 1} → statement M
-quick-spec = tie.close (tie.spec Inv-loop μ-loop (λ c. (refl, c .pre)) reach-requires stretch-requires (λ c. search needs) (λ c. search needs) loop-again returns)
+quick-spec =
+    tie.close (tie.spec Inv-loop μ-loop (λ c. (refl, c .pre)) reach-requires stretch-requires (λ c. search needs) (λ c. search needs) loop-again returns)

@@ -16,4 +16,6 @@ returns c =
     (reach-fits (a .average) (a .any) (a .left), reach-some (a .average) (a .any) (a .left) (c5 .pre))
 
 pub reach-spec : {M : Type 1} → statement M
-reach-spec = tie.close (tie.spec (λ c. search needs) (λ c. search needs) (λ c κs. search needs) (λ c. search needs) (λ c κs. search needs) (λ c κs. search needs) returns)
+reach-spec =
+    tie.close (tie.spec (λ c. search needs) (λ c. search needs) (λ c κs. search needs) (λ c. search needs) (λ c κs. search needs)
+    (λ c κs. search needs) returns)

@@ -48,7 +48,8 @@ stretched : (m : Meter) (raw k : ℕ) {p : Counting} {limits : Limits} {full : C
     → p ≡ countingOf (m .cells .block .shadow) → limits ≡ limitsOf (m .cells .block .shadow) → full ≡ capacityOf (m .cells .block .shadow)
     → current ≡ currentOf raw (p .cob) → c ≡ pick (offsetTurn (m .flow .average)) (m .flow .trace .last) current
     → charge ≡ chargeOver (m .cells .profile) p (m .charge) (m .flow .trace .last) c k
-    → mid ≡ chargedOf m (capacityOf (m .cells .block .shadow) .full40) charge → after ≡ flowedOver mid limits (full .full40) c k → after ≡ stretchedOf m raw k
+    → mid ≡ chargedOf m (capacityOf (m .cells .block .shadow) .full40) charge → after ≡ flowedOver mid limits (full .full40) c k →
+    after ≡ stretchedOf m raw k
 unfolding stretchedOf
 stretched m raw k ep el ef ecurrent ec echarge emid eafter = eafter ∙ rw (emid, echarge, ec, ecurrent, ef, el, ep) refl
 
@@ -61,9 +62,12 @@ returns c =
     let of = counting of2 in
     let start = first of in (
       stretched _ (start .args .raw) (start .args .k) (of .of .ensures) (of2 .of2 .ensures) (of3 .of3 .ensures)
-          (chosen over .before .current .ensures) (chosen over .choose16 .ensures) (over .charge-over .ensures) (charged .charged .ensures .0) (c .flowed-over .ensures .0),
+          (chosen over .before .current .ensures) (chosen over .choose16 .ensures) (over .charge-over .ensures) (charged .charged .ensures .0)
+          (c .flowed-over .ensures .0),
       c .flowed-over .ensures .1,
     )
 
 pub stretch-spec : {M : Type 1} → statement M
-stretch-spec = tie.close (tie.spec (λ c κs. search needs) (λ c κs. search needs) (λ c κs. search needs) (λ c κs. search needs) (λ c κs. search needs) (λ c κs. search needs) (λ c κs. search needs) charged-requires (λ c κs. c .charged .ensures .1) returns)
+stretch-spec =
+    tie.close (tie.spec (λ c κs. search needs) (λ c κs. search needs) (λ c κs. search needs) (λ c κs. search needs) (λ c κs. search needs)
+    (λ c κs. search needs) (λ c κs. search needs) charged-requires (λ c κs. c .charged .ensures .1) returns)

@@ -10,7 +10,13 @@ same-length : tie.Need-same-length
 same-length c = search needs
 
 returns : tie.Need-returns
-returns c = record { number = simp (c .before .before .before .before .before .before .if1 .taken, sym (c .before .before .before .image-out .ensures .fits) ∙ c .if2 .taken); written = c .before .before .before .image-out .ensures .written ∙ simp (c .before .before .before .before .before .before .if1 .taken) }
+returns c =
+    let at-image-out = c .before .before .before in
+    let at-then1 = at-image-out .before .before .before in
+    record {
+      number = simp (at-then1 .if1 .taken, sym (at-image-out .image-out .ensures .fits) ∙ c .if2 .taken);
+      written = at-image-out .image-out .ensures .written ∙ simp (at-then1 .if1 .taken);
+    }
 
 taken-number-requires : tie.Need-taken-number-requires
 taken-number-requires c κs = search needs
@@ -19,7 +25,15 @@ same-length-2 : tie.Need-same-length-2
 same-length-2 c = search needs
 
 returns-2 : tie.Need-returns-2
-returns-2 c = record { number = c .taken-number .ensures ∙ simp (c .before .before .before .before .before .before .before .if1 .taken, sym (c .before .before .before .before .image-out .ensures .fits) ∙ c .before .if2 .left); written = c .before .before .before .before .image-out .ensures .written ∙ simp (c .before .before .before .before .before .before .before .if1 .taken) }
+returns-2 c =
+    let at-room = c .before .before .before in
+    let at-image-out = at-room .before in
+    let at-then1 = at-image-out .before .before .before in
+    record {
+      number = c .taken-number .ensures
+          ∙ simp (at-then1 .if1 .taken, sym (at-image-out .image-out .ensures .fits) ∙ c .before .if2 .left);
+      written = at-image-out .image-out .ensures .written ∙ simp (at-then1 .if1 .taken);
+    }
 
 taken-number-requires-2 : tie.Need-taken-number-requires-2
 taken-number-requires-2 c κs = search needs

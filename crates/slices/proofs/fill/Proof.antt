@@ -7,6 +7,19 @@ use borrow.Author.Needs.{needs}
 use Rattle.slices.proofs.fill.Statement.{statement}
 use Rattle.slices.proofs.fill.Tie as tie
 
+-- places: `a→b` leads from the record of the place a back to that of the place b
+abbrev store-arg→start : tie.After-store-arg → tie.Start
+store-arg→start c = c .before .before .before
+
+abbrev store→start : tie.After-store → tie.Start
+store→start c = store-arg→start (c .before .before)
+
+abbrev slice-known2→store : tie.After-slice-known2 → tie.After-store
+slice-known2→store c = c .before .before
+
+abbrev slice-known2→start : tie.After-slice-known2 → tie.Start
+slice-known2→start c = store→start (slice-known2→store c)
+
 add-end : tie.Need-add-end
 add-end c = search needs
 
@@ -27,9 +40,9 @@ same-length c = search needs
 
 returns : tie.Need-returns
 returns c =
-    let start = c .before .before .before .before .before .before .before in
+    let start = slice-known2→start c in
     let l = now (start .args .dst) in
-    c .before .before .store .ensures ∙ put-copy l (now (start .args .bytes)) (start .args .at) (length l) refl (start .pre)
+    slice-known2→store c .store .ensures ∙ put-copy l (now (start .args .bytes)) (start .args .at) (length l) refl (start .pre)
 
 pub fill-spec : {M : Type 1} → statement M
 fill-spec =

@@ -14,7 +14,13 @@ returns c = rw (lt-ltb _ _ (c .if1 .taken)) (wider (none (now (c .before .before
 
 returns-2 : tie.Need-returns-2
 unfolding besideText
-returns-2 c = rw (le-ltb _ _ (c .before .before .before .before .before .before .before .before .before .if1 .left)) (wider (then (c .before .before .before .before .before .before .before .put-bytes .ensures) (c .before .before .put-bytes2 .ensures)) (omega (arith, c .before .before .before .before .before .before .before .before .before .if1 .left)))
+returns-2 c =
+    let at-put-bytes2 = c .before .before in
+    let at-slice-known2 = at-put-bytes2 .before .before .before in
+    let at-put-bytes = at-slice-known2 .before .before in
+    let at-else1 = at-put-bytes .before .before in
+    rw (le-ltb _ _ (at-else1 .if1 .left))
+    (wider (then (at-put-bytes .put-bytes .ensures) (at-put-bytes2 .put-bytes2 .ensures)) (omega (arith, at-else1 .if1 .left)))
 
 pub put-beside-spec : {M : Type 1} → statement M
 put-beside-spec =

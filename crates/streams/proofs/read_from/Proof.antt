@@ -20,26 +20,55 @@ Inv-loop fd room₀ count₀ room count = (count ≤ length room) × (length roo
 abbrev μ-loop : tie.MeasureT-loop
 μ-loop fd room₀ count₀ room count = length room₀ - count
 
+-- places: `a→b` leads from the record of the place a back to that of the place b
+abbrev room2→read : tie.After-room2 Inv-loop μ-loop → tie.After-read Inv-loop μ-loop
+room2→read c = c .before .before .before
+
+abbrev else1→read : tie.Else1 Inv-loop μ-loop → tie.After-read Inv-loop μ-loop
+else1→read c = room2→read (c .before .before .before)
+
+abbrev else1→in-loop : tie.Else1 Inv-loop μ-loop → tie.In-loop Inv-loop μ-loop
+else1→in-loop c = else1→read c .before .before
+
+abbrev else1→loop : tie.Else1 Inv-loop μ-loop → tie.At-loop Inv-loop μ-loop
+else1→loop c = else1→in-loop c .before
+
+abbrev then1→read : tie.Then1 Inv-loop μ-loop → tie.After-read Inv-loop μ-loop
+then1→read c = room2→read (c .before .before .before)
+
+abbrev then1→loop : tie.Then1 Inv-loop μ-loop → tie.At-loop Inv-loop μ-loop
+then1→loop c = then1→read c .before .before .before
+
 loop-holds : tie.Need-loop-holds Inv-loop μ-loop
 loop-holds c = (omega arith, refl)
 
 same-length : tie.Need-same-length Inv-loop μ-loop
-same-length c = back-length (c .before .before .before .before .before .before .before .before .before .loop .room) (c .before .before .before .before .before .before .read .last .1 .0) (c .before .before .before .before .before .before .before .before .before .loop .count) (c .before .before .before .before .before .before .before .before .before .loop .inv .0) (c .before .before .before .before .before .before .read .kept .1 .0) ∙ c .before .before .before .before .before .before .before .before .before .loop .inv .1
+same-length c =
+    back-length (then1→loop c .loop .room) (then1→read c .read .last .1 .0) (then1→loop c .loop .count) (then1→loop c .loop .inv .0)
+    (then1→read c .read .kept .1 .0) ∙ then1→loop c .loop .inv .1
 
 add-count : tie.Need-add-count Inv-loop μ-loop
-add-count c = omega (arith, back-length (c .before .before .before .before .before .before .before .before .before .loop .room) (c .before .before .before .before .before .before .read .last .1 .0) (c .before .before .before .before .before .before .before .before .before .loop .count) (c .before .before .before .before .before .before .before .before .before .loop .inv .0) (c .before .before .before .before .before .before .read .kept .1 .0), c .before .count .ensures .0 .0, c .before .before .before .before .before .before .before .before .loop-test .taken)
+add-count c =
+    omega (
+      arith,
+      back-length (else1→loop c .loop .room) (else1→read c .read .last .1 .0) (else1→loop c .loop .count) (else1→loop c .loop .inv .0)
+          (else1→read c .read .kept .1 .0),
+      c .before .count .ensures .0 .0,
+      else1→in-loop c .loop-test .taken,
+    )
 
 loop-less : tie.Need-loop-less Inv-loop μ-loop
-loop-less c = omega (arith, c .if1 .left, c .before .before .before .before .before .before .before .before .loop-test .taken, c .before .before .before .before .before .before .before .before .before .loop .inv .1)
+loop-less c = omega (arith, c .if1 .left, else1→in-loop c .loop-test .taken, else1→loop c .loop .inv .1)
 
 loop-again : tie.Need-loop-again Inv-loop μ-loop
 loop-again c =
-    let l = c .before .before .before .before .before .before .before .before .before .loop .room in
-    let i = c .before .before .before .before .before .before .before .before .before .loop .count in
-    let now-there = take i l ++ (c .before .before .before .before .before .before .read .last .1 .0 ++ drop (length l - i) (drop i l)) in
-    let same = back-length (c .before .before .before .before .before .before .before .before .before .loop .room) (c .before .before .before .before .before .before .read .last .1 .0) (c .before .before .before .before .before .before .before .before .before .loop .count) (c .before .before .before .before .before .before .before .before .before .loop .inv .0) (c .before .before .before .before .before .before .read .kept .1 .0) ∙ c .before .before .before .before .before .before .before .before .before .loop .inv .1 in
+    let l = else1→loop c .loop .room in
+    let i = else1→loop c .loop .count in
+    let now-there = take i l ++ (else1→read c .read .last .1 .0 ++ drop (length l - i) (drop i l)) in
+    let same = back-length (else1→loop c .loop .room) (else1→read c .read .last .1 .0) (else1→loop c .loop .count) (else1→loop c .loop .inv .0)
+    (else1→read c .read .kept .1 .0) ∙ else1→loop c .loop .inv .1 in
     let few : c .before .count .result ≤ length now-there - i = rest-size now-there i (c .before .count .ensures .0 .0) in
-    (omega (arith, few, same, c .before .before .before .before .before .before .before .before .before .loop .inv .1, c .before .before .before .before .before .before .before .before .loop-test .taken), same)
+    (omega (arith, few, same, else1→loop c .loop .inv .1, else1→in-loop c .loop-test .taken), same)
 
 same-length-2 : tie.Need-same-length-2 Inv-loop μ-loop
 same-length-2 c = c .before .loop .inv .1

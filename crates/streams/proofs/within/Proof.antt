@@ -7,7 +7,8 @@ use Rattle.streams.proofs.within.Statement.{statement}
 use Rattle.streams.proofs.within.Tie as tie
 
 returns : tie.Need-returns
-returns c = record { least = omega arith; fits = omega arith; whole = sym (length-take-le (c .before .args .count) (now (c .before .args .room)) (omega arith)) }
+returns c =
+    record { least = omega arith; fits = omega arith; whole = sym (length-take-le (c .before .args .count) (now (c .before .args .room)) (omega arith)) }
 
 returns-2 : tie.Need-returns-2
 returns-2 c = record { least = omega arith; fits = omega arith; whole = sym (length-take-le _ (now (c .before .args .room)) (omega arith)) }

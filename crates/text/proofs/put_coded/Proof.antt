@@ -7,13 +7,26 @@ use Rattle.text.proofs.put_coded.Statement.{statement}
 use Rattle.text.proofs.put_coded.Tie as tie
 
 returns : tie.Need-returns
-returns c = rw (c .before .before .before .before .before .before .before .before .enum-told .given .1) (wider (then (c .before .before .before .before .before .before .put-header .ensures) (c .before .before .put-codes .ensures)) (omega arith))
+returns c =
+    let at-put-codes = c .before .before in
+    let at-out = at-put-codes .before .before .before in
+    let at-put-header = at-out .before in
+    let at-enum-told = at-put-header .before .before in
+    rw (at-enum-told .enum-told .given .1) (wider (then (at-put-header .put-header .ensures) (at-put-codes .put-codes .ensures)) (omega arith))
 
 returns-2 : tie.Need-returns-2
-returns-2 c = rw (c .before .before .before .before .before .before .before .before .enum-told2 .given .1) (wider (then (c .before .before .before .before .before .before .put-header2 .ensures) (c .before .before .put-over .ensures)) (omega arith))
+returns-2 c =
+    let at-put-over = c .before .before in
+    let at-out3 = at-put-over .before .before .before in
+    let at-put-header2 = at-out3 .before in
+    let at-enum-told2 = at-put-header2 .before .before in
+    rw (at-enum-told2 .enum-told2 .given .1) (wider (then (at-put-header2 .put-header2 .ensures) (at-put-over .put-over .ensures)) (omega arith))
 
 returns-3 : tie.Need-returns-3
-returns-3 c = rw (c .enum-told3 .given .1) (wider (none (now (c .before .before .before .before .before .args .out)) 0) (omega arith))
+returns-3 c =
+    let at-shared-slice-known2 = c .before .before .before in
+    let at-start = at-shared-slice-known2 .before .before in
+    rw (c .enum-told3 .given .1) (wider (none (now (at-start .args .out)) 0) (omega arith))
 
 pub put-coded-spec : {M : Type 1} → statement M
 put-coded-spec =

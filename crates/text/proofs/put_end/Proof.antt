@@ -9,11 +9,18 @@ use Rattle.text.proofs.put_end.Tie as tie
 
 returns : tie.Need-returns
 unfolding replyText endText
-returns c = rw (eq-eqb _ _ (c .before .before .before .before .if1 .taken)) (wider (c .before .before .put-bare-end .ensures) (omega arith))
+returns c =
+    let at-put-bare-end = c .before .before in
+    rw (eq-eqb _ _ (at-put-bare-end .before .before .if1 .taken)) (wider (at-put-bare-end .put-bare-end .ensures) (omega arith))
 
 returns-2 : tie.Need-returns-2
 unfolding replyText endText
-returns-2 c = rw (ne-eqb _ _ (c .before .before .before .before .before .before .before .before .if1 .left)) (wider (then (c .before .before .before .before .before .before .put-hex .ensures) (c .before .before .put-byte .ensures)) (omega arith))
+returns-2 c =
+    let at-put-byte = c .before .before in
+    let at-out2 = at-put-byte .before .before .before in
+    let at-put-hex = at-out2 .before in
+    let at-else1 = at-put-hex .before .before in
+    rw (ne-eqb _ _ (at-else1 .if1 .left)) (wider (then (at-put-hex .put-hex .ensures) (at-put-byte .put-byte .ensures)) (omega arith))
 
 pub put-end-spec : {M : Type 1} → statement M
 put-end-spec =

@@ -11,14 +11,24 @@ use Rattle.text.proofs.put_kind.Tie as tie
 
 returns : tie.Need-returns
 unfolding kindText
-returns c = rw (eq-eqb _ _ (c .before .before .before .before .before .if1 .taken)) (c .before .before .put-bytes .ensures)
+returns c =
+    let at-put-bytes = c .before .before in
+    let at-then1 = at-put-bytes .before .before .before in
+    rw (eq-eqb _ _ (at-then1 .if1 .taken)) (at-put-bytes .put-bytes .ensures)
 
 returns-2 : tie.Need-returns-2
 unfolding kindText
 returns-2 c =
-    let kind = c .before .before .before .before .before .before .before .before .before .before .args .kind in
-    let table = c .before .before .before .before .before .before .before .before .before .before .pre .0 in
-    rw (ne-eqb _ _ (c .before .before .before .before .before .before .before .before .if1 .left)) (then (rw (table, paired (kind / 256) (omega arith)) at (c .before .before .before .before .before .before .put-entry .ensures .0)) (rw (table, paired (kind % 256) (omega arith)) at (c .before .before .put-entry2 .ensures .0)))
+    let at-put-entry2 = c .before .before in
+    let at-out2 = at-put-entry2 .before .before .before in
+    let at-put-entry = at-out2 .before in
+    let at-else1 = at-put-entry .before .before in
+    let at-start = at-else1 .before .before in
+    let kind = at-start .args .kind in
+    let table = at-start .pre .0 in
+    rw (ne-eqb _ _ (at-else1 .if1 .left))
+    (then (rw (table, paired (kind / 256) (omega arith)) at (at-put-entry .put-entry .ensures .0))
+    (rw (table, paired (kind % 256) (omega arith)) at (at-put-entry2 .put-entry2 .ensures .0)))
 
 pub put-kind-spec : {M : Type 1} → statement M
 put-kind-spec =

@@ -10,24 +10,32 @@ use borrow.Author.Needs.{needs}
 use Rattle.text.proofs.report.Statement.{statement}
 use Rattle.text.proofs.report.Tie as tie
 
+-- places: `a→b` leads from the record of the place a back to that of the place b
+abbrev fits2→lesser : tie.After-fits2 → tie.After-lesser
+fits2→lesser c = c .before .before
+
+abbrev then1→lesser2 : tie.Then1 → tie.After-lesser2
+then1→lesser2 c = c .before .before
+
 -- where the function starts, and what was lent then
 abbrev known : tie.After-slice-known → tie.Start
 known c = c .before .before .before
 
 abbrev start : tie.After-fits2 → tie.Start
-start c = known (c .before .before .before)
+start c = known (fits2→lesser c .before)
 
 abbrev tested : tie.After-put-coded-arg3 → tie.Then1
 tested c = c .before .before .before
 
 -- the answers and the replies that are handed on
-codes : (c : tie.After-fits2) → Cut (start c .args .ended .lines) (now (start c .args .answers)) (c .before .before .lesser .result)
-codes c = cut _ _ _ (c .before .before .lesser .ensures)
+codes : (c : tie.After-fits2) → Cut (start c .args .ended .lines) (now (start c .args .answers)) (fits2→lesser c .lesser .result)
+codes c = cut _ _ _ (fits2→lesser c .lesser .ensures)
 
 replies : (c : tie.After-fits2) → Cut (start c .args .ended .replied) (now (start c .args .replies)) (c .before .lesser2 .result)
 replies c = cut _ _ _ (c .before .lesser2 .ensures)
 
-fitting : (c : tie.Then1) → Held (c .before .before .before .lesser .result) (c .before .before .lesser2 .result) (length (now (start (c .before) .args .out)))
+fitting : (c : tie.Then1) →
+    Held (then1→lesser2 c .before .lesser .result) (then1→lesser2 c .lesser2 .result) (length (now (start (c .before) .args .out)))
 fitting c = fits-room _ _ _ (sym (c .before .fits2 .ensures) ∙ c .if1 .taken)
 
 put-coded-requires : tie.Need-put-coded-requires

@@ -17,18 +17,22 @@ Inv-loop word i₀ i = (i ≤ length word) × (allDigits (drop i word) ≡ allDi
 abbrev μ-loop : tie.MeasureT-loop
 μ-loop word i₀ i = length word - i
 
+-- places: `a→b` leads from the record of the place a back to that of the place b
+abbrev loop→start : tie.At-loop Inv-loop μ-loop → tie.Start Inv-loop μ-loop
+loop→start c = c .before .before
+
 loop-again : tie.Need-loop-again Inv-loop μ-loop
 unfolding isDigit
 loop-again c =
     let at-loop = c .before .before .before .before in
-    let word = now (at-loop .before .before .args .word) in
+    let word = now (loop→start at-loop .args .word) in
     (omega arith, digit-more word (at-loop .loop .i) (omega arith) (sym (c .before .and .ensures) ∙ c .if1 .taken) ∙ at-loop .loop .inv .1)
 
 returns : tie.Need-returns Inv-loop μ-loop
 unfolding isDigit
 returns c =
     let at-loop = c .before .before .before .before in
-    let word = now (at-loop .before .before .args .word) in
+    let word = now (loop→start at-loop .args .word) in
     no-number word (sym (at-loop .loop .inv .1) ∙ no-digit word (at-loop .loop .i) (omega arith) (sym (c .before .and .ensures) ∙ c .if1 .left))
 
 returns-2 : tie.Need-returns-2 Inv-loop μ-loop

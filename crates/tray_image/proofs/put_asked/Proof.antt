@@ -8,12 +8,20 @@ use Rattle.tray_image.proofs.put_asked.Tie as tie
 returns : tie.Need-returns
 unfolding wordSpeech
 returns c =
-    rw (sym (c .before .before .before .before .before .before .is-number .ensures) ∙ c .before .before .before .before .before .if1 .taken, ← c .before .before .before .before .slot-of .ensures)
-    (c .before .before .put-taken .ensures)
+    let at-put-taken = c .before .before in
+    let at-slot-of = at-put-taken .before .before in
+    let at-then1 = at-slot-of .before in
+    let at-is-number = at-then1 .before in
+    rw (sym (at-is-number .is-number .ensures) ∙ at-then1 .if1 .taken, ← at-slot-of .slot-of .ensures)
+    (at-put-taken .put-taken .ensures)
 
 returns-2 : tie.Need-returns-2
 unfolding wordSpeech
-returns-2 c = rw (sym (c .before .before .before .before .before .is-number .ensures) ∙ c .before .before .before .before .if1 .left) (c .before .before .put-no-number .ensures)
+returns-2 c =
+    let at-put-no-number = c .before .before in
+    let at-else1 = at-put-no-number .before .before in
+    let at-is-number = at-else1 .before in
+    rw (sym (at-is-number .is-number .ensures) ∙ at-else1 .if1 .left) (at-put-no-number .put-no-number .ensures)
 
 pub put-asked-spec : {M : Type 1} → statement M
 put-asked-spec =

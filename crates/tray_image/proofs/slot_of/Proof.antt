@@ -22,12 +22,15 @@ loop-holds c = search needs
 
 loop-again : tie.Need-loop-again Inv-loop μ-loop
 loop-again c =
-    let at-loop = c .before .before .before .before .before in
+    let at-wide = c .before .before in
+    let loop-place = at-wide .before .before .before in
+    let at-loop = loop-place in
     let word = now (at-loop .before .before .args .word) in (
       omega arith,
       (
         omega (arith, c .at-most .ensures),
-        rw (c .at-most .ensures, c .before .less .ensures, c .before .before .wide .ensures .0) (value-more word (at-loop .loop .i) (at-loop .loop .n) (omega arith) ∙ at-loop .loop .inv .1 .1),
+        rw (c .at-most .ensures, c .before .less .ensures, at-wide .wide .ensures .0)
+            (value-more word (at-loop .loop .i) (at-loop .loop .n) (omega arith) ∙ at-loop .loop .inv .1 .1),
       ),
     )
 

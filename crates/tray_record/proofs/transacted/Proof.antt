@@ -9,21 +9,66 @@ use borrow.Author.Needs.{needs}
 use Rattle.tray_record.proofs.transacted.Statement.{statement}
 use Rattle.tray_record.proofs.transacted.Tie as tie
 
+-- places: `a→b` leads from the record of the place a back to that of the place b
+abbrev commons→start : tie.After-commons → tie.Start
+commons→start c = c .before .before .before
+
+abbrev aimed→start : tie.After-aimed → tie.Start
+aimed→start c = commons→start (c .before)
+
+abbrev found→aimed : tie.After-found → tie.After-aimed
+found→aimed c = c .before .before
+
+abbrev one-arg→found : tie.After-one-arg → tie.After-found
+one-arg→found c = c .before .before
+
+abbrev one-arg→aimed : tie.After-one-arg → tie.After-aimed
+one-arg→aimed c = found→aimed (one-arg→found c)
+
+abbrev one-arg→start : tie.After-one-arg → tie.Start
+one-arg→start c = aimed→start (one-arg→aimed c)
+
+abbrev slice-known3→every : tie.After-slice-known3 → tie.After-every
+slice-known3→every c = c .before .before
+
+abbrev slice-known3→enum-told : tie.After-slice-known3 → tie.After-enum-told
+slice-known3→enum-told c = slice-known3→every c .before .before
+
+abbrev slice-known3→aimed : tie.After-slice-known3 → tie.After-aimed
+slice-known3→aimed c = slice-known3→enum-told c .before .before
+
+abbrev slice-known3→start : tie.After-slice-known3 → tie.Start
+slice-known3→start c = aimed→start (slice-known3→aimed c)
+
+abbrev slice-known2→found : tie.After-slice-known2 → tie.After-found
+slice-known2→found c = one-arg→found (c .before .before .before)
+
+abbrev slice-known2→aimed : tie.After-slice-known2 → tie.After-aimed
+slice-known2→aimed c = found→aimed (slice-known2→found c)
+
+abbrev slice-known2→start : tie.After-slice-known2 → tie.Start
+slice-known2→start c = aimed→start (slice-known2→aimed c)
+
 one-requires : tie.Need-one-requires
 one-requires c κs =
-    let start = c .before .before .before .before .before .before .before .before in
+    let start = one-arg→start c in
     let a = start .args in (
       start .pre .0,
       (
-        omega (arith, start .pre .0 .few, aimed-below (a .transaction .rom) (a .tray .commons) (a .tray .count) (now (a .master)) (sym (c .before .before .before .before .aimed .ensures) ∙ c .before .before .found .given .1)),
+        omega (
+          arith,
+          start .pre .0 .few,
+          aimed-below (a .transaction .rom) (a .tray .commons) (a .tray .count) (now (a .master))
+              (sym (one-arg→aimed c .aimed .ensures) ∙ one-arg→found c .found .given .1),
+        ),
         start .pre .1 .1,
       ),
     )
 
 returns : tie.Need-returns
 returns c =
-    let a = c .before .before .before .before .before .before .before .before .before .before .before .args in
-    let e = ap reachFound (sym (c .before .before .before .before .before .found .given .1) ∙ c .before .before .before .before .before .before .before .aimed .ensures) in
+    let a = slice-known2→start c .args in
+    let e = ap reachFound (sym (slice-known2→found c .found .given .1) ∙ slice-known2→aimed c .aimed .ensures) in
     let x = c .before .before .one .ensures in (
       x .0 ∙ ap (λ (r : Reach). trayActed (a .transaction) (now (a .master)) r (a .tray)) e,
       (x .1 .0 ∙ ap (λ (r : Reach). trayReply (a .transaction) (now (a .master)) r (a .tray) ++ drop (a .transaction .count) (now (a .room))) e, x .1 .1),
@@ -31,9 +76,9 @@ returns c =
 
 returns-2 : tie.Need-returns-2
 returns-2 c =
-    let a = c .before .before .before .before .before .before .before .before .before .before .args in
-    let e = ap reachFound (sym (c .before .before .before .before .enum-told .given .1) ∙ c .before .before .before .before .before .before .aimed .ensures) in
-    let x = c .before .before .every .ensures in (
+    let a = slice-known3→start c .args in
+    let e = ap reachFound (sym (slice-known3→enum-told c .enum-told .given .1) ∙ slice-known3→aimed c .aimed .ensures) in
+    let x = slice-known3→every c .every .ensures in (
       x .0 ∙ ap (λ (r : Reach). trayActed (a .transaction) (now (a .master)) r (a .tray)) e,
       (x .1 .0 ∙ ap (λ (r : Reach). trayReply (a .transaction) (now (a .master)) r (a .tray) ++ drop (a .transaction .count) (now (a .room))) e, x .1 .1),
     )

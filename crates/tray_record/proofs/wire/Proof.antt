@@ -21,8 +21,9 @@ loop-holds c = (omega arith, refl, refl)
 
 loop-again : tie.Need-loop-again Inv-loop μ-loop
 loop-again c =
-    let l = c .before .before .before .loop in
-    let reply = now (c .before .before .before .before .args .reply) in
+    let at-loop = c .before .before .before in
+    let l = at-loop .loop in
+    let reply = now (at-loop .before .args .reply) in
     let same = length-set (l .room) (l .i) _ ∙ l .inv .1 in
     (omega arith, same, rw (add-one (l .i)) (and-more (l .i) (l .room) reply (omega arith) (omega (arith, l .inv .1))) ∙ l .inv .2)
 

@@ -36,7 +36,8 @@ returns-2 c =
     let wide = told .before .before in
     let a = wide .before .before .args in (
       ran-by Write (a .self) _ (a .transaction) (now (a .master)) _ (told .enum-told2 .given .1) (wide .wide .ensures .0)
-          (c .written .ensures .0 ∙ ap (writtenOf (a .self) _) (bytes-after (now (a .master)) _ (a .transaction .from) _ (lower .before .wide2 .ensures .0) (lower .lesser .ensures))),
+          (c .written .ensures .0 ∙ ap (writtenOf (a .self) _)
+          (bytes-after (now (a .master)) _ (a .transaction .from) _ (lower .before .wide2 .ensures .0) (lower .lesser .ensures))),
       c .written .ensures .1,
     )
 

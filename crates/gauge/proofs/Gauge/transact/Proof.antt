@@ -24,7 +24,8 @@ unfolding replyOf
 replied g t master room after chosen e h = rw e at h
 
 -- a gauge that is not selected, or whose command changes nothing, stays
-stays : (g : Gauge) (t : Transaction) (master : List ℕ) → both (selectedOf (g .common .address) t master) (canChange (t .command)) ≡ false → g ≡ actOf g t master
+stays : (g : Gauge) (t : Transaction) (master : List ℕ) → both (selectedOf (g .common .address) t master) (canChange (t .command)) ≡ false →
+    g ≡ actOf g t master
 unfolding actOf ranOf
 stays g t master = by (selectedOf (g .common .address) t master) (t .command)
   where
@@ -67,4 +68,6 @@ returns-2 c =
     )
 
 pub transact-spec : {M : Type 1} → statement M
-transact-spec = tie.close (tie.spec (λ c κs. search needs) (λ c κs. search needs) (λ c κs. search needs) (λ c κs. search needs) (λ c κs. search needs) (λ c. search needs) returns (λ c. search needs) returns-2)
+transact-spec =
+    tie.close (tie.spec (λ c κs. search needs) (λ c κs. search needs) (λ c κs. search needs) (λ c κs. search needs) (λ c κs. search needs)
+    (λ c. search needs) returns (λ c. search needs) returns-2)

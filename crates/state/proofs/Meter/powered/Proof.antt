@@ -8,7 +8,9 @@ use Rattle.state.proofs.Meter.powered.Tie as tie
 returns : tie.Need-returns
 unfolding poweredOf
 returns c =
-    let c5 = c .before .before .before .before .before in
+    let at-saved = c .before .before .before in
+    let at-start = at-saved .before .before in
+    let c5 = at-start in
     also MeterWF (simp (c .moved-into .ensures)) (power-wf (c5 .args .cells) (search needs))
 
 pub powered-spec : {M : Type 1} → statement M
