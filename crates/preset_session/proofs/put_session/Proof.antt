@@ -8,11 +8,8 @@ use Rattle.preset_session.proofs.put_session.Statement.{statement}
 use Rattle.preset_session.proofs.put_session.Tie as tie
 
 -- places: `a→b` leads from the record of the place a back to that of the place b
-abbrev copying→put-record2 : tie.After-copying → tie.After-put-record2
-copying→put-record2 c = c .before .before .before
-
 abbrev put-record3→put-record2 : tie.After-put-record3 → tie.After-put-record2
-put-record3→put-record2 c = copying→put-record2 (c .before .before)
+put-record3→put-record2 c = let lent = c .before .before in lent .before .before .before
 
 abbrev reading→put-record3 : tie.After-reading → tie.After-put-record3
 reading→put-record3 c = c .before .before .before
