@@ -45,11 +45,18 @@ PLAIN = {name: value for name, value in os.environ.items() if not name.startswit
 ASKED = set()  # (name, how many words) of each program of ours that `./trovimbe` has run: it is proved, built and takes so many
 
 
+@functools.cache
+def own_words(name):
+    """How many words the program itself gets: those of its page that are no FILE and no option, which the script takes."""
+    with open(os.path.join(TOP, "docs", "programs", name + ".txt"), encoding="utf-8") as page:
+        return sum(not word.startswith("[") for word in page.readline().split()[1:])
+
+
 def ran(command, **how):
     """subprocess.run, with standard error kept. `./trovimbe NAME WORD ..` is asked once; then the program that it built is started as it does, with
     its status, 1 where something is said on standard error. The script looks at each source, which takes thirty times as long as a run: that it
     does so, and hands on what it should, tests/cases/command sees. A source that changes while a case runs is not looked at again."""
-    ours = (command[1], len(command)) if command[0] == COMMAND and len(command) > 1 else None
+    ours = (command[1], len(command)) if command[0] == COMMAND and len(command) > 1 and len(command) - 2 == own_words(command[1]) else None
     if ours in ASKED:
         ended = subprocess.run([*loader(command[1]), *command[2:]], stderr=subprocess.PIPE, env=PLAIN, check=False, **how)
         ended.returncode = ended.returncode or int(ended.stderr != b"")
