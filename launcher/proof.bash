@@ -88,20 +88,16 @@ progress() {
         "$over" "$name" "$count" "${#folders[@]}" "${crate:+, $crate}" "$SECONDS" "$end" >&2
 }
 
-# Whether this user may write where a build goes; says so where not.
-may_build() {
-    local place
-    if mkdir -p "$top/target/bin" 2>/dev/null; then
-        for place in "$top/target" "$top/target/bin"; do [ -w "$place" ] || break; done
-        [ ! -w "$place" ] || return 0
-    fi
+# Takes the place where a build goes, with its lock file as descriptor 9; says so where this user may not write there.
+take_place() {
+    mkdir -p "$top/target/bin" 2>/dev/null && [ -w "$top/target" ] && [ -w "$top/target/bin" ] && { exec 9>"$top/target/trovimbe.lock"; } 2>/dev/null && return
     say "$name is not proved, so it is not run: the first run writes $top/target, in which this user may not write (work in a copy of your own)"
     return 1
 }
 
-# Proves and builds under a lock, so that two programs of one pipe do not build in the same folder at once.
+# Proves and builds under a lock, so that two programs of one pipe do not build in the same folder at once. Says why where it fails.
 build() {
-    may_build && exec 9>"$top/target/trovimbe.lock" || return
+    take_place || return
     if ! flock -n 9; then
         say "$name: waiting for another proof to end"
         flock 9
@@ -109,15 +105,14 @@ build() {
     fresh && return
     [ -x "$bin" ] || rm -f "$top/target/stamp/$name"
     rm -f "$stamp"
-    echo "$identity" >"$stamp.begun" && : >"$log" || return
-    (cd "$top" && exec "$rt" check "$name") </dev/null 2>&1 9>&- | follow >"$log"
-    if [ "${PIPESTATUS[0]}" -ne 0 ]; then
+    if { echo "$identity" >"$stamp.begun" && : >"$log"; } then
+        (cd "$top" && exec "$rt" check "$name") </dev/null 2>&1 9>&- | follow >"$log"
+        [ "${PIPESTATUS[0]}" -ne 0 ] || { mv "$stamp.begun" "$stamp" && return; }
         printf '%s' "$wrong" >&2
         say "the whole log is $log"
-        say "$name is not proved, so it is not run"
-        return 1
     fi
-    mv "$stamp.begun" "$stamp"
+    say "$name is not proved, so it is not run"
+    return 1
 }
 
 # Proves and builds the program where that is due, or ends. Leaves what it is started by in `runner`: as rt runs a program, under the kit's loader
