@@ -24,7 +24,7 @@ front_page() {
 # To see that no file has changed, in this folder: sha256sum -c PACKAGE.txt
 #
 # bin/ has the programs, each proved from the sources of this commit by this kit before it was copied. lib/ has the loader and the C library that
-# they are linked with (GNU libc, under the LGPL 2.1 or later), as the kit has them. All else is text. LICENSE is that of Trovimbe.
+# they are linked with (GNU libc, under the LGPL 2.1 or later), as the kit has them. All else is text and examples. LICENSE is that of Trovimbe.
 END
 }
 
