@@ -38,7 +38,7 @@ module _ {S : Type 0} (did : S → ℕ → Rec → Did S) (start : S) where
   pub called-within : (s room answers : List ℕ) → length s ≤ 32768 → (length s + 3) / 4 ≤ length answers → Within did start (called s room answers)
   called-within s room answers short lent = record {
     allowed =
-        rw (within-done (length s) (length answers) short lent)
+        rw (within-done (length s) short)
         (record { number = refl; outcome = refl; state = refl; lines = refl; replied = refl; replies = refl; answered = refl });
     short = short;
     lent = lent;

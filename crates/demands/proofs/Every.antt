@@ -11,7 +11,7 @@ use Rattle.slices.specs.Slices.{put}
 use Rattle.slices.proofs.Laws.{put-append}
 use Rattle.runs.specs.Record.{Rec, whole, cut, wholeOf, recOf, sizeOf, recsFrom, recsOf}
 use Rattle.runs.specs.Run.{Did, silently, Line, lineOf, linesAfter, endAfter, repliesOf, codesOf}
-use Rattle.runs.proofs.Ends.{over-over, few-short}
+use Rattle.runs.proofs.Ends.{over-over}
 use Rattle.demands.specs.Call.{Call, Within, Stopped, Taking}
 use Rattle.demands.specs.Demand1 as demand
 use Rattle.demands.specs.Demand1.{Header, headersFrom, headersOf, Numbered, Answered, none, stops, next, Demand1}
@@ -151,6 +151,5 @@ module _ {S : Type 0} (did : S → ℕ → Rec → Did S) (start : S) where
             room = e .replies ∙ ap (put (a .replies) (a .ran .replied)) (h .1);
             next = e .replied ∙ rw (h .1) (omega arith);
           };
-      over = λ c h long. let k = rw (over-over (length (c .bytes)) (length (c .answers)) long) at h in (k .number, k);
-      few = λ c h short lent. let k = rw (few-short (length (c .bytes)) (length (c .answers)) short lent) at h in (k .number, k);
+      over = λ c h long. let k = rw (over-over (length (c .bytes)) long) at h in (k .number, k);
     }

@@ -152,7 +152,7 @@ module _ {S : Type 0} (did : S → ℕ → Rec → Did S) where
 
   module _ (start : S) {c : Call S} (w : Within did start c) where
     pub running : Running did start (c .bytes) (c .room) (c .answers) (c .ran) (c .replies) (c .told)
-    running = rw (within-done (length (c .bytes)) (length (c .answers)) (w .short) (w .lent)) at (w .allowed)
+    running = rw (within-done (length (c .bytes)) (w .short)) at (w .allowed)
 
     pub tells : Told did start c
     tells =

@@ -29,7 +29,7 @@ module _ {S : Type 0} (did : S → ℕ → Rec → Did S) (start : S) where
   abbrev pub Allowed : Call S → Type 0
   Allowed c = Runs did start (c .bytes) (c .room) (c .answers) (c .ran) (c .replies) (c .told)
 
-  -- and the session has at most 32,768 bytes, with answers lent for as many records as so many bytes may hold
+  -- and the session has at most 32,768 bytes, with answers lent for as many records as so many bytes may hold. `run` is lent 8,192, by their type
   pub record Within (c : Call S) : Type 0 where
     pub allowed : Allowed c
     pub short : length (c .bytes) ≤ 32768

@@ -8,11 +8,11 @@
 use mathlib.Core.Path.{_≡_}
 use mathlib.Core.Logic.{_⊎_}
 use mathlib.Core.List.{List, [], _∷_}
-use Prim.Native.Nat.{ℕ, zero, suc, _+_, _*_, _/_, _≤_, _<_}
+use Prim.Native.Nat.{ℕ, zero, suc, _+_, _*_, _≤_, _<_}
 use lib.Dec.{leb}
 use lib.ListN.{length}
 use Rattle.numbers.specs.Choice.{pick}
-use Rattle.runs.specs.declared.Outcome.the-variants.{Over, Short}
+use Rattle.runs.specs.declared.Outcome.the-variants.{Over}
 use Rattle.runs.specs.Record.{Rec}
 use Rattle.runs.specs.Run.{Did, Line, outcomeNumber, Idle}
 use Rattle.demands.specs.Call.{Call, Allowed, Within, linesIn, Told, Taking}
@@ -75,8 +75,6 @@ module _ (most : ℕ) {S : Type 0} (did : S → ℕ → Rec → Did S) (start : 
     pub answers : (c : Call S) → Within did start c → Sound c
     pub refusals : (c : Call S) → Within did start c → (r : Rec) (l : Line) (a b : Call S) → Taking did start c r l a b → (l .answer ≡ 0 → ⊥)
         → Unchanged a b
-    -- 1: "session over 32,768 bytes; nothing is run". Nor is it where too few answers are lent
+    -- 1: "session over 32,768 bytes; nothing is run"
     pub over : (c : Call S) → Allowed did start c → 32768 < length (c .bytes)
         → (outcomeNumber (c .ran .outcome) ≡ 1) × Idle start Over (c .room) (c .answers) (c .ran) (c .replies) (c .told)
-    pub few : (c : Call S) → Allowed did start c → length (c .bytes) ≤ 32768 → length (c .answers) < (length (c .bytes) + 3) / 4
-        → (outcomeNumber (c .ran .outcome) ≡ 9) × Idle start Short (c .room) (c .answers) (c .ran) (c .replies) (c .told)

@@ -67,11 +67,11 @@ sized n e =
     (leb-true _ _ (a .0), leb-true _ _ (a .1))
 
 -- the session behind the first 6 bytes is run
-pub ended : (s replies answers : List ℕ) (r : Ran) (after told : List ℕ) → length s ≤ 32774 → 8192 ≡ length answers → 65536 ≡ length replies
+pub ended : (s replies answers : List ℕ) (r : Ran) (after told : List ℕ) → length s ≤ 32774 → 65536 ≡ length replies
     → Runs didOf emptyOf (part (length s - 6) s 6) replies answers (resultOf r) after told → r .session .gauge ≡ gaugeAfter (drop 6 s)
-ended s replies answers r after told short few fits runs =
+ended s replies answers r after told short fits runs =
     let size : length (drop 6 s) ≤ 32768 = omega (arith, length-drop 6 s) in
-    let run = rw (part-rest s 6, within-done (length (drop 6 s)) (length answers) size (omega arith)) at runs in
+    let run = rw (part-rest s 6, within-done (length (drop 6 s)) size) at runs in
     ap (λ (σ : Session). σ .gauge) (run .state) ∙ ap (λ (room : ℕ). endAfter didOf emptyOf room (recsOf (drop 6 s)) .gauge) (sym fits)
 
 -- its lines are said

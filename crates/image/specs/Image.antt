@@ -33,7 +33,7 @@ imageSpeech session = packSpeech (session .loaded) (session .gauge) orderWords
 
 -- and so does the refusal of a session that was not run, with an answer lent for each record that 32,768 bytes can hold
 unfoldable pub sessionImageSpeech : List ℕ → Speech
-sessionImageSpeech s = ranSpeech (outcomeOf (length s) 8192) (imageSpeech (sessionAtEnd s))
+sessionImageSpeech s = ranSpeech (outcomeOf (length s)) (imageSpeech (sessionAtEnd s))
 
 -- what is said of standard input s, or where a read of it failed
 abbrev pub sessionImageOf : Bool → List ℕ → Speech

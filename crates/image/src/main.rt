@@ -41,7 +41,6 @@ fn put_taken(bytes: &[u8], room: &mut [u8]) -> Said
     match outcome {
         Outcome::Done => put_image(session, room),
         Outcome::Over => text::put_unrun(Outcome::Over, room),
-        Outcome::Short => text::put_unrun(Outcome::Short, room),
     }
 }
 

@@ -1,14 +1,15 @@
 -- What follows of what `changes` and `mend` told, and of an input that is too long.
-use mathlib.Core.Path.{_≡_, refl, ap, _∙_}
+use mathlib.Core.Path.{_≡_, refl, sym, ap, _∙_}
 use mathlib.Core.Bool.{Bool}
 use mathlib.Core.List.{List, [], _++_, append-nil}
 use Prim.Native.Nat.{ℕ, _<_}
 use native.Mathlib.Omega.{arith}
 use borrow.Author.Tests.{ne-eqb}
 use lib.ListN.{length, take, drop-of-length-le}
+use Rattle.slices.proofs.Laws.{put-length}
 use Rattle.streams.specs.declared.Said.{Said}
 use Rattle.streams.specs.declared.Stream.the-variants.{Output}
-use Rattle.streams.specs.Streams.{Front, CountWithin, Saying, error, refusedText}
+use Rattle.streams.specs.Streams.{Front, CountWithin, Speech, Saying, error, refusedText}
 use Rattle.streams.proofs.Laws.{cut, seen}
 use Rattle.record.specs.Image.{imageSize}
 use Rattle.mending.specs.declared.MendRefusal.{MendRefusal}
@@ -16,7 +17,7 @@ use Rattle.mending.specs.declared.MendRefusal.the-variants.{Size}
 use Rattle.mending.specs.declared.Mended.{Mended}
 use Rattle.mending.specs.declared.Mended.the-variants.{Done, Refused}
 use Rattle.mending.specs.declared.Listed.the-variants as listed
-use Rattle.mending.specs.Mending.{mendedOf, changesSize, mendRefusalNumber, mendingAnswer, mendedRoom, listedBy, linesBy, Mending, Listing}
+use Rattle.mending.specs.Mending.{mendedOf, mendRefusalNumber, mendingAnswer, mendedRoom, listedBy, linesBy, Mending, Listing}
 use Rattle.mend.specs.Mend.{mendRefusalWords, speechBy, fileBy, mendSpeech, mendFile, Mends}
 
 -- a refusal, by its number and its words
@@ -25,20 +26,12 @@ pub why-said : {why x : MendRefusal} {number : ℕ} {room after : List ℕ} {r :
     Saying (error (refusedText (mendRefusalNumber why) (mendRefusalWords why))) room r after
 why-said is told w = rw (← told, is) w
 
--- with room for all the lines, and for the image, the answer is the same
-room-for-both : (image : List ℕ) → mendingAnswer changesSize image changesSize ≡ mendingAnswer imageSize image imageSize
-unfolding mendingAnswer
-room-for-both image = refl
-
 -- ---- the lines
 
-answered : (image text : List ℕ) → length text ≡ changesSize → mendingAnswer changesSize image (length text) ≡ mendingAnswer imageSize image imageSize
-answered image text size = ap (mendingAnswer changesSize image) size ∙ room-for-both image
-
-module _ {image text after : List ℕ} (size : length text ≡ changesSize) where
+module _ {image text after : List ℕ} where
   pub lines-said : {n : ℕ} → Listing image text (listed.Lines n) after → Saying (mendSpeech image) text (record { stream = Output; count = n }) after
   unfolding mendSpeech
-  lines-said {n} w = by (mendingAnswer imageSize image imageSize) (rw (answered image text size) at (w .answer)) (rw (answered image text size) at (w .written))
+  lines-said {n} w = by (mendingAnswer image imageSize) (w .answer) (w .written)
     where
       by : (a : Mended) → listed.Lines n ≡ listedBy a image → after ≡ linesBy a image text
           → Saying (speechBy a image) text (record { stream = Output; count = n }) after
@@ -49,7 +42,7 @@ module _ {image text after : List ℕ} (size : length text ≡ changesSize) wher
       → Saying (error (refusedText (mendRefusalNumber why) (mendRefusalWords why))) after r last → Saying (mendSpeech image) text r last
   unfolding mendSpeech
   refusal-said {why} {r} {last} w said =
-      by (mendingAnswer imageSize image imageSize) (rw (answered image text size) at (w .answer)) (rw (answered image text size) at (w .written))
+      by (mendingAnswer image imageSize) (w .answer) (w .written)
     where
       by : (a : Mended) → listed.Refused why ≡ listedBy a image → after ≡ linesBy a image text → Saying (speechBy a image) text r last
       by Done e written = let z : _≡_ {A = ℕ} 0 1 = cc in absurd (omega arith)
@@ -59,17 +52,21 @@ module _ {image text after : List ℕ} (size : length text ≡ changesSize) wher
 
 pub filed : {image file after : List ℕ} {said : Mended} → length file ≡ imageSize → Mending image file said after → after ≡ mendFile image file
 unfolding mendFile
-filed {image} {file} {after} size w = by (mendingAnswer imageSize image imageSize) (rw size at (w .written))
+filed {image} {file} {after} size w = by (mendingAnswer image imageSize) (rw size at (w .written))
   where
     by : (a : Mended) → after ≡ mendedRoom a image file → after ≡ fileBy a image file
     by Done e =
         e ∙ ap (λ (rest : List ℕ). mendedOf image ++ rest) (drop-of-length-le file {i = imageSize} (omega arith)) ∙ append-nil (mendedOf image)
     by (Refused why) e = e
 
+-- what is said leaves the room its length
+pub said-sized : {what : Speech} {room after : List ℕ} {r : Said} → Saying what room r after → length room ≡ length after
+said-sized {what} {room} w = sym (ap length (w .written) ∙ put-length room 0 (what .text))
+
 -- ---- of an input that is too long the bytes do not matter
 
 module _ (s : List ℕ) (long : imageSize < length s) where
-  refused : mendingAnswer imageSize s imageSize ≡ Refused Size
+  refused : mendingAnswer s imageSize ≡ Refused Size
   unfolding mendingAnswer
   refused = rw (ne-eqb (length s) imageSize (λ e. omega arith)) refl
 

@@ -1,11 +1,12 @@
 -- The contracts of this program's functions leave no choice.
-use mathlib.Core.Path.{sym, _∙_}
+use mathlib.Core.Path.{refl, sym, _∙_}
 use denote.Ref.{now}
 use Rattle.once.specs.Once.{Once}
 use Rattle.streams.proofs.Laws.{own, same-said, same-room}
 use Rattle.mend.proofs.put_why
 use Rattle.mend.proofs.put_lines
 use Rattle.mend.proofs.put_mended
+use Rattle.mend.proofs.sized
 use Rattle.mend.proofs.repaired
 
 pub put-why-once : Once put_why.ended put_why.Reads.Pre put_why.Reads.Learnt
@@ -17,6 +18,9 @@ put-lines-once κs a r r′ w w′ p h h′ = (same-said h h′, λ i. (tt, (sam
 pub put-mended-once : Once put_mended.ended put_mended.Reads.Pre put_mended.Reads.Learnt
 put-mended-once κs a r r′ w w′ p h h′ =
     (same-said (h .saying) (h′ .saying), λ i. (tt, (tt, ((h .filed ∙ sym (h′ .filed)) i, (same-room (h .saying) (h′ .saying) i, tt)))))
+
+pub sized-once : Once sized.ended sized.Reads.Pre sized.Reads.Learnt
+sized-once κs a r r′ w w′ p h h′ = (refl, refl)
 
 pub repaired-once : Once repaired.ended repaired.Reads.Pre repaired.Reads.Learnt
 repaired-once κs a r r′ w w′ p h h′ =

@@ -43,10 +43,10 @@ fileBy (Refused why) image room = room
 
 -- with room for all of both
 unfoldable pub mendSpeech : List ℕ → Speech
-mendSpeech image = speechBy (mendingAnswer imageSize image imageSize) image
+mendSpeech image = speechBy (mendingAnswer image imageSize) image
 
 unfoldable pub mendFile : List ℕ → List ℕ → List ℕ
-mendFile image room = fileBy (mendingAnswer imageSize image imageSize) image room
+mendFile image room = fileBy (mendingAnswer image imageSize) image room
 
 -- of standard input s, or where a read of it failed
 abbrev pub speechOf : Bool → List ℕ → Speech

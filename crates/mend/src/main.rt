@@ -29,8 +29,7 @@ fn put_why(why: MendRefusal, text: &mut [u8]) -> Said
 }
 
 // The lines, or why there are none.
-fn put_lines(image: &[u8], text: &mut [u8]) -> Said
-    requires { ⌜ length (now text) ≡ 540 ⌝ }
+fn put_lines(image: &[u8], text: &mut [u8; 540]) -> Said
     ensures { λ r. ⌜ Saying (mendSpeech (now (image .entry))) (now (text .entry)) r (now (text .exit)) ⌝ }
 {
     let listed = mending::changes(image, text);
@@ -47,9 +46,8 @@ fn put_lines(image: &[u8], text: &mut [u8]) -> Said
 }
 
 // What the image is refused with, the lines tell.
-fn put_mended(failed: bool, image: &[u8], file: &mut [u8], text: &mut [u8]) -> Said
+fn put_mended(failed: bool, image: &[u8], file: &mut [u8], text: &mut [u8; 540]) -> Said
     requires { ⌜ length (now file) ≡ 60 ⌝ }
-    requires { ⌜ length (now text) ≡ 540 ⌝ }
     ensures { λ r. ⌜ Mends failed (now (image .entry)) (now (file .entry)) (now (text .entry)) r (now (file .exit)) (now (text .exit)) ⌝ }
 {
     if failed {
@@ -57,6 +55,14 @@ fn put_mended(failed: bool, image: &[u8], file: &mut [u8], text: &mut [u8]) -> S
     }
     mending::mend(image, file);
     put_lines(image, text)
+}
+
+// Every room for the lines has its size, which is told to a proof.
+fn sized(text: &[u8; 540])
+    ensures { λ _. ⌜ 540 ≡ length (now (text .entry)) ⌝ }
+{
+    let all: &[u8] = text;
+    all.len();
 }
 
 // What the program says, and the bytes for the file. A byte more than an image has is enough to know of any input. (That the rooms keep their
@@ -68,6 +74,7 @@ fn repaired(input: &[u8; 61], got: Input, file: &mut [u8; 60], text: &mut [u8; 5
 {
     let n = streams::within(got.count, input);
     let all: &[u8] = input;
+    sized(text);
     put_mended(got.failed, &all[..n], file, text)
 }
 

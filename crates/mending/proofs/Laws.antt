@@ -27,9 +27,9 @@ use Rattle.mending.specs.Mending.{changesFrom, changesOf, changesSize, m
 -- ---- the answer
 
 -- an image is mended where it has its size and the room does, and its family is right
-pub record Granted (least : ℕ) (image : List ℕ) (room : ℕ) : Type 0 where
+pub record Granted (image : List ℕ) (room : ℕ) : Type 0 where
   pub sized : length image ≡ imageSize
-  pub fits : least ≤ room
+  pub fits : imageSize ≤ room
   pub family : getD image 0 0 ≡ 0x3d
 
 tests : (a b c : Bool) → pick a (pick b (Refused Size) (pick c Done (Refused Family))) (Refused Size) ≡ Done →
@@ -39,13 +39,13 @@ tests true false true e = (refl, refl, refl)
 tests true false false e = let z : _≡_ {A = ℕ} 0 1 = cc in absurd (omega arith)
 tests false b c e = let z : _≡_ {A = ℕ} 0 1 = cc in absurd (omega arith)
 
-pub granted : (least : ℕ) (image : List ℕ) (room : ℕ) → mendingAnswer least image room ≡ Done → Granted least image room
+pub granted : (image : List ℕ) (room : ℕ) → mendingAnswer image room ≡ Done → Granted image room
 unfolding mendingAnswer
-granted least image room done =
-    let held = tests (eqb (length image) imageSize) (ltb room least) (eqb (getD image 0 0) 0x3d) done in
+granted image room done =
+    let held = tests (eqb (length image) imageSize) (ltb room imageSize) (eqb (getD image 0 0) 0x3d) done in
     record {
       sized = eqb-true (length image) imageSize (held .0);
-      fits = ltb-false room least (held .1);
+      fits = ltb-false room imageSize (held .1);
       family = eqb-true (getD image 0 0) 0x3d (held .2);
     }
 
@@ -101,7 +101,7 @@ pub changes-all : {next : ℕ} {room room′ : List ℕ} (olds news : List ℕ) 
 changes-all olds news i h few e w = wider (rw (take-all i olds h, take-all i news (omega arith)) at w) (omega arith)
 
 -- all of them, in a room for as many as there may be
-pub listed : {m room after : List ℕ} {next : ℕ} (image : List ℕ) → mendingAnswer changesSize image (length room) ≡ Done → m ≡ mendedOf image
+pub listed : {m room after : List ℕ} {next : ℕ} (image : List ℕ) → mendingAnswer image imageSize ≡ Done → m ≡ mendedOf image
     → Writing changesSize (changesFrom 0 image m) room 0 next after → Listing image room (Lines next) after
 unfolding changesOf
 listed image done is w =

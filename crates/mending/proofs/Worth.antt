@@ -434,7 +434,7 @@ kept image size = keeps image size
 
 pub by-call : ByCallTheorem
 by-call image room after w =
-    let g = granted imageSize image (length room) (sym (w .answer)) in
+    let g = granted image (length room) (sym (w .answer)) in
     let front : after ≡ mendedOf image ++ drop imageSize room = rw (sym (w .answer)) at (w .written) in (
       record { sized = g .sized; family = g .family },
       ap (take imageSize) front

@@ -108,11 +108,11 @@ abbrev pub mendedNumber : Mended → ℕ
 mendedNumber Done = 0
 mendedNumber (Refused why) = mendRefusalNumber why
 
--- of an image and a room that is to have so many bytes at least
-unfoldable pub mendingAnswer : ℕ → List ℕ → ℕ → Mended
-mendingAnswer least image room =
+-- of an image and a room of so many bytes
+unfoldable pub mendingAnswer : List ℕ → ℕ → Mended
+mendingAnswer image room =
     pick (eqb (length image) imageSize)
-    (pick (ltb room least) (Refused Size) (pick (eqb (getD image addressAt 0) 0x3d) Done (Refused Family)))
+    (pick (ltb room imageSize) (Refused Size) (pick (eqb (getD image addressAt 0) 0x3d) Done (Refused Family)))
     (Refused Size)
 
 -- ---- "neither writes anything"; what is beyond the 60 bytes stays
@@ -122,11 +122,12 @@ mendedRoom Done image room = mendedOf image ++ drop imageSize room
 mendedRoom (Refused why) image room = room
 
 pub record Mending (image room : List ℕ) (said : Mended) (after : List ℕ) : Type 0 where
-  pub number : mendedNumber said ≡ mendedNumber (mendingAnswer imageSize image (length room))
-  pub answer : said ≡ mendingAnswer imageSize image (length room)
-  pub written : after ≡ mendedRoom (mendingAnswer imageSize image (length room)) image room
+  pub number : mendedNumber said ≡ mendedNumber (mendingAnswer image (length room))
+  pub answer : said ≡ mendingAnswer image (length room)
+  pub written : after ≡ mendedRoom (mendingAnswer image (length room)) image room
 
--- ---- the lines, in a room for all that they may be: how many bytes they are, and these at its front
+-- ---- the lines, in a room for all that they may be: how many bytes they are, and these at its front. There are none where the image is refused by
+-- itself, which is in a room that is large enough
 
 abbrev pub listedBy : Mended → List ℕ → Listed
 listedBy Done image = listed.Lines (length (changesOf image))
@@ -141,6 +142,6 @@ listedNumber (listed.Lines n) = 0
 listedNumber (listed.Refused why) = mendRefusalNumber why
 
 pub record Listing (image room : List ℕ) (said : Listed) (after : List ℕ) : Type 0 where
-  pub number : listedNumber said ≡ mendedNumber (mendingAnswer changesSize image (length room))
-  pub answer : said ≡ listedBy (mendingAnswer changesSize image (length room)) image
-  pub written : after ≡ linesBy (mendingAnswer changesSize image (length room)) image room
+  pub number : listedNumber said ≡ mendedNumber (mendingAnswer image imageSize)
+  pub answer : said ≡ listedBy (mendingAnswer image imageSize) image
+  pub written : after ≡ linesBy (mendingAnswer image imageSize) image room

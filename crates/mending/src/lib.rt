@@ -35,9 +35,6 @@ const CRC_AT: usize = 7;
 
 const BREAKS_AT: usize = 52;
 
-// Room for the lines of any image: nine bytes for each of its bytes.
-pub const CHANGES_SIZE: usize = 540;
-
 // The answer's number.
 pub fn mended_number(mended: Mended) -> u8
     ensures { λ r. ⌜ r ≡ mendedNumber mended ⌝ }
@@ -51,14 +48,14 @@ pub fn mended_number(mended: Mended) -> u8
     }
 }
 
-// The answer for an image and a room, which is to have so many bytes at least.
-fn answer(least: usize, image: &[u8], room: usize) -> Mended
-    ensures { λ r. ⌜ r ≡ mendingAnswer least (now (image .entry)) room ⌝ }
+// The answer for an image and a room of so many bytes.
+fn answer(image: &[u8], room: usize) -> Mended
+    ensures { λ r. ⌜ r ≡ mendingAnswer (now (image .entry)) room ⌝ }
 {
     if image.len() != IMAGE_SIZE {
         return Mended::Refused(MendRefusal::Size);
     }
-    if room < least {
+    if room < IMAGE_SIZE {
         return Mended::Refused(MendRefusal::Size);
     }
     if image[0] != 0x3d {
@@ -156,7 +153,7 @@ fn put_mended(image: &[u8], room: &mut [u8])
 pub fn mend(image: &[u8], room: &mut [u8]) -> Mended
     ensures { λ r. ⌜ Mending (now (image .entry)) (now (room .entry)) r (now (room .exit)) ⌝ }
 {
-    let found = answer(IMAGE_SIZE, image, room.len());
+    let found = answer(image, room.len());
     match found {
         Mended::Done => {
             put_mended(image, room);
@@ -211,11 +208,11 @@ fn put_changes(old: &[u8], new: &[u8], room: &mut [u8]) -> usize
     next
 }
 
-// Writes a line for each byte that mending changes, or nothing.
-pub fn changes(image: &[u8], room: &mut [u8]) -> Listed
+// Writes a line for each byte that mending changes, or nothing. The lines of any image have room: there are nine bytes for each of its bytes.
+pub fn changes(image: &[u8], room: &mut [u8; 540]) -> Listed
     ensures { λ r. ⌜ Listing (now (image .entry)) (now (room .entry)) r (now (room .exit)) ⌝ }
 {
-    let found = answer(CHANGES_SIZE, image, room.len());
+    let found = answer(image, IMAGE_SIZE);
     match found {
         Mended::Done => {
             let mended = mended_image(image);

@@ -2,13 +2,13 @@
 -- each record, the replies, and the state at the end.
 use mathlib.Core.Path.{_≡_}
 use mathlib.Core.List.{List, [], _∷_, _++_}
-use Prim.Native.Nat.{ℕ, _+_, _-_, _*_, _/_}
+use Prim.Native.Nat.{ℕ, _+_, _-_, _*_}
 use lib.Dec.{ltb}
 use lib.ListN.{length}
 use Rattle.numbers.specs.Choice.{pick}
 use Rattle.slices.specs.Slices.{put}
 use Rattle.runs.specs.declared.Outcome.{Outcome}
-use Rattle.runs.specs.declared.Outcome.the-variants.{Done, Over, Short}
+use Rattle.runs.specs.declared.Outcome.the-variants.{Done, Over}
 use Rattle.runs.specs.Record.{Rec, recsOf, kindIn}
 
 -- what a record did: the state after it, the answer, and the reply
@@ -56,17 +56,14 @@ abbrev pub codesOf : List Line → List ℕ
 codesOf [] = []
 codesOf (l ∷ ls) = codeOf (l .kind) (l .answer) (length (l .reply)) ∷ codesOf ls
 
--- the answer number of a whole session: 1 where it is over 32,768 bytes, and 9, as for every lent room that is too small, where the lent
--- answers are too few
+-- the answer number of a whole session: 1 where it is over 32,768 bytes
 abbrev pub outcomeNumber : Outcome → ℕ
 outcomeNumber Done = 0
 outcomeNumber Over = 1
-outcomeNumber Short = 9
 
--- how a session of so many bytes ends, with so many lent answers. 1: session over 32,768 bytes; nothing is run. Nor is it where the lent
--- answers are fewer than the records may be
-unfoldable pub outcomeOf : ℕ → ℕ → Outcome
-outcomeOf bytes answers = pick (ltb 32768 bytes) Over (pick (ltb answers ((bytes + 3) / 4)) Short Done)
+-- how a session of so many bytes ends. 1: session over 32,768 bytes; nothing is run
+unfoldable pub outcomeOf : ℕ → Outcome
+outcomeOf bytes = pick (ltb 32768 bytes) Over Done
 
 -- what a run hands back: its outcome, the state at the end, how many lines there are, and how many bytes of reply
 pub record Result (S : Type 0) : Type 0 where
@@ -96,8 +93,7 @@ module _ {S : Type 0} (did : S → ℕ → Rec → Did S) (start : S) where
   abbrev pub RunsTo : Outcome → List ℕ → List ℕ → List ℕ → Result S → List ℕ → List ℕ → Type 0
   RunsTo Done s room answers r after told = Running s room answers r after told
   RunsTo Over s room answers r after told = Idle start Over room answers r after told
-  RunsTo Short s room answers r after told = Idle start Short room answers r after told
 
   -- a session is run, or nothing of it
   abbrev pub Runs : List ℕ → List ℕ → List ℕ → Result S → List ℕ → List ℕ → Type 0
-  Runs s room answers r after told = RunsTo (outcomeOf (length s) (length answers)) s room answers r after told
+  Runs s room answers r after told = RunsTo (outcomeOf (length s)) s room answers r after told

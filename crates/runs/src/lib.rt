@@ -12,11 +12,10 @@ ghost use Rattle.runs.specs.Run.{codeOf, outcomeNumber, outcomeOf};
 ghost use Rattle.runs.specs.AnyRecord.{refusedOf, takenRead, frontBy};
 ghost use Rattle.runs.specs.SessionRecord.{toldOf};
 
-// Run to its end; over 32,768 bytes; or too few lent answers.
+// Run to its end, or over 32,768 bytes.
 pub enum Outcome {
     Done,
     Over,
-    Short,
 }
 
 // The answer number of a whole session.
@@ -26,19 +25,15 @@ pub fn outcome_number(outcome: Outcome) -> u8
     match outcome {
         Outcome::Done => 0,
         Outcome::Over => 1,
-        Outcome::Short => 9,
     }
 }
 
-// How a session of so many bytes ends, with so many lent answers: one for each four bytes begun is enough.
-pub fn outcome_of(bytes: usize, answers: usize) -> Outcome
-    ensures { λ r. ⌜ r ≡ outcomeOf bytes answers ⌝ }
+// How a session of so many bytes ends.
+pub fn outcome_of(bytes: usize) -> Outcome
+    ensures { λ r. ⌜ r ≡ outcomeOf bytes ⌝ }
 {
     if 32768 < bytes {
         return Outcome::Over;
-    }
-    if answers < (bytes + 3) / 4 {
-        return Outcome::Short;
     }
     Outcome::Done
 }

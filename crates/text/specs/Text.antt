@@ -17,7 +17,7 @@ use Rattle.gauge.specs.declared.Gauge.{Gauge}
 use Rattle.gauge.specs.Image.{bytesOf}
 use Rattle.runs.specs.declared.Ended.{Ended}
 use Rattle.runs.specs.declared.Outcome.{Outcome}
-use Rattle.runs.specs.declared.Outcome.the-variants.{Done, Over, Short}
+use Rattle.runs.specs.declared.Outcome.the-variants.{Done, Over}
 use Rattle.runs.specs.Run.{Line, outcomeNumber, outcomeOf}
 
 -- ---- the lines
@@ -38,12 +38,10 @@ overText = decimalText 0 ++ (ascii " ---- " ++ (decimalText (outcomeNumber Over)
 abbrev pub textOf : Outcome → List Line → List ℕ
 textOf Done lines = headerText ++ linesText 1 lines
 textOf Over lines = headerText ++ overText
-textOf Short lines = []
 
--- the text of a session s, by the lines that it has with so much reply room: with 65,536 bytes of it, and an answer lent for each record that
--- 32,768 bytes can hold
+-- the text of a session s, by the lines that it has with so much reply room: with 65,536 bytes of it
 unfoldable pub runText : (List ℕ → ℕ → List Line) → List ℕ → List ℕ
-runText lines s = textOf (outcomeOf (length s) 8192) (lines s 65536)
+runText lines s = textOf (outcomeOf (length s)) (lines s 65536)
 
 -- ---- the same of lines as `run` hands them back: each a number, and the replies one after the other
 
@@ -66,7 +64,6 @@ codesText number (c ∷ cs) replies =
 abbrev pub codedText : Outcome → List ℕ → List ℕ → List ℕ
 codedText Done codes replies = headerText ++ codesText 1 codes replies
 codedText Over codes replies = headerText ++ overText
-codedText Short codes replies = []
 
 -- ---- what the code promises
 
@@ -104,20 +101,15 @@ pub record Reporting (text before : List ℕ) (count : ℕ) (after : List ℕ) :
 abbrev pub overWords : List ℕ
 overWords = ascii "the session is over 32,768 bytes"
 
-abbrev pub shortWords : List ℕ
-shortWords = ascii "the room for the answers is too small"
-
 -- what is said of a session that was not run, on standard error: its answer number and what that means. Of one that was run nothing is said
 abbrev pub unrunSpeech : Outcome → Speech
 unrunSpeech Done = output []
 unrunSpeech Over = error (refusedText (outcomeNumber Over) overWords)
-unrunSpeech Short = error (refusedText (outcomeNumber Short) shortWords)
 
 -- what a program says of a session that was run, or else why it was not
 abbrev pub ranSpeech : Outcome → Speech → Speech
 ranSpeech Done said = said
 ranSpeech Over said = unrunSpeech Over
-ranSpeech Short said = unrunSpeech Short
 
 -- ---- the image taken out of a session, or of a slot of a tray
 

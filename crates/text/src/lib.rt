@@ -142,7 +142,6 @@ fn put_coded(outcome: Outcome, codes: &[u64], replies: &[u8], out: &mut [u8]) ->
             let at = put_header(out);
             put_over(out, at)
         }
-        Outcome::Short => 0,
     }
 }
 
@@ -177,7 +176,7 @@ pub fn report(ended: Ended, answers: &[u64], replies: &[u8], out: &mut [u8]) -> 
 
 // Why a session was not run, in a line for standard error. Of one that was run nothing is said.
 pub fn put_unrun(outcome: Outcome, room: &mut [u8]) -> Said
-    requires { ⌜ 45 ≤ length (now room) ⌝ }
+    requires { ⌜ 40 ≤ length (now room) ⌝ }
     ensures { λ r. ⌜ Saying (unrunSpeech outcome) (now (room .entry)) r (now (room .exit)) ⌝ }
 {
     match outcome {
@@ -191,11 +190,6 @@ pub fn put_unrun(outcome: Outcome, room: &mut [u8]) -> Said
         Outcome::Over => streams::put_refused(
             runs::outcome_number(Outcome::Over),
             b"the session is over 32,768 bytes",
-            room,
-        ),
-        Outcome::Short => streams::put_refused(
-            runs::outcome_number(Outcome::Short),
-            b"the room for the answers is too small",
             room,
         ),
     }

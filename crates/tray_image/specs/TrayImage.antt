@@ -59,7 +59,7 @@ slotSpeech tray i = packSpeech (slotHeld tray i) (packOf tray i) slotWords
 
 -- and so does the refusal of a session that was not run, with an answer lent for each record that 32,768 bytes can hold
 unfoldable pub trayImageSpeech : ℕ → List ℕ → Speech
-trayImageSpeech i s = ranSpeech (outcomeOf (length s) 8192) (slotSpeech (trayAtEnd s) i)
+trayImageSpeech i s = ranSpeech (outcomeOf (length s)) (slotSpeech (trayAtEnd s) i)
 
 -- of any word
 unfoldable pub wordSpeech : List ℕ → List ℕ → Speech

@@ -28,7 +28,7 @@ abbrev run→pair : tie.After-run → tie.After-pair
 run→pair c = answers→pair (c .before)
 
 abbrev put-lines-arg→run : tie.After-put-lines-arg → tie.After-run
-put-lines-arg→run c = c .before .before .before
+put-lines-arg→run c = c .before .before
 
 abbrev put-lines→run : tie.After-put-lines → tie.After-run
 put-lines→run c = put-lines-arg→run (c .before)
@@ -73,7 +73,7 @@ returns c =
     let run = slice-known2→run c .run in
     lines-said s (sym (asked .before .and .ensures) ∙ asked .if1 .taken)
     (ended s (replicate 65536 0) (replicate 8192 0) (run .result) (run .last .1 .0) (run .last .1 .1 .0) (bounds asked .1)
-    (sym (length-replicate {A = ℕ} 8192 0)) (sym (length-replicate {A = ℕ} 65536 0)) (run .ensures))
+    (sym (length-replicate {A = ℕ} 65536 0)) (run .ensures))
     (slice-known2→offset32 c .offset32 .ensures ∙ ap offset32Of (slice-known2→quad c .quad .ensures))
     (slice-known2→pair c .pair .ensures) (slice-known2→put-lines c .put-lines .ensures)
 
@@ -95,7 +95,6 @@ put-compared-spec =
     pair-requires
     sub-run
     part-run-start
-    (λ c. search needs)
     (λ c. search needs)
     (λ c. search needs)
     (λ c κs. search needs)

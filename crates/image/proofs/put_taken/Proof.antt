@@ -3,7 +3,7 @@ use mathlib.Core.Path.{sym}
 use Prim.Native.Nat.{ℕ}
 use lib.ListN.{replicate, length-replicate}
 use denote.Ref.{now}
-use Rattle.runs.specs.declared.Outcome.the-variants.{Over, Short}
+use Rattle.runs.specs.declared.Outcome.the-variants.{Over}
 use Rattle.runs.specs.SessionRecord.{didOf}
 use Rattle.session_run.specs.SessionRun.{emptyOf, resultOf}
 use Rattle.text.proofs.AtEnd.{AtEnd, at-end, done-said, idle-said}
@@ -13,11 +13,8 @@ use Rattle.image.proofs.put_taken.Statement.{statement}
 use Rattle.image.proofs.put_taken.Tie as tie
 
 -- where the run is over, and where the session was lent for it
-abbrev over : tie.After-session → tie.After-answers2
-over c = c .before .before
-
 abbrev ran : tie.After-session → tie.After-run
-ran c = over c .before .before
+ran c = c .before .before .before
 
 abbrev known : tie.After-session → tie.After-slice-known
 known c = ran c .before .before .before
@@ -30,7 +27,7 @@ ending : (c : tie.After-session) → AtEnd didOf emptyOf (now (lent c .args .byt
 ending c =
     let run = ran c .run in
     at-end didOf emptyOf _ (resultOf (run .result)) (replicate 65536 0) (replicate 8192 0) (run .last .1 .0) (run .last .1 .1 .0)
-    (sym (length-replicate {A = ℕ} 8192 0)) (sym (length-replicate {A = ℕ} 65536 0)) (run .ensures)
+    (sym (length-replicate {A = ℕ} 65536 0)) (run .ensures)
 
 returns : tie.Need-returns
 unfolding sessionImageSpeech sessionAtEnd
@@ -48,21 +45,10 @@ returns-2 c =
     let end = told .before .before in
     idle-said didOf emptyOf imageSpeech _ (ending end) Over (told .enum-told2 .given .1) (said .put-unrun .ensures)
 
-returns-3 : tie.Need-returns-3
-unfolding sessionImageSpeech sessionAtEnd
-returns-3 c =
-    let said = c .before .before in
-    let told = said .before .before in
-    let end = told .before .before in
-    idle-said didOf emptyOf imageSpeech _ (ending end) Short (told .enum-told3 .given .1) (said .put-unrun2 .ensures)
-
 pub put-taken-spec : {M : Type 1} → statement M
 put-taken-spec =
     tie.close
     (tie.spec
-    (λ c. search needs)
-    (λ c. search needs)
-    (λ c κs. search needs)
     (λ c. search needs)
     (λ c κs. search needs)
     (λ c. search needs)
@@ -72,6 +58,4 @@ put-taken-spec =
     (λ c. search needs)
     returns
     (λ c. search needs)
-    returns-2
-    (λ c. search needs)
-    returns-3)
+    returns-2)

@@ -7,19 +7,16 @@ use Rattle.mend.proofs.put_mended.Tie as tie
 
 returns : tie.Need-returns
 returns c =
-    let at-put-unread = c .before .before in
-    let at-then1 = at-put-unread .before .before .before in
-    rw (at-then1 .if1 .taken) (record { saying = at-put-unread .put-unread .ensures; filed = refl })
+    let at-then1 = c .before .before .before in
+    rw (at-then1 .if1 .taken) (record { saying = c .put-unread .ensures; filed = refl })
 
 returns-2 : tie.Need-returns-2
 returns-2 c =
-    let at-put-lines = c .before .before in
-    let at-file = at-put-lines .before .before .before in
+    let at-file = c .before .before .before in
     let at-mend = at-file .before in
     let at-else1 = at-mend .before .before in
-    let at-shared-slice-known = at-else1 .before .before .before in
-    let at-start = at-shared-slice-known .before in
-    rw (at-else1 .if1 .left) (record { saying = at-put-lines .put-lines .ensures; filed = filed (at-start .pre .0) (at-mend .mend .ensures) })
+    let at-start = at-else1 .before .before .before in
+    rw (at-else1 .if1 .left) (record { saying = c .put-lines .ensures; filed = filed (at-start .pre) (at-mend .mend .ensures) })
 
 pub put-mended-spec : {M : Type 1} → statement M
 put-mended-spec =
@@ -27,10 +24,8 @@ put-mended-spec =
     (tie.spec
     (λ c. search needs)
     (λ c κs. search needs)
-    (λ c. search needs)
     returns
     (λ c κs. search needs)
     (λ c κs. search needs)
-    (λ c. search needs)
     (λ c. search needs)
     returns-2)

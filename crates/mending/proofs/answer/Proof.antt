@@ -5,7 +5,7 @@ use borrow.Author.Tests.{eq-eqb, ne-eqb, lt-ltb, le-ltb}
 use lib.Dec.{eqb, ltb}
 use lib.ListN.{getD}
 use denote.Ref.{now}
-use Rattle.record.specs.Image.{addressAt}
+use Rattle.record.specs.Image.{imageSize, addressAt}
 use Rattle.mending.specs.Mending.{mendingAnswer}
 use borrow.Author.Needs.{needs}
 use Rattle.mending.proofs.answer.Statement.{statement}
@@ -20,7 +20,7 @@ unfolding mendingAnswer
 returns c = simp (ne-eqb _ _ (c .if1 .taken))
 
 -- the room has too few bytes in the second arm
-small : (c : tie.Then2) → ltb (then2→start c .args .room) (then2→start c .args .least) ≡ true
+small : (c : tie.Then2) → ltb (then2→start c .args .room) imageSize ≡ true
 small c = lt-ltb _ _ (c .if2 .taken)
 
 returns-2 : tie.Need-returns-2

@@ -1,11 +1,13 @@
 -- `mending::changes` meets its contract.
 use mathlib.Core.Path.{_≡_, refl, sym, ap, _∙_}
 use lib.ListN.{length}
+use native.Mathlib.Omega.{arith}
 use denote.Ref.{now}
+use Rattle.record.specs.Image.{imageSize}
 use Rattle.mending.specs.declared.MendRefusal.{MendRefusal}
-use Rattle.mending.specs.declared.Mended.the-variants.{Refused}
+use Rattle.mending.specs.declared.Mended.the-variants.{Done, Refused}
 use Rattle.mending.specs.declared.Listed.the-variants as lines
-use Rattle.mending.specs.Mending.{mendedNumber, listedNumber, changesSize}
+use Rattle.mending.specs.Mending.{mendedNumber, mendingAnswer, listedNumber}
 use Rattle.mending.proofs.Laws.{granted, mended-length, listed}
 use borrow.Author.Needs.{needs}
 use Rattle.mending.proofs.changes.Statement.{statement}
@@ -13,7 +15,7 @@ use Rattle.mending.proofs.changes.Tie as tie
 
 -- places: `a→b` leads from the record of the place a back to that of the place b
 abbrev answer→start : tie.After-answer → tie.Start
-answer→start c = c .before .before .before
+answer→start c = c .before .before
 
 abbrev enum-told→answer : tie.After-enum-told → tie.After-answer
 enum-told→answer c = c .before .before
@@ -25,39 +27,25 @@ abbrev put-changes-arg→mended-image : tie.After-put-changes-arg → tie.After-
 put-changes-arg→mended-image c = c .before .before
 
 abbrev put-changes-arg→enum-told : tie.After-put-changes-arg → tie.After-enum-told
-put-changes-arg→enum-told c = c .before .before .before
+put-changes-arg→enum-told c = put-changes-arg→mended-image c .before
 
-abbrev put-changes-arg→answer : tie.After-put-changes-arg → tie.After-answer
-put-changes-arg→answer c = enum-told→answer (put-changes-arg→enum-told c)
-
-abbrev put-changes-arg→start : tie.After-put-changes-arg → tie.Start
-put-changes-arg→start c = answer→start (put-changes-arg→answer c)
-
-abbrev slice-known2→mended-image : tie.After-slice-known2 → tie.After-mended-image
-slice-known2→mended-image c = put-changes-arg→mended-image (c .before .before .before)
-
-abbrev slice-known2→enum-told : tie.After-slice-known2 → tie.After-enum-told
-slice-known2→enum-told c = slice-known2→mended-image c .before
-
-abbrev slice-known2→answer : tie.After-slice-known2 → tie.After-answer
-slice-known2→answer c = enum-told→answer (slice-known2→enum-told c)
+-- the answer, where the image is mended
+done : (c : tie.After-enum-told) → mendingAnswer (now (enum-told→start c .args .image)) imageSize ≡ Done
+done c = sym (enum-told→answer c .answer .ensures) ∙ c .enum-told .given .1
 
 mended-image-requires : tie.Need-mended-image-requires
-mended-image-requires c κs =
-    granted changesSize (now (enum-told→start c .args .image)) (length (now (enum-told→start c .args .room)))
-    (sym (enum-told→answer c .answer .ensures) ∙ c .enum-told .given .1) .sized
+mended-image-requires c κs = granted (now (enum-told→start c .args .image)) imageSize (done c) .sized
 
 put-changes-requires : tie.Need-put-changes-requires
 put-changes-requires c κs =
-    let a = put-changes-arg→start c .args in
-    let g = granted changesSize (now (a .image)) (length (now (a .room)))
-    (sym (put-changes-arg→answer c .answer .ensures) ∙ put-changes-arg→enum-told c .enum-told .given .1) in
-    (g .sized, (ap length (put-changes-arg→mended-image c .mended-image .ensures) ∙ mended-length (now (a .image)) ∙ g .sized, g .fits))
+    let at-enum-told = put-changes-arg→enum-told c in
+    let image = now (enum-told→start at-enum-told .args .image) in
+    let size = granted image imageSize (done at-enum-told) .sized in
+    (size, (ap length (put-changes-arg→mended-image c .mended-image .ensures) ∙ mended-length image ∙ size, omega arith))
 
 returns : tie.Need-returns
 returns c =
-    listed _ (sym (slice-known2→answer c .answer .ensures) ∙ slice-known2→enum-told c .enum-told .given .1)
-    (slice-known2→mended-image c .mended-image .ensures) (c .before .before .put-changes .ensures)
+    listed _ (done (put-changes-arg→enum-told (c .before))) (put-changes-arg→mended-image (c .before) .mended-image .ensures) (c .put-changes .ensures)
 
 -- a refusal has the number that it has in mending
 numbered : (why : MendRefusal) → listedNumber (lines.Refused why) ≡ mendedNumber (Refused why)
@@ -77,7 +65,6 @@ changes-spec =
     mended-image-requires
     (λ c. search needs)
     put-changes-requires
-    (λ c. search needs)
     (λ c. search needs)
     returns
     returns-2)

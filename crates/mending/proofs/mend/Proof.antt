@@ -22,7 +22,7 @@ put-mended-arg→start c = put-mended-arg→answer c .before .before .before
 put-mended-requires : tie.Need-put-mended-requires
 put-mended-requires c κs =
     let a = put-mended-arg→start c .args in
-    let g = granted 60 (now (a .image)) (length (now (a .room))) (sym (put-mended-arg→answer c .answer .ensures) ∙ c .before .enum-told .given .1) in
+    let g = granted (now (a .image)) (length (now (a .room))) (sym (put-mended-arg→answer c .answer .ensures) ∙ c .before .enum-told .given .1) in
     (g .sized, g .fits)
 
 returns : tie.Need-returns

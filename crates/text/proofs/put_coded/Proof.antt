@@ -1,7 +1,6 @@
 -- `text::put_coded` meets its contract, by joining its pieces.
 use native.Mathlib.Omega.{arith}
-use denote.Ref.{now}
-use Rattle.digits.proofs.Laws.{none, then, wider}
+use Rattle.digits.proofs.Laws.{then, wider}
 use borrow.Author.Needs.{needs}
 use Rattle.text.proofs.put_coded.Statement.{statement}
 use Rattle.text.proofs.put_coded.Tie as tie
@@ -22,12 +21,6 @@ returns-2 c =
     let at-enum-told2 = at-put-header2 .before .before in
     rw (at-enum-told2 .enum-told2 .given .1) (wider (then (at-put-header2 .put-header2 .ensures) (at-put-over .put-over .ensures)) (omega arith))
 
-returns-3 : tie.Need-returns-3
-returns-3 c =
-    let at-shared-slice-known2 = c .before .before .before in
-    let at-start = at-shared-slice-known2 .before .before in
-    rw (c .enum-told3 .given .1) (wider (none (now (at-start .args .out)) 0) (omega arith))
-
 pub put-coded-spec : {M : Type 1} → statement M
 put-coded-spec =
     tie.close
@@ -39,8 +32,6 @@ put-coded-spec =
     (λ c κs. search needs)
     (λ c κs. search needs)
     (λ c. search needs)
-    (λ c. search needs)
     returns
     (λ c. search needs)
-    returns-2
-    returns-3)
+    returns-2)

@@ -7,18 +7,10 @@ use Rattle.text.proofs.put_unrun.Tie as tie
 abbrev over : tie.After-put-refused → tie.After-outcome-number
 over c = c .before .before .before
 
-abbrev short : tie.After-put-refused2 → tie.After-outcome-number2
-short c = c .before .before .before
-
 returns-2 : tie.Need-returns-2
 returns-2 c =
     let said = c .before .before in
     rw (over said .before .enum-told2 .given .1) (rw (over said .outcome-number .ensures) at (said .put-refused .ensures))
-
-returns-3 : tie.Need-returns-3
-returns-3 c =
-    let said = c .before .before in
-    rw (short said .before .enum-told3 .given .1) (rw (short said .outcome-number2 .ensures) at (said .put-refused2 .ensures))
 
 pub put-unrun-spec : {M : Type 1} → statement M
 put-unrun-spec =
@@ -30,11 +22,5 @@ put-unrun-spec =
     (λ c. search needs)
     (λ c κs. search needs)
     (λ c. search needs)
-    (λ c κs. search needs)
     (λ c. search needs)
-    (λ c κs. search needs)
-    (λ c. search needs)
-    (λ c. search needs)
-    returns-2
-    (λ c. search needs)
-    returns-3)
+    returns-2)

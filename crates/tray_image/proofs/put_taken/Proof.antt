@@ -4,7 +4,7 @@ use Prim.Native.Nat.{ℕ}
 use lib.ListN.{replicate, length-replicate}
 use denote.Ref.{now}
 use Rattle.streams.specs.Streams.{Speech}
-use Rattle.runs.specs.declared.Outcome.the-variants.{Over, Short}
+use Rattle.runs.specs.declared.Outcome.the-variants.{Over}
 use Rattle.tray_record.specs.declared.Tray.{Tray}
 use Rattle.tray_record.specs.Tray.{emptyTray, trayDid}
 use Rattle.tray_run.specs.TrayRun.{trayResultOf}
@@ -15,11 +15,8 @@ use Rattle.tray_image.proofs.put_taken.Statement.{statement}
 use Rattle.tray_image.proofs.put_taken.Tie as tie
 
 -- where the run is over, and where the session was lent for it
-abbrev over : tie.After-tray → tie.After-answers2
-over c = c .before .before
-
 abbrev ran : tie.After-tray → tie.After-run
-ran c = over c .before .before
+ran c = c .before .before .before
 
 abbrev known : tie.After-tray → tie.After-slice-known
 known c = ran c .before .before .before
@@ -36,7 +33,7 @@ ending : (c : tie.After-tray) → AtEnd trayDid emptyTray (now (lent c .args .by
 ending c =
     let run = ran c .run in
     at-end trayDid emptyTray _ (trayResultOf (run .result)) (replicate 65536 0) (replicate 8192 0) (run .last .1 .0) (run .last .1 .1 .0)
-    (sym (length-replicate {A = ℕ} 8192 0)) (sym (length-replicate {A = ℕ} 65536 0)) (run .ensures)
+    (sym (length-replicate {A = ℕ} 65536 0)) (run .ensures)
 
 returns : tie.Need-returns
 unfolding trayImageSpeech trayAtEnd
@@ -54,21 +51,10 @@ returns-2 c =
     let end = told .before .before in
     idle-said trayDid emptyTray (saidOf end) _ (ending end) Over (told .enum-told2 .given .1) (said .put-unrun .ensures)
 
-returns-3 : tie.Need-returns-3
-unfolding trayImageSpeech trayAtEnd
-returns-3 c =
-    let said = c .before .before in
-    let told = said .before .before in
-    let end = told .before .before in
-    idle-said trayDid emptyTray (saidOf end) _ (ending end) Short (told .enum-told3 .given .1) (said .put-unrun2 .ensures)
-
 pub put-taken-spec : {M : Type 1} → statement M
 put-taken-spec =
     tie.close
     (tie.spec
-    (λ c. search needs)
-    (λ c. search needs)
-    (λ c κs. search needs)
     (λ c. search needs)
     (λ c κs. search needs)
     (λ c. search needs)
@@ -78,6 +64,4 @@ put-taken-spec =
     (λ c. search needs)
     returns
     (λ c. search needs)
-    returns-2
-    (λ c. search needs)
-    returns-3)
+    returns-2)
