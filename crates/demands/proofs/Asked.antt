@@ -32,7 +32,7 @@ use Rattle.tray_record.specs.declared.Tray.{Tray}
 use Rattle.tray_record.specs.declared.Found.{Found}
 use Rattle.tray_record.specs.declared.Found.the-variants.{At, Nowhere}
 use Rattle.tray_record.specs.Tray.{noGauge, searchOf, trayKindOf, aheadOf, slotIn, acceptedFor, trayAskedBy, againOf}
-use Rattle.tray_record.specs.Tray.{slotTick, trayTold, reachFound, matchedOf, aimedBy, trayReach}
+use Rattle.tray_record.specs.Tray.{slotTick, trayTold, reachFound, matchedOf, reachBy, trayReach}
 use Rattle.demands.proofs.Choice.{contrary}
 use Rattle.demands.proofs.Packs.{There, FoundAt, search-found}
 
@@ -157,7 +157,7 @@ reach-there τ t master = by (t .rom)
     found (At i) e = omega (arith, matched-found (τ .commons) (τ .count) master i e .1 .low)
     found Nowhere e = tt
 
-    by : (r : Rom) → There (reachFound (aimedBy r (matchedOf (τ .commons) (τ .count) master))) (τ .count)
+    by : (r : Rom) → There (reachBy r (matchedOf (τ .commons) (τ .count) master)) (τ .count)
     by rom.Skip = tt
     by rom.Match = found (matchedOf (τ .commons) (τ .count) master) refl
     by rom.Net33 = tt

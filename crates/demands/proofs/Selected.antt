@@ -16,9 +16,11 @@ use Rattle.replies.specs.Reply.{selectedBy, selectedOf}
 use Rattle.tray_record.specs.declared.Tray.{Tray}
 use Rattle.tray_record.specs.declared.Found.{Found}
 use Rattle.tray_record.specs.declared.Found.the-variants.{At, Nowhere}
-use Rattle.tray_record.specs.Tray.{noGauge, packOf, searchOf, reachFound, matchedOf, aimedBy, trayReach}
+use Rattle.tray_record.specs.declared.Reach.the-variants.{Nobody}
+use Rattle.tray_record.specs.Tray.{noGauge, packOf, searchOf, reachFound, matchedOf, reachBy, trayReach}
 use Rattle.demands.specs.Class.{someSelected}
 use Rattle.demands.specs.History.{hearsOf}
+use Rattle.demands.proofs.Choice.{contrary}
 use Rattle.demands.proofs.Packs.{search-none}
 use Rattle.demands.proofs.Asked.{matched-found}
 use Rattle.demands.proofs.Shut.{Owns}
@@ -88,7 +90,23 @@ module _ (addresses : List (List ℕ)) (τ : Tray) (h : Owns addresses τ) (t : 
         let yes : chosen i ≡ true = match-chosen false (m .0) i ∙ m .1 .has in
         let low : i < τ .count = omega (arith, m .1 .low) in
         ap chosen (eqb-true j i hear) ∙ yes ∙ sym (one-chosen i low yes)
-    matched-chosen Nowhere e j hear = none-matched e j (ltb-true j (τ .count) hear) ∙ sym (none-chosen (none-matched e))
+    matched-chosen Nowhere e j hear = contrary cc
+
+  -- where it reaches nobody, no pack is selected
+  pub nobody-chosen : trayReach τ t master ≡ Nobody → (j : ℕ) → j < τ .count → chosen j ≡ false
+  nobody-chosen = by (t .rom) refl
+    where
+      unfound : t .rom ≡ rom.Match → (found : Found) → matchedOf (τ .commons) (τ .count) master ≡ found → reachFound found ≡ Nobody
+          → (j : ℕ) → j < τ .count → chosen j ≡ false
+      unfound r (At i) e n j low = contrary cc
+      unfound r Nowhere e n j low = none-matched r e j low
+
+      by : (r : Rom) → t .rom ≡ r → reachBy r (matchedOf (τ .commons) (τ .count) master) ≡ Nobody → (j : ℕ) → j < τ .count → chosen j ≡ false
+      by rom.Skip e n j low = contrary cc
+      by rom.Match e n j low = unfound e (matchedOf (τ .commons) (τ .count) master) refl n j low
+      by rom.Net33 e n j low = contrary cc
+      by rom.Net39 e n j low = contrary cc
+      by rom.Quiet e n j low = none-of t master e (λ a. refl) (packOf τ j .common .address)
 
   pub hears-chosen : (j : ℕ) → hearsOf (trayReach τ t master) (τ .count) j ≡ true → chosen j ≡ someSelected addresses t master
   hears-chosen j = by (t .rom) refl
@@ -96,7 +114,7 @@ module _ (addresses : List (List ℕ)) (τ : Tray) (h : Owns addresses τ) (t : 
       quiet : (r : Rom) → ((a : List ℕ) → selectedOf a t master ≡ false) → chosen j ≡ someSelected addresses t master
       quiet r never = never (packOf τ j .common .address) ∙ sym (none-chosen (λ i low. never (packOf τ i .common .address)))
 
-      by : (r : Rom) → t .rom ≡ r → hearsOf (reachFound (aimedBy r (matchedOf (τ .commons) (τ .count) master))) (τ .count) j ≡ true
+      by : (r : Rom) → t .rom ≡ r → hearsOf (reachBy r (matchedOf (τ .commons) (τ .count) master)) (τ .count) j ≡ true
           → chosen j ≡ someSelected addresses t master
       by rom.Skip e hear =
           let yes = skip t master e in

@@ -1,6 +1,6 @@
 -- THE HISTORY OF A PACK: what it goes through in a run, read off the records; of the gauge of a session, and of each slot of a tray.
 use mathlib.Core.Path.{_≡_}
-use mathlib.Core.Bool.{Bool, true}
+use mathlib.Core.Bool.{Bool, true, false}
 use mathlib.Core.List.{List, [], _∷_, _++_}
 use Prim.Native.Nat.{ℕ, _-_}
 use lib.Dec.{ltb, eqb}
@@ -24,7 +24,9 @@ use Rattle.runs.specs.declared.Session.{Session}
 use Rattle.runs.specs.AnyRecord.{Steps}
 use Rattle.runs.specs.SessionRecord.{ofSession}
 use Rattle.tray_record.specs.declared.Tray.{Tray}
-use Rattle.tray_record.specs.Tray.{packOf, slotIn, Reach, one, every, trayReach, ofTray}
+use Rattle.tray_record.specs.declared.Reach.{Reach}
+use Rattle.tray_record.specs.declared.Reach.the-variants.{One, Every, Nobody}
+use Rattle.tray_record.specs.Tray.{packOf, slotIn, trayReach, ofTray}
 use Rattle.demands.specs.Call.{Call, Within, Stopped}
 
 -- ---- what a pack goes through
@@ -71,8 +73,9 @@ ofGauge = record { steps = ofSession; gauge = λ σ. σ .gauge; there = λ σ. �
 
 -- of so many packs on the line those that hear a transaction
 abbrev pub hearsOf : Reach → ℕ → ℕ → Bool
-hearsOf (one i) count j = eqb j i
-hearsOf every count j = ltb j count
+hearsOf (One i) count j = eqb j i
+hearsOf Every count j = ltb j count
+hearsOf Nobody count j = false
 
 -- the next image is that of the first slot without a pack; a slot's event names its slot
 abbrev pub slotHears : ℕ → Tray → List ℕ → Event → Bool

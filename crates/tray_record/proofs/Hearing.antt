@@ -20,8 +20,10 @@ use Rattle.record.specs.declared.Event.the-variants.{Image, Change, Transact}
 use Rattle.record.specs.Record.{masterOf, asksOf}
 use Rattle.runs.proofs.AnyRecord.{Replying, reply-length}
 use Rattle.tray_record.specs.declared.Tray.{Tray}
+use Rattle.tray_record.specs.declared.Reach.{Reach}
+use Rattle.tray_record.specs.declared.Reach.the-variants.{One, Every, Nobody}
 use Rattle.tray_record.specs.Wire.{andBytes}
-use Rattle.tray_record.specs.Tray.{packOf, storedOf, actedFirst, wiredFirst, Reach, one, every, trayReach, trayReply, trayEvent, ofTray, TrayWF}
+use Rattle.tray_record.specs.Tray.{packOf, storedOf, actedFirst, wiredFirst, trayReach, trayReply, trayEvent, ofTray, TrayWF}
 use Rattle.tray_record.proofs.Anded.{and-front, and-length}
 use Rattle.tray_record.proofs.Laws.{pack-is, stored-wf, stored-other}
 
@@ -96,8 +98,9 @@ module _ (t : Transaction) (master : List ℕ) where
 
 -- each event is answered 0, and its reply has the bytes that it asks
 pub tray-reply-length : (t : Transaction) (master : List ℕ) (τ : Tray) (reach : Reach) → length (trayReply t master reach τ) ≡ t .count
-tray-reply-length t master τ (one i) = reply-length (packOf τ i) t master
-tray-reply-length t master τ every = wired-length t master τ (τ .count)
+tray-reply-length t master τ (One i) = reply-length (packOf τ i) t master
+tray-reply-length t master τ Every = wired-length t master τ (τ .count)
+tray-reply-length t master τ Nobody = listed-length _ 0 (t .count)
 
 pub tray-replying : Replying ofTray
 tray-replying = record { answer = answers; reply = replies }

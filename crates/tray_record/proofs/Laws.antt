@@ -30,7 +30,9 @@ use Rattle.record.specs.Record.{takenBy, timedOf, fittedOf}
 use Rattle.tray_record.specs.declared.Tray.{Tray}
 use Rattle.tray_record.specs.declared.Found.{Found}
 use Rattle.tray_record.specs.declared.Found.the-variants.{At, Nowhere}
-use Rattle.tray_record.specs.Tray.{searchFrom, searchOf, matchedOf, aimedBy, noGauge, emptyTray, packOf, storedOf}
+use Rattle.tray_record.specs.declared.Reach.{Reach}
+use Rattle.tray_record.specs.declared.Reach.the-variants.{One, Every, Nobody}
+use Rattle.tray_record.specs.Tray.{searchFrom, searchOf, matchedOf, reachFound, reachBy, noGauge, emptyTray, packOf, storedOf}
 use Rattle.tray_record.specs.Tray.{actedAt, TrayWF, trayKindOf, aheadOf, acceptedFor, trayAskedAt}
 
 -- ---- before the first record every place has the same
@@ -151,16 +153,30 @@ search-below commons past address i (suc n) =
     (λ miss. let e : i + 1 + n ≡ i + suc n = omega arith in
     subst (λ (m : ℕ). Below m (searchFrom commons past address (i + 1) n)) e (search-below commons past address (i + 1) n))
 
-pub aimed-below : (rom : Rom) (commons : List Common) (count : ℕ) (master : List ℕ) {i : ℕ} →
-    aimedBy rom (matchedOf commons count master) ≡ At i → i < count
+pub matched-below : (commons : List Common) (count : ℕ) (master : List ℕ) → Below count (matchedOf commons count master)
 unfolding matchedOf searchOf
-aimed-below said commons count master e = subst (Below count) e (by said)
+matched-below commons count master =
+    picked (Below count) (ltb (length master) 9) Nowhere _ (λ short. tt)
+    (λ long. let e : 0 + count ≡ count = omega arith in rw e at (search-below commons (noGauge .common) (take 8 (drop 1 master)) 0 count))
+
+-- whom a transaction reaches alone is one of the packs
+
+abbrev Inside : ℕ → Reach → Type 0
+Inside n (One i) = i < n
+Inside n Every = Unit
+Inside n Nobody = Unit
+
+pub reach-below : (rom : Rom) (commons : List Common) (count : ℕ) (master : List ℕ) {i : ℕ} →
+    reachBy rom (matchedOf commons count master) ≡ One i → i < count
+reach-below said commons count master e = subst (Inside count) e (by said)
   where
-    by : (r : Rom) → Below count (aimedBy r (matchedOf commons count master))
+    found : (f : Found) → Below count f → Inside count (reachFound f)
+    found (At i) low = low
+    found Nowhere low = tt
+
+    by : (r : Rom) → Inside count (reachBy r (matchedOf commons count master))
     by rom.Skip = tt
-    by rom.Match =
-        picked (Below count) (ltb (length master) 9) Nowhere _ (λ short. tt)
-        (λ long. let e : 0 + count ≡ count = omega arith in rw e at (search-below commons (noGauge .common) (take 8 (drop 1 master)) 0 count))
+    by rom.Match = found (matchedOf commons count master) (matched-below commons count master)
     by rom.Net33 = tt
     by rom.Net39 = tt
     by rom.Quiet = tt

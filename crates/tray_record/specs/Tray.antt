@@ -36,6 +36,8 @@ use Rattle.runs.specs.AnyRecord.{Steps, recordBy}
 use Rattle.tray_record.specs.declared.Tray.{Tray}
 use Rattle.tray_record.specs.declared.Found.{Found}
 use Rattle.tray_record.specs.declared.Found.the-variants.{At, Nowhere}
+use Rattle.tray_record.specs.declared.Reach.{Reach}
+use Rattle.tray_record.specs.declared.Reach.the-variants.{One, Every, Nobody}
 use Rattle.tray_record.specs.Wire.{andBytes}
 
 -- ---- the state: how many packs there are, whether the opening is closed, and each pack by its parts
@@ -161,29 +163,25 @@ trayTold tray n p = trayAskedAt (tray .count) (tray .closed) (againOf tray p) (s
 
 -- ---- what a transaction does
 
--- whom it reaches: "For Match, the search over the tray stops at the slot whose address matches"; all else goes to every pack, by whom a Match of an
--- address that no pack has is heard too, and not answered
-pub data Reach : Type 0 where
-  one : ℕ → Reach
-  every : Reach
-
-abbrev pub reachFound : Found → Reach
-reachFound (At i) = one i
-reachFound Nowhere = every
-
 -- the address is the 8 bytes after the first
 unfoldable pub matchedOf : List Common → ℕ → List ℕ → Found
 matchedOf commons count master = pick (ltb (length master) 9) Nowhere (searchOf commons count (take 8 (drop 1 master)))
 
-abbrev pub aimedBy : Rom → Found → Found
-aimedBy rom.Skip found = Nowhere
-aimedBy rom.Match found = found
-aimedBy rom.Net33 found = Nowhere
-aimedBy rom.Net39 found = Nowhere
-aimedBy rom.Quiet found = Nowhere
+-- whom a Match reaches: "For Match, the search over the tray stops at the slot whose address matches"; where no pack has the address, nobody
+abbrev pub reachFound : Found → Reach
+reachFound (At i) = One i
+reachFound Nowhere = Nobody
+
+-- CCh, 33h and 39h go to every pack, any other first byte and none to nobody
+abbrev pub reachBy : Rom → Found → Reach
+reachBy rom.Skip found = Every
+reachBy rom.Match found = reachFound found
+reachBy rom.Net33 found = Every
+reachBy rom.Net39 found = Every
+reachBy rom.Quiet found = Nobody
 
 abbrev pub trayReach : Tray → Transaction → List ℕ → Reach
-trayReach tray transaction master = reachFound (aimedBy (transaction .rom) (matchedOf (tray .commons) (tray .count) master))
+trayReach tray transaction master = reachBy (transaction .rom) (matchedOf (tray .commons) (tray .count) master)
 
 module _ (t : Transaction) (master : List ℕ) where
   -- a pack carries it out by itself
@@ -200,13 +198,16 @@ module _ (t : Transaction) (master : List ℕ) where
   wiredFirst tray zero = listed (λ i. 0xff) 0 (t .count)
   wiredFirst tray (suc n) = andBytes (wiredFirst tray n) (replyOf (packOf tray n) t master)
 
+  -- where it reaches nobody nothing happens, and every reply byte is FFh
   abbrev pub trayActed : Reach → Tray → Tray
-  trayActed (one i) tray = actedAt tray i tray
-  trayActed every tray = actedFirst tray (tray .count)
+  trayActed (One i) tray = actedAt tray i tray
+  trayActed Every tray = actedFirst tray (tray .count)
+  trayActed Nobody tray = tray
 
   abbrev pub trayReply : Reach → Tray → List ℕ
-  trayReply (one i) tray = replyOf (packOf tray i) t master
-  trayReply every tray = wiredFirst tray (tray .count)
+  trayReply (One i) tray = replyOf (packOf tray i) t master
+  trayReply Every tray = wiredFirst tray (tray .count)
+  trayReply Nobody tray = listed (λ i. 0xff) 0 (t .count)
 
 -- ---- what an event does
 

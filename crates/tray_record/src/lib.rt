@@ -22,8 +22,8 @@ ghost use Rattle.gauge.specs.Act.{actOf, replyOf};
 ghost use Rattle.record.specs.Record.{fittedOf};
 ghost use Rattle.runs.specs.AnyRecord.{frontBy};
 ghost use Rattle.tray_record.specs.Wire.{andBytes};
-ghost use Rattle.tray_record.specs.Tray.{emptyTray, TrayWF, searchOf, trayKindOf, aheadOf, acceptedFor, trayAskedAt, isFound, matchedOf, aimedBy};
-ghost use Rattle.tray_record.specs.Tray.{trayReach, packOf, actedAt, actedFirst, wiredFirst, trayActed, trayReply, namedSlot, imageAt};
+ghost use Rattle.tray_record.specs.Tray.{emptyTray, TrayWF, searchOf, trayKindOf, aheadOf, acceptedFor, trayAskedAt, isFound, matchedOf, reachFound};
+ghost use Rattle.tray_record.specs.Tray.{reachBy, trayReach, packOf, actedAt, actedFirst, wiredFirst, trayActed, trayReply, namedSlot, imageAt};
 
 // The packs on one line, each by its parts; how many there are; and whether the opening is closed.
 pub struct Tray {
@@ -38,6 +38,13 @@ pub struct Tray {
 pub enum Found {
     At(u8),
     Nowhere,
+}
+
+// Whom a transaction reaches: the pack in a slot alone, every pack, or nobody.
+pub enum Reach {
+    One(u8),
+    Every,
+    Nobody,
 }
 
 // Before the first record.
@@ -182,23 +189,23 @@ fn search(commons: [Common; 8], count: u8, address: &[u8]) -> Found
     ensures { λ r. ⌜ r ≡ searchOf commons count (now (address .entry)) ⌝ }
 {
     let n = slices::wide(count);
+    let mut found = Found::Nowhere;
     let mut i = 0;
     'slots: while i < n {
-        let slot = i;
-        i += 1;
-        let common = commons[slot];
+        let common = commons[i];
         let own = common.address;
         sized(own);
         let mut j = 0;
-        while j < 8 {
-            if own[j] != address[j] {
-                continue 'slots;
-            }
+        while own[j] == address[j] {
             j += 1;
+            if j == 8 {
+                found = Found::At(i as u8);
+                break 'slots;
+            }
         }
-        return Found::At(slot as u8);
+        i += 1;
     }
-    Found::Nowhere
+    found
 }
 
 // Whether an accepted pack has the address in the eight bytes.
@@ -290,17 +297,28 @@ fn every(mut tray: Tray, transaction: Transaction, master: &[u8], room: &mut [u8
 
 // ---- a transaction
 
-// Whom a transaction is for: the slot that a Match finds, or every pack.
-fn aimed(rom: Rom, commons: [Common; 8], count: u8, master: &[u8]) -> Found
+// Whom a Match reaches.
+fn match_reach(commons: [Common; 8], count: u8, master: &[u8]) -> Reach
     requires { ⌜ count ≤ 8 ⌝ }
-    ensures { λ r. ⌜ r ≡ aimedBy rom (matchedOf commons count (now (master .entry))) ⌝ }
+    ensures { λ r. ⌜ r ≡ reachFound (matchedOf commons count (now (master .entry))) ⌝ }
+{
+    match matched(commons, count, master) {
+        Found::At(i) => Reach::One(i),
+        Found::Nowhere => Reach::Nobody,
+    }
+}
+
+// Whom a transaction reaches.
+fn reached(rom: Rom, commons: [Common; 8], count: u8, master: &[u8]) -> Reach
+    requires { ⌜ count ≤ 8 ⌝ }
+    ensures { λ r. ⌜ r ≡ reachBy rom (matchedOf commons count (now (master .entry))) ⌝ }
 {
     match rom {
-        Rom::Match => matched(commons, count, master),
-        Rom::Net33 => Found::Nowhere,
-        Rom::Net39 => Found::Nowhere,
-        Rom::Skip => Found::Nowhere,
-        Rom::Quiet => Found::Nowhere,
+        Rom::Match => match_reach(commons, count, master),
+        Rom::Net33 => Reach::Every,
+        Rom::Net39 => Reach::Every,
+        Rom::Skip => Reach::Every,
+        Rom::Quiet => Reach::Nobody,
     }
 }
 
@@ -343,11 +361,16 @@ pub fn transacted(tray: Tray, transaction: Transaction, master: &[u8], room: &mu
         tray ++ drop (transaction .count) (now (room .entry)) ⌝ }
     ensures kept { λ r. ⌜ TrayWF r ⌝ }
 {
+    let n = transaction.count as usize;
     let rom = transaction.rom;
     let commons = tray.commons;
-    let found = aimed(rom, commons, tray.count, master);
-    match found {
-        Found::At(i) => one(tray, i, transaction, master, room),
-        Found::Nowhere => every(tray, transaction, master, room),
+    let reach = reached(rom, commons, tray.count, master);
+    match reach {
+        Reach::One(i) => one(tray, i, transaction, master, room),
+        Reach::Every => every(tray, transaction, master, room),
+        Reach::Nobody => {
+            replies::fill_ones(&mut room[..n]);
+            tray
+        }
     }
 }
