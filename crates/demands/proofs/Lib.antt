@@ -8,9 +8,12 @@ pub mod Reached
 pub mod Packs
 pub mod Asked
 pub mod Filled
+pub mod Distinct
 pub mod Alone
 pub mod Longer
 pub mod Slots
+pub mod EachPack
+pub mod Single
 pub mod Others
 pub mod Isolation
 pub mod Demand1
@@ -24,6 +27,7 @@ pub mod Demand3
 pub mod Shut
 pub mod Selected
 pub mod Sides
+pub mod Opening
 pub mod TrayDemand3
 pub mod Programming
 pub mod Functions

@@ -2,7 +2,7 @@
 -- and a gauge event that stand next to each other may change places.
 use mathlib.Core.Path.{_≡_, refl, sym, ap, _∙_}
 use mathlib.Core.Bool.{Bool, true, false}
-use mathlib.Core.List.{List, [], _∷_, _++_}
+use mathlib.Core.List.{List, [], _∷_, _++_, append-assoc}
 use Rattle.numbers.specs.Choice.{pick}
 use Rattle.demands.specs.Sections.{Class, labelling, gauging, fence, same, only, Section, Sections, last, more}
 use Rattle.demands.proofs.Choice.{contrary, pick-ap}
@@ -71,6 +71,23 @@ module _ {R : Type 0} (class : R → Class) where
   sections-only k (last s) = section-only k s
   sections-only k (more {xs} {ys} {us} {vs} {f} s e rest) =
       rw (only-append k xs (f ∷ us), only-append k ys (f ∷ vs), section-only k s, sections-only k rest) refl
+
+  -- Some events first, then others
+
+  section-append : {xs ys us vs : List R} → Section class xs ys → Section class us vs → Section class (xs ++ us) (ys ++ vs)
+  section-append {xs} {ys} {us} {vs} s t = record {
+    one = rw (only-append fence xs us, s .one, t .one) refl;
+    other = rw (only-append fence ys vs, s .other, t .other) refl;
+    labels = rw (only-append labelling xs us, only-append labelling ys vs, s .labels, t .labels) refl;
+    gauges = rw (only-append gauging xs us, only-append gauging ys vs, s .gauges, t .gauges) refl;
+  }
+
+  pub sections-append : {xs ys us vs : List R} → Sections class xs ys → Sections class us vs → Sections class (xs ++ us) (ys ++ vs)
+  sections-append (last s) (last t) = last (section-append s t)
+  sections-append {xs} {ys} (last s) (more {xs = ps} {ys = qs} {us = us} {vs = vs} {f = f} t e rest) =
+      rw (← append-assoc xs ps (f ∷ us), ← append-assoc ys qs (f ∷ vs)) (more (section-append s t) e rest)
+  sections-append {us = us} {vs = vs} (more {xs = ps} {ys = qs} {us = rs} {vs = ss} {f = f} s e rest) t =
+      rw (append-assoc ps (f ∷ rs) us, append-assoc qs (f ∷ ss) vs) (more s e (sections-append rest t))
 
 -- A run: the state after each event, and what each event got
 

@@ -115,6 +115,18 @@ module _ {S : Type 0} (did : S → ℕ → Rec → Did S) where
       let d = did σ room r in
       ap (λ (l : List (Rec × Line)). (r, lineOf r d) ∷ l) (got-take n (d .state) (room - length (d .reply)) rs)
 
+  pub got-drop : (n : ℕ) (σ : S) (room : ℕ) (rs : List Rec)
+      → drop n (got σ room rs) ≡ got (endAfter did σ room (take n rs)) (leftOf σ room (take n rs)) (drop n rs)
+  unfolding zip zipWith
+  got-drop zero σ room rs =
+      let e : room ≡ room - 0 = omega arith in
+      ap (λ (k : ℕ). got σ k rs) e
+  got-drop (suc n) σ room [] = refl
+  got-drop (suc n) σ room (r ∷ rs) =
+      let d = did σ room r in
+      got-drop n (d .state) (room - length (d .reply)) rs
+      ∙ ap (λ (k : ℕ). got (endAfter did σ room (r ∷ take n rs)) k (drop n rs)) (left-cons σ room r (take n rs))
+
   -- the record after the first n
   pub record Next (n : ℕ) (σ : S) (room : ℕ) (rs : List Rec) (r : Rec) (l : Line) : Type 0 where
     pub records : take (suc n) rs ≡ take n rs ++ (r ∷ [])

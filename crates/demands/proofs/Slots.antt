@@ -71,6 +71,20 @@ module _ (τ : Tray) (h : Eight τ) (i : ℕ) (low : i < τ .count) (p : List �
         pack = refl;
       }) room (old m) (taken-old (trayKindOf n) (e .1) (old m) (rw (e .0) at (tray-asks τ n (i ∷ p)))))
 
+-- What a transaction asks is what it asks of a session whose gauge is the pack in any slot
+
+module _ (τ : Tray) (i : ℕ) (low : i < τ .count) (f : Form) (p : List ℕ) where
+  abbrev pub plainAsks : Taken
+  plainAsks = timedOf (lastTick (loadedWith (packOf τ i))) (takenOf (formKind f) true p)
+
+  pub asks-plain : trayTold τ (formKind f) p ≡ plainAsks
+  unfolding takenOf
+  asks-plain =
+      rw (transaction-kind f, session-kind f, le-leb 0 (length p) zero-le)
+      (sym (transaction-timely (slotTick τ p) (againOf τ p) (ltb 0 (τ .count)) p f)
+      ∙ rw (lt-ltb 0 (τ .count) (omega arith)) refl
+      ∙ transaction-timely (lastTick (loadedWith (packOf τ i))) false true p f)
+
 -- A transaction that is matched to a slot
 
 module _ (τ : Tray) (h : Eight τ) (i : ℕ) (f : Form) (p : List ℕ) (reach : reachIn τ f p ≡ One i) where
@@ -78,15 +92,10 @@ module _ (τ : Tray) (h : Eight τ) (i : ℕ) (f : Form) (p : List ℕ) (reach :
   there = subst (λ (r : Reach). There r (τ .count)) reach (reach-there τ (transactionIn f p) (masterOf (transactionIn f p) p))
 
   abbrev matchedOld : Taken
-  matchedOld = timedOf (lastTick (loadedWith (packOf τ i))) (takenOf (formKind f) true p)
+  matchedOld = plainAsks τ i there f p
 
   asks-matched : trayTold τ (formKind f) p ≡ matchedOld
-  unfolding takenOf
-  asks-matched =
-      rw (transaction-kind f, session-kind f, le-leb 0 (length p) zero-le)
-      (sym (transaction-timely (slotTick τ p) (againOf τ p) (ltb 0 (τ .count)) p f)
-      ∙ rw (lt-ltb 0 (τ .count) (omega (arith, there))) refl
-      ∙ transaction-timely (lastTick (loadedWith (packOf τ i))) false true p f)
+  asks-matched = asks-plain τ i there f p
 
   abbrev Matched : Taken → Type 0
   Matched t = AsOld i (answeredBy ofTray τ p t) (takenDid (loadedWith (packOf τ i)) p t)

@@ -1,94 +1,38 @@
 -- Demand 3, proved of trays: the images first, then a run that no image joins.
 use mathlib.Core.Path.{_≡_, refl, sym, ap, subst, _∙_}
 use mathlib.Core.Bool.{Bool, true, false}
-use mathlib.Core.List.{List, [], _∷_, _++_, map, append-assoc, append-nil, zip, zipWith}
-use Prim.Native.Nat.{ℕ, _+_, _-_, _<_, zero-le}
+use mathlib.Core.List.{List, [], _∷_, _++_, append-assoc, append-nil}
+use Prim.Native.Nat.{ℕ, _+_, _-_, _<_}
 use native.Mathlib.Nat.{sub-zero}
 use native.Mathlib.Omega.{arith}
-use borrow.Author.Tests.{le-ltb, eqb-true, eqb-false}
+use borrow.Author.Tests.{eqb-true, eqb-false}
 use lib.Dec.{eqb}
-use lib.ListN.{length, getD, length-append, List·getD-append}
+use lib.ListN.{length, getD, take, drop, length-append, take-append-drop, List·getD-append}
 use lib.Seq.{getD-append-seam}
-use Rattle.state.specs.declared.Profile.{Profile}
-use Rattle.state.specs.State.{imageSizeOf}
-use Rattle.demands.specs.Images.{imageKind}
-use Rattle.demands.proofs.Images.{tray-image}
 use Rattle.numbers.specs.Choice.{pick}
+use Rattle.state.specs.declared.Profile.{Profile}
 use Rattle.gauge.specs.declared.Gauge.{Gauge}
 use Rattle.gauge.specs.Image.{imageOf}
 use Rattle.record.specs.declared.Event.the-variants.{Image}
 use Rattle.record.specs.declared.Taken.the-variants.{Run}
 use Rattle.record.specs.Image.{imageAddress}
-use Rattle.runs.specs.Record.{Rec, whole}
-use Rattle.runs.specs.Run.{Did, silently, Line, linesAfter, endAfter}
+use Rattle.runs.specs.Record.{Rec, recsOf}
+use Rattle.runs.specs.Run.{Line, endAfter}
 use Rattle.tray_record.specs.declared.Tray.{Tray}
-use Rattle.tray_record.specs.Tray.{emptyTray, packOf, packJoined, againOf, slotTick, trayKindOf, trayTold, trayDid}
+use Rattle.tray_record.specs.Tray.{emptyTray, packOf, packJoined, trayKindOf, trayTold, trayDid}
+use Rattle.demands.specs.Images.{imageKind}
 use Rattle.demands.specs.Call.{Call, gotOf}
-use Rattle.demands.specs.Sections.{fence}
-use Rattle.demands.specs.Class.{trayAsked, someSelected, trayClass}
-use Rattle.demands.specs.Demand3.{Starts, Opens, imageRecords, addressesOf, openedAsked, TrayDemand3}
-use Rattle.demands.proofs.Choice.{contrary}
-use Rattle.demands.proofs.Moments.{running}
-use Rattle.demands.proofs.Mix.{endFrom, gotFrom, apart}
-use Rattle.demands.proofs.Demand3.{Fences, kept-apart}
+use Rattle.demands.specs.Sections.{Class, Sections}
+use Rattle.demands.specs.Demand3.{acceptedIn, imageRecords, addressesOf, openedClass, TrayOpening, TraysMixed, TrayDemand3}
+use Rattle.demands.proofs.Moments.{leftOf, end-append, got, got-take, got-drop, running, tells}
+use Rattle.demands.proofs.Mix.{endFrom, gotFrom, Apart, apart, sections-append}
 use Rattle.demands.proofs.Asked.{tray-asks}
 use Rattle.demands.proofs.Filled.{event-pack, event-eight, empty-filled}
-use Rattle.demands.proofs.Shut.{trayStep, trayOut, Owns, step-owns, image-asked, image-size, FreeTray, free-tray}
+use Rattle.demands.proofs.Shut.{trayStep, trayOut, Owns, step-owns, FreeTray, free-tray}
+use Rattle.demands.proofs.Opening.{joinAll, Opens, openStep, openOut, Opened, opened, opening-sections}
 use Rattle.demands.proofs.Sides.{tray-swaps}
 
--- The opening
-
-abbrev joinAll : Tray → List (Profile × List ℕ) → Tray
-joinAll τ [] = τ
-joinAll τ (x ∷ ps) = joinAll (packJoined τ (imageOf (x .0) (x .1))) ps
-
-abbrev imageGot : Profile × List ℕ → Rec × Line
-imageGot x = (whole (imageKind (x .0)) (x .1), record { kind = imageKind (x .0); answer = 0; reply = [] })
-
-did-join : (f : Profile) (τ : Tray) (room : ℕ) (p : List ℕ) → trayTold τ (imageKind f) p ≡ Run (Image f)
-    → trayDid τ room (whole (imageKind f) p) ≡ silently (packJoined τ (imageOf f p)) 0
-unfolding trayDid
-did-join f τ room p e = rw (e, le-ltb room 0 zero-le) refl
-
-opening-end : (τ : Tray) (room : ℕ) (ps : List (Profile × List ℕ)) (rs : List Rec) → Opens τ ps
-    → endAfter trayDid τ room (imageRecords ps ++ rs) ≡ endAfter trayDid (joinAll τ ps) room rs
-opening-end τ room [] rs o = refl
-opening-end τ room (x ∷ ps) rs o =
-    let zero : room - 0 ≡ room = omega arith in
-    ap (λ (d : Did Tray). endAfter trayDid (d .state) (room - length (d .reply)) (imageRecords ps ++ rs)) (did-join (x .0) τ room (x .1) (o .0))
-    ∙ ap (λ (n : ℕ). endAfter trayDid (packJoined τ (imageOf (x .0) (x .1))) n (imageRecords ps ++ rs)) zero
-    ∙ opening-end (packJoined τ (imageOf (x .0) (x .1))) room ps rs (o .1)
-
-opening-got : (τ : Tray) (room : ℕ) (ps : List (Profile × List ℕ)) (rs : List Rec) → Opens τ ps
-    → zip (imageRecords ps ++ rs) (linesAfter trayDid τ room (imageRecords ps ++ rs))
-    ≡ map imageGot ps ++ zip rs (linesAfter trayDid (joinAll τ ps) room rs)
-unfolding zip zipWith
-opening-got τ room [] rs o = refl
-opening-got τ room (x ∷ ps) rs o =
-    rw (did-join (x .0) τ room (x .1) (o .0), sub-zero)
-    (ap (λ (l : List (Rec × Line)). imageGot x ∷ l) (opening-got (packJoined τ (imageOf (x .0) (x .1))) room ps rs (o .1)))
-
--- each image is a fence, as the class judges it: one that comes after the opening
-image-sized : (f : Profile) (τ : Tray) (p : List ℕ) → trayTold τ (imageKind f) p ≡ Run (Image f) → eqb (length p) (imageSizeOf f) ≡ true
-image-sized f τ p e = go (eqb (length p) (imageSizeOf f)) refl
-  where
-    go : (t : Bool) → eqb (length p) (imageSizeOf f) ≡ t → eqb (length p) (imageSizeOf f) ≡ true
-    go true s = s
-    go false s =
-        let z = sym (rw (tray-image f) at e) ∙ image-size f (τ .count) (τ .closed) (againOf τ p) (slotTick τ p) p s in
-        contrary cc
-
-image-fence : (f : Profile) (addresses : List (List ℕ)) (τ : Tray) (p : List ℕ) → trayTold τ (imageKind f) p ≡ Run (Image f)
-    → trayClass addresses (whole (imageKind f) p) ≡ fence
-image-fence f addresses τ p e = rw (tray-image f, image-asked f (length addresses) p, image-sized f τ p e) refl
-
-opening-fences : (addresses : List (List ℕ)) (τ : Tray) (ps : List (Profile × List ℕ)) → Opens τ ps
-    → Fences trayDid emptyTray (trayAsked (length addresses)) (someSelected addresses) (map imageGot ps)
-opening-fences addresses τ [] o = tt
-opening-fences addresses τ (x ∷ ps) o =
-    (image-fence (x .0) addresses τ (x .1) (o .0), opening-fences addresses (packJoined τ (imageOf (x .0) (x .1))) ps (o .1))
-
--- the tray after it has the addresses of the images
+-- The tray after the opening has the addresses of the images
 
 joined-owns : (f : Profile) (addresses : List (List ℕ)) (τ : Tray) (p : List ℕ) → Owns addresses τ → trayTold τ (imageKind f) p ≡ Run (Image f)
     → Owns (addresses ++ (imageAddress p ∷ [])) (packJoined τ (imageOf f p))
@@ -122,34 +66,86 @@ opened-owns addresses τ (x ∷ ps) h o =
 
 -- One session
 
-module _ (ps : List (Profile × List ℕ)) (o : Opens emptyTray ps) where
+module _ (ps : List (Profile × List ℕ)) where
   abbrev start : Tray
   start = joinAll emptyTray ps
 
-  owns : Owns (addressesOf ps) start
-  owns = opened-owns [] emptyTray ps (record { eight = empty-filled .eight; count = refl; owned = λ j low. absurd (omega arith) }) o
+  owns : Opens emptyTray ps → Owns (addressesOf ps) start
+  owns = opened-owns [] emptyTray ps (record { eight = empty-filled .eight; count = refl; owned = λ j low. absurd (omega arith) })
 
-  module _ {rs : List Rec} {c : Call Tray} (s : Starts trayDid emptyTray (openedAsked ps) (someSelected (addressesOf ps)) (imageRecords ps) rs c)
-      (full : c .ran .state .count ≡ length (addressesOf ps)) where
-    state : c .ran .state ≡ endAfter trayDid start (length (c .room)) rs
-    state = running trayDid emptyTray (s .within) .state ∙ rw (s .first) (opening-end emptyTray (length (c .room)) ps rs o)
+  module _ (n : ℕ) (c : Call Tray) (s : TrayOpening ps n c) where
+    abbrev size : ℕ
+    size = length (c .room)
 
-    freed : FreeTray start (length (c .room)) rs
-    freed = free-tray (addressesOf ps) start (length (c .room)) rs owns (s .room) (sym (ap (λ (τ : Tray). τ .count) state) ∙ full)
+    abbrev front : List Rec
+    front = take n (recsOf (c .bytes))
 
-    ends : c .ran .state ≡ endFrom trayStep trayOut start rs
+    abbrev later : List Rec
+    later = drop n (recsOf (c .bytes))
+
+    images : acceptedIn (got trayDid emptyTray size front) ≡ imageRecords ps
+    images = ap acceptedIn (got-take trayDid n emptyTray size (recsOf (c .bytes))) ∙ s .images
+
+    opening : Opened emptyTray size front start × Opens emptyTray ps
+    opening = opened front ps emptyTray size images
+
+    -- the opening takes no room
+    left : leftOf trayDid emptyTray size front ≡ size
+    left = ap (λ (l : List ℕ). size - length l) (opening .0 .silent) ∙ sub-zero size
+
+    state : c .ran .state ≡ endAfter trayDid start size later
+    state =
+        running trayDid emptyTray (s .within) .state
+        ∙ ap (endAfter trayDid emptyTray size) (sym (take-append-drop n (recsOf (c .bytes))))
+        ∙ end-append trayDid emptyTray size front later
+        ∙ rw (opening .0 .end, left) refl
+
+    freed : FreeTray start size later
+    freed =
+        free-tray (addressesOf ps) start size later (owns (opening .1)) (s .room) (sym (ap (λ (τ : Tray). τ .count) state) ∙ s .packs)
+
+    ends : c .ran .state ≡ endFrom trayStep trayOut start later
     ends = state ∙ freed .end
 
-    gets : gotOf trayDid emptyTray c ≡ map imageGot ps ++ gotFrom trayStep trayOut start rs
-    gets = rw (s .first) (opening-got emptyTray (length (c .room)) ps rs o ∙ ap (λ (l : List (Rec × Line)). map imageGot ps ++ l) (freed .got))
+    -- what each record of the opening got, and each later one
+    gets-first : take n (gotOf trayDid emptyTray c) ≡ gotFrom openStep openOut emptyTray front
+    gets-first = sym (got-take trayDid n emptyTray size (recsOf (c .bytes))) ∙ opening .0 .got
+
+    gets-later : drop n (gotOf trayDid emptyTray c) ≡ gotFrom trayStep trayOut start later
+    gets-later = got-drop trayDid n emptyTray size (recsOf (c .bytes)) ∙ rw (opening .0 .end, left) (freed .got)
 
 -- Both
 
+module _ (ps : List (Profile × List ℕ)) (n m : ℕ) (a b : Call Tray) (x : TraysMixed ps n m a b) where
+  abbrev classed : Rec × Line → Class
+  classed e = openedClass ps (e .0)
+
+  abbrev all : Call Tray → List (Rec × Line)
+  all c = gotOf trayDid emptyTray c
+
+  mixed : Apart trayStep trayOut (openedClass ps) (Owns (addressesOf ps)) (λ τ r u. step-owns (addressesOf ps) τ u r) (tray-swaps (addressesOf ps)) (start ps)
+      (later ps n a (x .one)) (later ps m b (x .other))
+  mixed =
+      apart trayStep trayOut (openedClass ps) (Owns (addressesOf ps)) (λ τ r u. step-owns (addressesOf ps) τ u r) (tray-swaps (addressesOf ps)) (x .sections)
+      (start ps) (owns ps (opening ps n a (x .one) .1))
+
+  both-later : Sections classed (drop n (all a)) (drop m (all b))
+  both-later = rw (gets-later ps n a (x .one), gets-later ps m b (x .other)) (mixed .sections)
+
+  both-first : Sections (openedClass ps) (front ps n a (x .one)) (front ps m b (x .other)) → Sections classed (take n (all a)) (take m (all b))
+  both-first s = rw (gets-first ps n a (x .one), gets-first ps m b (x .other)) (opening-sections (addressesOf ps) emptyTray s)
+
+  both-all : Sections (openedClass ps) (front ps n a (x .one)) (front ps m b (x .other)) → Sections classed (all a) (all b)
+  both-all s =
+      subst (λ (l : List (Rec × Line)). Sections classed l (all b)) (take-append-drop n (all a))
+      (subst (λ (l : List (Rec × Line)). Sections classed (take n (all a) ++ drop n (all a)) l) (take-append-drop m (all b))
+      (sections-append classed (both-first s) both-later))
+
 pub tray-demand-3 : TrayDemand3
-tray-demand-3 ps xs ys a b m =
-    let own = addressesOf ps in
-    let h = apart trayStep trayOut (trayClass own) (Owns own) (λ τ r u. step-owns own τ u r) (tray-swaps own) (m .mixed .sections) (start ps (m .opens))
-    (owns ps (m .opens)) in
-    kept-apart trayDid emptyTray (openedAsked ps) (someSelected own) (map imageGot ps) (opening-fences own emptyTray ps (m .opens)) (m .mixed)
-    (gets ps (m .opens) (m .mixed .one) (m .one)) (gets ps (m .opens) (m .mixed .other) (m .other)) (h .sections)
-    (ends ps (m .opens) (m .mixed .one) (m .one) ∙ h .end ∙ sym (ends ps (m .opens) (m .mixed .other) (m .other)))
+tray-demand-3 ps n m a b x = record {
+  later = both-later ps n m a b x;
+  events = both-all ps n m a b x;
+  one = tells trayDid emptyTray (x .one .within);
+  other = tells trayDid emptyTray (x .other .within);
+  state = ends ps n a (x .one) ∙ mixed ps n m a b x .end ∙ sym (ends ps m b (x .other));
+}

@@ -1,7 +1,7 @@
 -- The theorems on trays speak of something: trays of two packs.
-use mathlib.Core.Path.{_≡_, refl, sym, ap}
-use mathlib.Core.List.{List, [], _∷_, _++_, zip, zipWith}
-use Prim.Native.Nat.{ℕ, _≤_}
+use mathlib.Core.Path.{_≡_, refl, sym, ap, subst}
+use mathlib.Core.List.{List, [], _∷_, _++_, map, zip, zipWith}
+use Prim.Native.Nat.{ℕ, zero, suc, _≤_, _<_}
 use native.Mathlib.Omega.{arith}
 use lib.ListN.{length, getD, replicate}
 use Rattle.state.specs.declared.Profile.{Profile}
@@ -20,17 +20,21 @@ use Rattle.gauge.specs.declared.Gauge.{Gauge}
 use Rattle.gauge.specs.Act.{ranOf, actOf, replyOf}
 use Rattle.gauge.specs.Image.{imageOf, sizeFor}
 use Rattle.record.specs.declared.Form.the-variants.{Short}
-use Rattle.record.specs.Record.{addressedOf, orderedOf, judgedAmong}
-use Rattle.runs.specs.Record.{Rec, whole, wholeOf, recOf, sizeOf}
-use Rattle.runs.specs.Run.{Line}
+use Rattle.record.specs.Record.{kindOf, addressedOf, orderedOf, judgedAmong, takenOf}
+use Rattle.runs.specs.Record.{Rec, whole, cut, wholeOf, recOf, sizeOf, kindIn}
+use Rattle.runs.specs.Run.{Line, repliesOf}
+use Rattle.runs.specs.declared.Session.{Session}
+use Rattle.runs.specs.SessionRecord.{didOf}
+use Rattle.session_run.specs.SessionRun.{emptyOf}
 use Rattle.tray_record.specs.declared.Tray.{Tray}
 use Rattle.tray_record.specs.Tray.{emptyTray, packOf, searchOf, trayKindOf, matchedOf, trayDid}
 use Rattle.tray_run.specs.TrayRun.{trayLines, slotOutNumber, slotOutRoom}
-use Rattle.demands.specs.Call.{Call, Within, firstOf, Stopped}
+use Rattle.demands.specs.Call.{Call, Within, linesIn, firstOf, Stopped}
 use Rattle.demands.specs.Sections.{last, more}
 use Rattle.demands.specs.Class.{blockOf, touchedOf, labelsOf, touchedClass}
 use Rattle.demands.specs.Demand2.{SlotCarried, SlotPowersOn}
 use Rattle.demands.specs.Demand3.{imageRecords, TrayDemand3Met}
+use Rattle.demands.specs.Single.{inTray, SingleMet}
 use Rattle.demands.specs.Isolation.{none, held, here, images, IsolationMet}
 use Rattle.demands.proofs.Called.{packed, called, called-within}
 
@@ -94,33 +98,33 @@ others = converting 1 ∷ writing ∷ power-on ∷ measuring ∷ reading ∷ []
 abbrev opened : List Rec → List Rec
 opened rs = imageRecords packs ++ rs
 
+-- in the other opening the first image comes again, and is refused with 12
+abbrev reopened : List Rec → List Rec
+reopened rs = whole 1 zeroth ∷ whole 1 zeroth ∷ whole 8 first ∷ rs
+
 -- THE HYPOTHESIS OF DEMAND 3 FOR TRAYS CAN BE MET
 pub tray-demand-3-met : TrayDemand3Met
-unfolding recOf sizeOf wholeOf trayDid trayKindOf searchOf matchedOf judgedAmong addressedOf orderedOf crc.bitOf crc.eightOf crc.nextOf imageOf
+unfolding zip zipWith recOf sizeOf wholeOf trayDid trayKindOf searchOf matchedOf judgedAmong addressedOf orderedOf crc.bitOf crc.eightOf crc.nextOf imageOf
     askedOf askedAt romBy commandOf touchedClass labelsOf touchedOf selectedOf ownOf inLabel blockOf timelyOf
     actOf ranOf writtenOf powerOnOf conversionOf replyOf
 tray-demand-3-met = record {
   images = packs;
-  ones = ones;
-  others = others;
-  one = call (opened ones);
+  opening = 3;
+  other-opening = 2;
+  one = call (reopened ones);
   other = call (opened others);
   mixed = record {
-    opens = (refl, (refl, tt));
-    one = refl;
-    other = refl;
-    mixed = record {
-      one = record { within = call-within (opened ones) (omega arith); first = refl; room = omega arith };
-      other = record { within = call-within (opened others) (omega arith); first = refl; room = omega arith };
-      sections =
-          more {xs = writing ∷ converting 1 ∷ []} {ys = converting 1 ∷ writing ∷ []}
-          (record { one = refl; other = refl; labels = refl; gauges = refl })
-          refl
-          (last (record { one = refl; other = refl; labels = refl; gauges = refl }));
-    };
+    one = record { within = call-within (reopened ones) (omega arith); images = refl; packs = refl; room = omega arith };
+    other = record { within = call-within (opened others) (omega arith); images = refl; packs = refl; room = omega arith };
+    sections =
+        more {xs = writing ∷ converting 1 ∷ []} {ys = converting 1 ∷ writing ∷ []}
+        (record { one = refl; other = refl; labels = refl; gauges = refl })
+        refl
+        (last (record { one = refl; other = refl; labels = refl; gauges = refl }));
   };
-  several = omega arith;
-  differ = λ e. let z : _≡_ {A = ℕ} 6 5 = ap (λ (l : List ℕ). getD l 129 0) e in omega arith;
+  refused = refl;
+  none-refused = refl;
+  differ = λ e. let z : _≡_ {A = ℕ} 4 19 = ap (λ (l : List Rec). kindIn (getD l 0 cut)) e in omega arith;
 }
 
 -- Two sessions that differ in slot 0
@@ -232,3 +236,44 @@ unfolding trayLines recOf sizeOf wholeOf trayDid trayKindOf searchOf matchedOf j
     askedOf askedAt romBy commandOf selectedOf ownOf actOf ranOf writtenOf labelWrittenOf laidOf meterWrittenOf blockWrittenOf
     replyOf sourceByte readByte inLabel inBlock labelByte meterByte registersOf
 tray-answers = refl
+
+-- A session of one pack, and the same for a tray
+
+abbrev plain : List Rec
+plain = whole 5 [] ∷ whole 1 zeroth ∷ whole 18 [] ∷ whole 3 (0x18 ∷ 0xfc ∷ 0xff ∷ 0xff ∷ []) ∷ whole 1 zeroth ∷ whole 4 (2 ∷ 0xcc ∷ 0x69 ∷ 0x0e ∷ []) ∷ []
+
+abbrev plain-call : Call Session
+plain-call = called didOf emptyOf (packed plain) (replicate 4 0) (replicate 64 0)
+
+plain-replies : repliesOf (linesIn didOf emptyOf plain-call) ≡ 0xfc ∷ 0x18 ∷ []
+unfolding recOf sizeOf wholeOf didOf takenOf kindOf judgedAmong addressedOf orderedOf crc.bitOf crc.eightOf crc.nextOf
+    imageOf poweredOf conversionOf convertOf flowedOf
+    askedOf askedAt romBy commandOf selectedOf actOf ranOf replyOf sourceByte readByte inLabel meterByte registersOf
+plain-replies = refl
+
+two-bytes : (k : ℕ) → getD (0xfc ∷ 0x18 ∷ []) k 0 < 256
+two-bytes zero = omega arith
+two-bytes (suc zero) = omega arith
+two-bytes (suc (suc k)) = omega arith
+
+plain-bytes : (k : ℕ) → getD (repliesOf (linesIn didOf emptyOf plain-call)) k 0 < 256
+plain-bytes = subst (λ (l : List ℕ). (k : ℕ) → getD l k 0 < 256) (sym plain-replies) two-bytes
+
+-- THE HYPOTHESES ON A TRAY OF ONE PACK CAN BE MET
+pub single-met : SingleMet
+unfolding recOf sizeOf wholeOf didOf takenOf kindOf judgedAmong addressedOf orderedOf crc.bitOf crc.eightOf crc.nextOf
+    askedOf askedAt romBy commandOf replyOf
+single-met = record {
+  session = plain-call;
+  tray = call (map inTray plain);
+  translated = record {
+    plain = called-within didOf emptyOf (packed plain) (replicate 4 0) (replicate 64 0) (omega arith) (omega arith);
+    tray = call-within (map inTray plain) (omega arith);
+    records = refl;
+    room = refl;
+    bytes = plain-bytes;
+  };
+  once = refl;
+  answers = refl;
+  replies = plain-replies;
+}

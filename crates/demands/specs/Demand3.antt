@@ -8,7 +8,9 @@ use mathlib.Core.Path.{_≡_}
 use mathlib.Core.Bool.{false}
 use mathlib.Core.List.{List, [], _∷_, _++_, map}
 use Prim.Native.Nat.{ℕ, _+_, _≤_}
-use lib.ListN.{length}
+use lib.Dec.{eqb}
+use lib.ListN.{length, take, drop}
+use Rattle.numbers.specs.Choice.{pick}
 use Rattle.state.specs.declared.Profile.{Profile}
 use Rattle.demands.specs.Images.{imageKind}
 use Rattle.record.specs.declared.Event.the-variants.{Image}
@@ -17,17 +19,16 @@ use Rattle.record.specs.declared.Taken.the-variants.{Run, Refused}
 use Rattle.record.specs.Image.{imageAddress}
 use Rattle.record.specs.Record.{takenOf, asksOf}
 use Rattle.runs.specs.Record.{Rec, whole, cut, recsOf}
-use Rattle.runs.specs.Run.{Did}
+use Rattle.runs.specs.Run.{Did, Line}
 use Rattle.replies.specs.Reply.{selectedOf}
-use Rattle.gauge.specs.Image.{imageOf}
 use Rattle.runs.specs.declared.Session.{Session}
 use Rattle.runs.specs.SessionRecord.{didOf}
 use Rattle.session_run.specs.SessionRun.{emptyOf}
 use Rattle.tray_record.specs.declared.Tray.{Tray}
-use Rattle.tray_record.specs.Tray.{emptyTray, packJoined, trayTold, trayDid}
+use Rattle.tray_record.specs.Tray.{emptyTray, trayDid}
 use Rattle.demands.specs.Call.{Call, Within, gotOf, Told}
-use Rattle.demands.specs.Sections.{Sections}
-use Rattle.demands.specs.Class.{Selects, classBy, sessionAsked, trayAsked, someSelected}
+use Rattle.demands.specs.Sections.{Class, Sections}
+use Rattle.demands.specs.Class.{Selects, classBy, sessionAsked, trayAsked, trayClass}
 
 -- what a record asks, after the images were accepted: of a transaction that is not refused, the read count
 abbrev pub takenAsks : Taken → ℕ
@@ -87,12 +88,13 @@ pub record Demand3Met (profile : Profile) : Type 0 where
   pub mixed : SessionsMixed profile image ones others one other
   pub differ : one .bytes ≡ other .bytes → ⊥
 
--- ---- of trays: the same images accepted first, one to eight, and no other
+-- ---- of trays: "the same accepted image first" are one to eight images here, each of either profile, and records that are refused may stand anywhere
+-- among them
 
--- each image is accepted in its turn; profiles may be mixed
-abbrev pub Opens : Tray → List (Profile × List ℕ) → Type 0
-Opens tray [] = Unit
-Opens tray (x ∷ xs) = (trayTold tray (imageKind (x .0)) (x .1) ≡ Run (Image (x .0))) × Opens (packJoined tray (imageOf (x .0) (x .1))) xs
+-- of records with their lines, those that were accepted
+abbrev pub acceptedIn : List (Rec × Line) → List Rec
+acceptedIn [] = []
+acceptedIn (e ∷ es) = pick (eqb (e .1 .answer) 0) (e .0 ∷ acceptedIn es) (acceptedIn es)
 
 abbrev pub imageRecords : List (Profile × List ℕ) → List Rec
 imageRecords ps = map (λ x. whole (imageKind (x .0)) (x .1)) ps
@@ -104,25 +106,46 @@ addressesOf ps = map (λ x. imageAddress (x .1)) ps
 abbrev pub openedAsked : List (Profile × List ℕ) → ℕ → List ℕ → Taken
 openedAsked ps = trayAsked (length (addressesOf ps))
 
--- two tray sessions that end with as many packs as they opened with
-pub record TraysMixed (ps : List (Profile × List ℕ)) (xs ys : List Rec) (a b : Call Tray) : Type 0 where
-  pub opens : Opens emptyTray ps
-  pub one : a .ran .state .count ≡ length (addressesOf ps)
-  pub other : b .ran .state .count ≡ length (addressesOf ps)
-  pub mixed : Mixed trayDid emptyTray (openedAsked ps) (someSelected (addressesOf ps)) (imageRecords ps) xs ys a b
+abbrev pub openedClass : List (Profile × List ℕ) → Rec → Class
+openedClass ps = trayClass (addressesOf ps)
+
+-- a tray session whose first n records are its opening: of these the images are accepted, in this order, and all others are refused. It ends with as
+-- many packs, so that no image is accepted later
+pub record TrayOpening (ps : List (Profile × List ℕ)) (n : ℕ) (c : Call Tray) : Type 0 where
+  pub within : Within trayDid emptyTray c
+  pub images : acceptedIn (take n (gotOf trayDid emptyTray c)) ≡ imageRecords ps
+  pub packs : c .ran .state .count ≡ length (addressesOf ps)
+  -- "room for all they ask": the opening takes none
+  pub room : asksAll (openedAsked ps) (drop n (recsOf (c .bytes))) ≤ length (c .room)
+
+-- two such sessions, with n and m records in their openings, which may hold other refused records; then the same events, "mixed differently"
+pub record TraysMixed (ps : List (Profile × List ℕ)) (n m : ℕ) (a b : Call Tray) : Type 0 where
+  pub one : TrayOpening ps n a
+  pub other : TrayOpening ps m b
+  pub sections : Sections (openedClass ps) (drop n (recsOf (a .bytes))) (drop m (recsOf (b .bytes)))
+
+pub record TraysApart (ps : List (Profile × List ℕ)) (n m : ℕ) (a b : Call Tray) : Type 0 where
+  -- each event after the openings gets the same in both
+  pub later : Sections (λ e. openedClass ps (e .0)) (drop n (gotOf trayDid emptyTray a)) (drop m (gotOf trayDid emptyTray b))
+  -- and so does each event of the sessions, where their openings hold the same fences, label events and gauge events too
+  pub events : Sections (openedClass ps) (take n (recsOf (a .bytes))) (take m (recsOf (b .bytes)))
+      → Sections (λ e. openedClass ps (e .0)) (gotOf trayDid emptyTray a) (gotOf trayDid emptyTray b)
+  pub one : Told trayDid emptyTray a
+  pub other : Told trayDid emptyTray b
+  pub state : a .ran .state ≡ b .ran .state
 
 -- "Demand 3 holds for the tray's whole state": all packs, their number, and whether the opening is closed
 abbrev pub TrayDemand3 : Type 0
-TrayDemand3 = (ps : List (Profile × List ℕ)) (xs ys : List Rec) (a b : Call Tray) → TraysMixed ps xs ys a b
-    → KeptApart trayDid emptyTray (openedAsked ps) (someSelected (addressesOf ps)) a b
+TrayDemand3 = (ps : List (Profile × List ℕ)) (n m : ℕ) (a b : Call Tray) → TraysMixed ps n m a b → TraysApart ps n m a b
 
--- and it speaks of something
+-- and it speaks of something: two openings, in one of which a record is refused between two images
 pub record TrayDemand3Met : Type 0 where
   pub images : List (Profile × List ℕ)
-  pub ones : List Rec
-  pub others : List Rec
+  pub opening : ℕ
+  pub other-opening : ℕ
   pub one : Call Tray
   pub other : Call Tray
-  pub mixed : TraysMixed images ones others one other
-  pub several : 2 ≤ length images
-  pub differ : one .bytes ≡ other .bytes → ⊥
+  pub mixed : TraysMixed images opening other-opening one other
+  pub refused : map (λ e. e .1 .answer) (take opening (gotOf trayDid emptyTray one)) ≡ 0 ∷ 12 ∷ 0 ∷ []
+  pub none-refused : map (λ e. e .1 .answer) (take other-opening (gotOf trayDid emptyTray other)) ≡ 0 ∷ 0 ∷ []
+  pub differ : drop opening (recsOf (one .bytes)) ≡ drop other-opening (recsOf (other .bytes)) → ⊥

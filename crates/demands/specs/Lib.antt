@@ -8,6 +8,7 @@ pub mod Demand3
 pub mod Longer
 pub mod Alone
 pub mod Slots
+pub mod Single
 pub mod Isolation
 pub mod History
 pub mod Books

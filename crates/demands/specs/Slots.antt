@@ -1,8 +1,12 @@
--- A SLOT'S PACK DOES WHAT A GAUGE DOES: "Readings, conversions, kind 6 samples and power-ons come as kinds 18, 19, 22 and 21, with a slot byte
+-- A TRAY BESIDE PLAIN SESSIONS: each pack does what a gauge by itself does.
+--
+-- A slot's pack, with its own events: "Readings, conversions, kind 6 samples and power-ons come as kinds 18, 19, 22 and 21, with a slot byte
 -- ahead of the old payload. For Match, the search over the tray stops at the slot whose address matches."
 use mathlib.Core.Path.{_≡_}
 use mathlib.Core.List.{List, _∷_}
-use Prim.Native.Nat.{ℕ, _<_}
+use Prim.Native.Nat.{ℕ, zero, suc, _<_}
+use lib.Bits.{bitAnd}
+use lib.ListN.{length, getD}
 use Rattle.record.specs.declared.Form.{Form}
 use Rattle.runs.specs.Record.{whole}
 use Rattle.runs.specs.Run.{Did}
@@ -35,3 +39,26 @@ pub record SlotsAsOld : Type 0 where
       → AsOld i (trayDid (c .ran .state) room (whole n (i ∷ p))) (didOf (loadedWith (packOf (c .ran .state) i)) room (whole m p))
   pub matched : (c : Call Tray) → Within trayDid emptyTray c → (i room : ℕ) (f : Form) (p : List ℕ) → reachIn (c .ran .state) f p ≡ One i
       → AsOld i (trayDid (c .ran .state) room (whole (formKind f) p)) (didOf (loadedWith (packOf (c .ran .state) i)) room (whole (formKind f) p))
+
+-- ---- every pack, with any transaction, whomever it addresses: "Skip and net address reads go to every pack, and each reply byte is the bitwise AND of
+-- theirs." So it is where the search matches a pack, since each other pack is not selected then, does nothing and replies FFh
+
+-- the bitwise AND of n bytes; the line is high where nobody pulls it low
+abbrev pub andOver : ℕ → (ℕ → ℕ) → ℕ
+andOver zero byte = 0xff
+andOver (suc n) byte = bitAnd (andOver n byte) (byte n)
+
+-- what a tray of so many packs does, and what each pack does in a plain session
+pub record EachAsPlain (count : ℕ) (d : Did Tray) (plain : ℕ → Did Session) : Type 0 where
+  pub answer : (i : ℕ) → i < count → d .answer ≡ plain i .answer
+  pub pack : (i : ℕ) → i < count → packOf (d .state) i ≡ plain i .state .gauge
+  pub size : (i : ℕ) → i < count → length (d .reply) ≡ length (plain i .reply)
+  -- where theirs are bytes, as they are in a reply room
+  pub byte : (k : ℕ) → k < length (d .reply) → ((i : ℕ) → i < count → getD (plain i .reply) k 0 < 256)
+      → getD (d .reply) k 0 ≡ andOver count (λ i. getD (plain i .reply) k 0)
+
+-- in the state that any run leaves, with any room: a transaction of either form
+abbrev pub TransactionsAsPlain : Type 0
+TransactionsAsPlain = (c : Call Tray) → Within trayDid emptyTray c → (room : ℕ) (f : Form) (p : List ℕ)
+    → EachAsPlain (c .ran .state .count) (trayDid (c .ran .state) room (whole (formKind f) p))
+    (λ i. didOf (loadedWith (packOf (c .ran .state) i)) room (whole (formKind f) p))
