@@ -1,8 +1,10 @@
 -- Laws of tests and of choosing by a test.
-use mathlib.Core.Path.{_≡_, refl}
+use mathlib.Core.Path.{_≡_, refl, sym, subst}
 use mathlib.Core.Bool.{Bool, true, false}
 use Prim.Native.Nat.{ℕ}
 use native.Mathlib.Omega.{arith}
+use borrow.Author.Tests.{eqb-true}
+use lib.Dec.{eqb}
 use Rattle.numbers.specs.Choice.{pick, both}
 
 -- anything follows where two constructors are equal: `contrary cc`
@@ -25,3 +27,11 @@ pick-twice false x y = refl
 pub pick-ap : {A B : Type 0} (f : A → B) (t : Bool) (x y : A) → pick t (f x) (f y) ≡ f (pick t x y)
 pick-ap f true x y = refl
 pick-ap f false x y = refl
+
+-- by whether a number is m
+pub by-number : (P : ℕ → Type 0) (n m : ℕ) → P m → (eqb n m ≡ false → P n) → P n
+by-number P n m here other = go (eqb n m) refl
+  where
+    go : (t : Bool) → eqb n m ≡ t → P n
+    go true e = subst P (sym (eqb-true n m e)) here
+    go false e = other e

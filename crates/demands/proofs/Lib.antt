@@ -28,6 +28,7 @@ pub mod Shut
 pub mod Selected
 pub mod Sides
 pub mod Opening
+pub mod EveryOpening
 pub mod TrayDemand3
 pub mod Programming
 pub mod Functions

@@ -82,7 +82,7 @@ abbrev pub openOut : Tray → Rec → Line
 openOut τ r = lineOf r (openTray τ r)
 
 -- what a record does to a tray, and what it does there in an opening: it leaves this tray, and is answered so, with no reply
-abbrev Leaves : Tray → ℕ → Rec → Tray → ℕ → Type 0
+abbrev pub Leaves : Tray → ℕ → Rec → Tray → ℕ → Type 0
 Leaves τ room r σ n = (trayDid τ room r ≡ silently σ n) × (openTray τ r ≡ silently σ n)
 
 module _ (τ : Tray) (room : ℕ) where
@@ -111,7 +111,7 @@ module _ (τ : Tray) (room : ℕ) where
       × (answeredBy ofOpening τ p t ≡ silently τ (answeredBy ofOpening τ p t .answer))
 
   -- one that is refused leaves the tray and replies nothing, and its answer does not depend on the room
-  refused-open : (r : Rec) → (trayDid τ room r .answer ≡ 0 → ⊥) → Leaves τ room r τ (openTray τ r .answer)
+  pub refused-open : (r : Rec) → (trayDid τ room r .answer ≡ 0 → ⊥) → Leaves τ room r τ (openTray τ r .answer)
   unfolding trayDid
   refused-open (whole n p) = go (trayTold τ n p)
     where

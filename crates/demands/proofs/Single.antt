@@ -4,7 +4,7 @@ use mathlib.Core.Bool.{Bool, true, false, not}
 use mathlib.Core.List.{List, [], _∷_, _++_, map}
 use Prim.Native.Nat.{ℕ, zero, suc, _+_, _-_, _≤_, _<_, zero-le}
 use native.Mathlib.Omega.{arith}
-use borrow.Author.Tests.{le-leb, lt-leb, le-ltb, eqb-true, ne-eqb}
+use borrow.Author.Tests.{le-leb, lt-leb, le-ltb, ne-eqb}
 use lib.Dec.{ltb, leb, eqb}
 use lib.ListN.{length, getD}
 use Rattle.numbers.specs.Choice.{pick}
@@ -42,7 +42,7 @@ use Rattle.tray_record.specs.Tray.{emptyTray, packOf, searchOf, isFound, trayKi
 use Rattle.tray_record.specs.Tray.{trayAskedBy, againOf, slotTick, trayTold, trayReach, trayEvent, ofTray, trayDid}
 use Rattle.demands.specs.Call.{Call, linesIn}
 use Rattle.demands.specs.Single.{trayKind, hasSlot, inTray, lineInTray, noneAgain, oneImage, Translated, AnswersAlike, SingleAsPlain}
-use Rattle.demands.proofs.Choice.{contrary}
+use Rattle.demands.proofs.Choice.{contrary, by-number}
 use Rattle.demands.proofs.Moments.{running, tells}
 use Rattle.demands.proofs.Fitted.{fitted-has}
 use Rattle.demands.proofs.Packs.{Eight}
@@ -52,14 +52,6 @@ use Rattle.demands.proofs.Distinct.{Distinct, whom}
 use Rattle.demands.proofs.EachPack.{each-acts, single-reply}
 
 -- The kinds
-
--- by whether a number is m
-by-number : (P : ℕ → Type 0) (n m : ℕ) → P m → (eqb n m ≡ false → P n) → P n
-by-number P n m here other = go (eqb n m) refl
-  where
-    go : (t : Bool) → eqb n m ≡ t → P n
-    go true e = subst P (sym (eqb-true n m e)) here
-    go false e = other e
 
 -- a kind of a session is the same kind in a tray, with a slot byte where it has one there
 record SameKind (n : ℕ) : Type 0 where

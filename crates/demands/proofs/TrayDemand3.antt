@@ -84,7 +84,7 @@ module _ (ps : List (Profile × List ℕ)) where
     later = drop n (recsOf (c .bytes))
 
     images : acceptedIn (got trayDid emptyTray size front) ≡ imageRecords ps
-    images = ap acceptedIn (got-take trayDid n emptyTray size (recsOf (c .bytes))) ∙ s .images
+    images = ap acceptedIn (got-take trayDid n emptyTray size (recsOf (c .bytes))) ∙ s .opens .images
 
     opening : Opened emptyTray size front start × Opens emptyTray ps
     opening = opened front ps emptyTray size images
@@ -102,7 +102,7 @@ module _ (ps : List (Profile × List ℕ)) where
 
     freed : FreeTray start size later
     freed =
-        free-tray (addressesOf ps) start size later (owns (opening .1)) (s .room) (sym (ap (λ (τ : Tray). τ .count) state) ∙ s .packs)
+        free-tray (addressesOf ps) start size later (owns (opening .1)) (s .room) (sym (ap (λ (τ : Tray). τ .count) state) ∙ s .opens .packs)
 
     ends : c .ran .state ≡ endFrom trayStep trayOut start later
     ends = state ∙ freed .end

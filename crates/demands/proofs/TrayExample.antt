@@ -114,8 +114,8 @@ tray-demand-3-met = record {
   one = call (reopened ones);
   other = call (opened others);
   mixed = record {
-    one = record { within = call-within (reopened ones) (omega arith); images = refl; packs = refl; room = omega arith };
-    other = record { within = call-within (opened others) (omega arith); images = refl; packs = refl; room = omega arith };
+    one = record { within = call-within (reopened ones) (omega arith); opens = record { images = refl; packs = refl }; room = omega arith };
+    other = record { within = call-within (opened others) (omega arith); opens = record { images = refl; packs = refl }; room = omega arith };
     sections =
         more {xs = writing ∷ converting 1 ∷ []} {ys = converting 1 ∷ writing ∷ []}
         (record { one = refl; other = refl; labels = refl; gauges = refl })

@@ -109,12 +109,24 @@ openedAsked ps = trayAsked (length (addressesOf ps))
 abbrev pub openedClass : List (Profile × List ℕ) → Rec → Class
 openedClass ps = trayClass (addressesOf ps)
 
--- a tray session whose first n records are its opening: of these the images are accepted, in this order, and all others are refused. It ends with as
+-- the first n records of a tray session are its opening: of these the images are accepted, in this order, and all others are refused. It ends with as
 -- many packs, so that no image is accepted later
-pub record TrayOpening (ps : List (Profile × List ℕ)) (n : ℕ) (c : Call Tray) : Type 0 where
-  pub within : Within trayDid emptyTray c
+pub record OpensWith (ps : List (Profile × List ℕ)) (n : ℕ) (c : Call Tray) : Type 0 where
   pub images : acceptedIn (take n (gotOf trayDid emptyTray c)) ≡ imageRecords ps
   pub packs : c .ran .state .count ≡ length (addressesOf ps)
+
+-- every tray session has an opening
+pub record HasOpening (c : Call Tray) : Type 0 where
+  pub images : List (Profile × List ℕ)
+  pub size : ℕ
+  pub opens : OpensWith images size c
+
+abbrev pub EveryTrayOpens : Type 0
+EveryTrayOpens = (c : Call Tray) → Within trayDid emptyTray c → HasOpening c
+
+pub record TrayOpening (ps : List (Profile × List ℕ)) (n : ℕ) (c : Call Tray) : Type 0 where
+  pub within : Within trayDid emptyTray c
+  pub opens : OpensWith ps n c
   -- "room for all they ask": the opening takes none
   pub room : asksAll (openedAsked ps) (drop n (recsOf (c .bytes))) ≤ length (c .room)
 
