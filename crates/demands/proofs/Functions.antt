@@ -19,7 +19,7 @@ use Rattle.mending.proofs.mend
 use Rattle.demands.specs.Call.{Call, Allowed}
 use Rattle.demands.specs.Demand1.{sessionMost, trayMost, Demand1}
 use Rattle.demands.specs.Demand2.{Demand2, TrayDemand2}
-use Rattle.demands.specs.Demand3.{Demand3, TrayDemand3, EveryTrayOpens}
+use Rattle.demands.specs.Demand3.{Demand3, TrayDemand3, WholeTrayDemand3, EveryTrayOpens}
 use Rattle.demands.specs.Alone.{Alone}
 use Rattle.demands.specs.Slots.{SlotsAsOld, TransactionsAsPlain}
 use Rattle.demands.specs.Single.{SingleAsPlain}
@@ -32,6 +32,7 @@ use Rattle.demands.proofs.Demand1.{demand-1, tray-demand-1}
 use Rattle.demands.proofs.Demand2.{demand-2, tray-demand-2}
 use Rattle.demands.proofs.Demand3.{demand-3}
 use Rattle.demands.proofs.TrayDemand3.{tray-demand-3}
+use Rattle.demands.proofs.WholeTrays.{whole-tray-demand-3}
 use Rattle.demands.proofs.EveryOpening.{every-tray-opens}
 use Rattle.demands.proofs.Alone.{alone}
 use Rattle.demands.proofs.Slots.{slots-as-old}
@@ -84,12 +85,13 @@ pub demands : Demand1 sessionMost didOf emptyOf × Demand2 × Demand3
 demands = (demand-1, demand-2, demand-3)
 
 -- and of trays
-pub tray-demands : Demand1 trayMost trayDid emptyTray × TrayDemand2 × TrayDemand3 × EveryTrayOpens × SlotsAsOld × TransactionsAsPlain × SingleAsPlain
-    × Alone × Isolation
+pub tray-demands : Demand1 trayMost trayDid emptyTray × TrayDemand2 × TrayDemand3 × WholeTrayDemand3 × EveryTrayOpens
+    × SlotsAsOld × TransactionsAsPlain × SingleAsPlain × Alone × Isolation
 tray-demands = (
   tray-demand-1,
   tray-demand-2,
   tray-demand-3,
+  whole-tray-demand-3,
   every-tray-opens,
   slots-as-old,
   transactions-as-plain,

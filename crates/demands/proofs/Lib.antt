@@ -30,6 +30,7 @@ pub mod Sides
 pub mod Opening
 pub mod EveryOpening
 pub mod TrayDemand3
+pub mod WholeTrays
 pub mod Programming
 pub mod Functions
 pub mod Cases

@@ -6,7 +6,7 @@ use mathlib.Core.List.{List, [], _∷_, zip, zipWith}
 use Prim.Native.Nat.{ℕ, _-_, zero-le}
 use native.Mathlib.Nat.{sub-zero}
 use native.Mathlib.Omega.{arith}
-use borrow.Author.Tests.{le-ltb, eqb-true, eqb-false}
+use borrow.Author.Tests.{le-ltb, eqb-true, eqb-false, ne-eqb}
 use lib.Dec.{ltb, eqb}
 use lib.ListN.{length}
 use Rattle.numbers.specs.Choice.{pick}
@@ -20,7 +20,7 @@ use Rattle.record.specs.declared.Event.the-variants.{Image, Change, Transact}
 use Rattle.record.specs.declared.Taken.{Taken}
 use Rattle.record.specs.declared.Taken.the-variants.{Run, Refused}
 use Rattle.record.specs.Image.{imageAddress, imageBreaks}
-use Rattle.record.specs.Record.{addressedOf, lockableOf, orderedOf, judgedAmong, fittedOf}
+use Rattle.record.specs.Record.{refusalNumber, addressedOf, lockableOf, orderedOf, judgedAmong, fittedOf}
 use Rattle.record.proofs.Fits.{refusal-range}
 use Rattle.runs.specs.Record.{Rec, whole, cut}
 use Rattle.runs.specs.Run.{Did, silently, Line, lineOf, linesAfter, endAfter, repliesOf}
@@ -190,7 +190,7 @@ module _ (addresses : List (List ℕ)) (τ : Tray) where
           let z = sym (rw k at e) ∙ image-size g (τ .count) (τ .closed) (againOf τ p) (slotTick τ p) p s in
           contrary cc
 
-  open-stays : (r : Rec) → (trayClass addresses r ≡ fence → ⊥) → openStep τ r ≡ τ
+  pub open-stays : (r : Rec) → (trayClass addresses r ≡ fence → ⊥) → openStep τ r ≡ τ
   open-stays (whole n p) other = go (trayTold τ n p) refl
     where
       go : (t : Taken) → trayTold τ n p ≡ t → answeredBy ofOpening τ p t .state ≡ τ
@@ -199,6 +199,17 @@ module _ (addresses : List (List ℕ)) (τ : Tray) where
       go (Run (Transact t)) e = refl
       go (Refused r) e = refl
   open-stays cut other = refl
+
+  -- and it is not accepted
+  pub open-refused : (r : Rec) → (trayClass addresses r ≡ fence → ⊥) → eqb (openOut τ r .answer) 0 ≡ false
+  open-refused (whole n p) other = go (trayTold τ n p) refl
+    where
+      go : (t : Taken) → trayTold τ n p ≡ t → eqb (answeredBy ofOpening τ p t .answer) 0 ≡ false
+      go (Run (Image f)) e = absurd (other (joins-fence n p f e))
+      go (Run (Change c)) e = refl
+      go (Run (Transact t)) e = refl
+      go (Refused r) e = ne-eqb (refusalNumber r) 0 (λ z. absurd (omega (arith, refusal-range r .0)))
+  open-refused cut other = refl
 
   open-swaps : (a b : Rec) → trayClass addresses a ≡ labelling → trayClass addresses b ≡ gauging → Swaps openStep openOut τ a b
   open-swaps a b ea eb =

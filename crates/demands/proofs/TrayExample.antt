@@ -33,7 +33,7 @@ use Rattle.demands.specs.Call.{Call, Within, linesIn, firstOf, Stopped}
 use Rattle.demands.specs.Sections.{last, more}
 use Rattle.demands.specs.Class.{blockOf, touchedOf, labelsOf, touchedClass}
 use Rattle.demands.specs.Demand2.{SlotCarried, SlotPowersOn}
-use Rattle.demands.specs.Demand3.{imageRecords, TrayDemand3Met}
+use Rattle.demands.specs.Demand3.{imageRecords, TrayDemand3Met, WholeTrayDemand3Met}
 use Rattle.demands.specs.Single.{inTray, SingleMet}
 use Rattle.demands.specs.Isolation.{none, held, here, images, IsolationMet}
 use Rattle.demands.proofs.Called.{packed, called, called-within}
@@ -125,6 +125,46 @@ tray-demand-3-met = record {
   refused = refl;
   none-refused = refl;
   differ = λ e. let z : _≡_ {A = ℕ} 4 19 = ap (λ (l : List Rec). kindIn (getD l 0 cut)) e in omega arith;
+}
+
+-- and with records before the first image: a write, which is refused with 5, and an unknown kind
+abbrev stranger : Rec
+stranger = whole 0x63 []
+
+abbrev whole-ones : List Rec
+whole-ones = writing ∷ stranger ∷ reopened ones
+
+abbrev whole-others : List Rec
+whole-others = stranger ∷ writing ∷ reopened others
+
+-- THE HYPOTHESIS OF DEMAND 3 FOR WHOLE TRAY SESSIONS CAN BE MET
+pub whole-tray-demand-3-met : WholeTrayDemand3Met
+unfolding zip zipWith recOf sizeOf wholeOf trayDid trayKindOf searchOf matchedOf judgedAmong addressedOf orderedOf crc.bitOf crc.eightOf crc.nextOf imageOf
+    askedOf askedAt romBy commandOf touchedClass labelsOf touchedOf selectedOf ownOf inLabel blockOf timelyOf
+    actOf ranOf writtenOf powerOnOf conversionOf replyOf
+whole-tray-demand-3-met = record {
+  images = packs;
+  opening = 5;
+  one = call whole-ones;
+  other = call whole-others;
+  mixed = record {
+    one = call-within whole-ones (omega arith);
+    other = call-within whole-others (omega arith);
+    opens = record { images = refl; packs = refl };
+    other-opens = record { images = refl; packs = refl };
+    room = omega arith;
+    other-room = omega arith;
+    sections =
+        more {xs = writing ∷ stranger ∷ []} {ys = stranger ∷ writing ∷ []} (record { one = refl; other = refl; labels = refl; gauges = refl }) refl
+        (more {xs = []} {ys = []} (record { one = refl; other = refl; labels = refl; gauges = refl }) refl
+        (more {xs = []} {ys = []} (record { one = refl; other = refl; labels = refl; gauges = refl }) refl
+        (more {xs = writing ∷ converting 1 ∷ []} {ys = converting 1 ∷ writing ∷ []}
+        (record { one = refl; other = refl; labels = refl; gauges = refl })
+        refl
+        (last (record { one = refl; other = refl; labels = refl; gauges = refl })))));
+  };
+  refused = refl;
+  other-refused = refl;
 }
 
 -- Two sessions that differ in slot 0

@@ -28,7 +28,7 @@ use Rattle.tray_record.specs.declared.Tray.{Tray}
 use Rattle.tray_record.specs.Tray.{emptyTray, trayDid}
 use Rattle.demands.specs.Call.{Call, Within, gotOf, Told}
 use Rattle.demands.specs.Sections.{Class, Sections}
-use Rattle.demands.specs.Class.{Selects, classBy, sessionAsked, trayAsked, trayClass}
+use Rattle.demands.specs.Class.{Selects, classBy, sessionAsked, trayAsked, someSelected, trayClass}
 
 -- what a record asks, after the images were accepted: of a transaction that is not refused, the read count
 abbrev pub takenAsks : Taken → ℕ
@@ -150,6 +150,21 @@ pub record TraysApart (ps : List (Profile × List ℕ)) (n m : ℕ) (a b : Call 
 abbrev pub TrayDemand3 : Type 0
 TrayDemand3 = (ps : List (Profile × List ℕ)) (n m : ℕ) (a b : Call Tray) → TraysMixed ps n m a b → TraysApart ps n m a b
 
+-- and so in the paper's own words, of whole sessions: the same images accepted, "room for all they ask", and "the same fences in the same order", with the
+-- same label events and the same gauge events between them, from the first record on
+pub record WholeMixed (ps : List (Profile × List ℕ)) (n m : ℕ) (a b : Call Tray) : Type 0 where
+  pub one : Within trayDid emptyTray a
+  pub other : Within trayDid emptyTray b
+  pub opens : OpensWith ps n a
+  pub other-opens : OpensWith ps m b
+  pub room : asksAll (openedAsked ps) (recsOf (a .bytes)) ≤ length (a .room)
+  pub other-room : asksAll (openedAsked ps) (recsOf (b .bytes)) ≤ length (b .room)
+  pub sections : Sections (openedClass ps) (recsOf (a .bytes)) (recsOf (b .bytes))
+
+abbrev pub WholeTrayDemand3 : Type 0
+WholeTrayDemand3 = (ps : List (Profile × List ℕ)) (n m : ℕ) (a b : Call Tray) → WholeMixed ps n m a b
+    → KeptApart trayDid emptyTray (openedAsked ps) (someSelected (addressesOf ps)) a b
+
 -- and it speaks of something: two openings, in one of which a record is refused between two images
 pub record TrayDemand3Met : Type 0 where
   pub images : List (Profile × List ℕ)
@@ -161,3 +176,13 @@ pub record TrayDemand3Met : Type 0 where
   pub refused : map (λ e. e .1 .answer) (take opening (gotOf trayDid emptyTray one)) ≡ 0 ∷ 12 ∷ 0 ∷ []
   pub none-refused : map (λ e. e .1 .answer) (take other-opening (gotOf trayDid emptyTray other)) ≡ 0 ∷ 0 ∷ []
   pub differ : drop opening (recsOf (one .bytes)) ≡ drop other-opening (recsOf (other .bytes)) → ⊥
+
+-- and two whole sessions, whose openings hold the same events, mixed differently: some are refused before the first image, one after it
+pub record WholeTrayDemand3Met : Type 0 where
+  pub images : List (Profile × List ℕ)
+  pub opening : ℕ
+  pub one : Call Tray
+  pub other : Call Tray
+  pub mixed : WholeMixed images opening opening one other
+  pub refused : map (λ e. e .1 .answer) (take opening (gotOf trayDid emptyTray one)) ≡ 5 ∷ 3 ∷ 0 ∷ 12 ∷ 0 ∷ []
+  pub other-refused : map (λ e. e .1 .answer) (take opening (gotOf trayDid emptyTray other)) ≡ 3 ∷ 5 ∷ 0 ∷ 12 ∷ 0 ∷ []
