@@ -58,7 +58,7 @@ oneImage (l ∷ ls) = pick (eqb (l .answer) 0) (noneAgain ls) (oneImage ls)
 
 -- ---- the theorem
 
--- a plain session and the same for a tray, with reply rooms of one size. The replies are bytes, as the room has them
+-- a plain session and the same for a tray, with reply rooms of one size. Its replies are bytes, as every room of bytes holds them
 pub record Translated (c : Call Session) (d : Call Tray) : Type 0 where
   pub plain : Within didOf emptyOf c
   pub tray : Within trayDid emptyTray d
@@ -66,7 +66,7 @@ pub record Translated (c : Call Session) (d : Call Tray) : Type 0 where
   pub room : length (d .room) ≡ length (c .room)
   pub bytes : (k : ℕ) → getD (repliesOf (linesIn didOf emptyOf c)) k 0 < 256
 
--- "each record gets the same answer and reply", and the pack ends as the gauge does, which slot 0 has if its image was accepted
+-- each record gets the same answer and reply, and the pack ends as the gauge does; it is there if the image was accepted
 pub record AnswersAlike (c : Call Session) (d : Call Tray) : Type 0 where
   pub lines : linesIn trayDid emptyTray d ≡ map lineInTray (linesIn didOf emptyOf c)
   pub count : d .ran .state .count ≡ pick (c .ran .state .loaded) 1 0
