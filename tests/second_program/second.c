@@ -1251,6 +1251,75 @@ static void hold_offset(void)
     hold_charge("the conversion after both", &g, -100, 199, 4001);
 }
 
+static Gauge with_wide(int32_t address, int32_t value)
+{
+    Gauge g = model_m();
+    g.acr = 100;
+    g.shadow[address] = (byte)(value / 256);
+    g.shadow[address + 1] = (byte)(value % 256);
+    return g;
+}
+
+/* A DS2775 with this Full40 and so much fallen in all, the last 8 of it by a conversion: the counter and the rest. */
+static void hold_fallen(int32_t full_40, int32_t fallen, int32_t cycles, int32_t rest)
+{
+    char name[60];
+    Gauge g = with_wide(FULL_40, full_40);
+    g.ds2775 = true;
+    g.cycle_rest = fallen - 8;
+    conversion(&g, -32768);
+    snprintf(name, sizeof name, "Full40 %d, %d fallen, the counter", (int)full_40, (int)fallen);
+    hold(name, cycles, g.cycles);
+    snprintf(name, sizeof name, "Full40 %d, %d fallen, the rest", (int)full_40, (int)fallen);
+    hold(name, rest, g.cycle_rest);
+}
+
+/* The same with AC and the age counter: AS, which was 128, and the counter. */
+static void hold_aged(int32_t ac, int32_t counter, int32_t as, int32_t left)
+{
+    char name[60];
+    Gauge g = with_wide(AC, ac);
+    g.age_counter = counter - 8;
+    conversion(&g, -32768);
+    snprintf(name, sizeof name, "AC %d at %d, AS", (int)ac, (int)counter);
+    hold(name, as, g.as);
+    snprintf(name, sizeof name, "AC %d at %d, the counter", (int)ac, (int)counter);
+    hold(name, left, g.age_counter);
+}
+
+/* AS that this ACR teaches with this Full40, FULL 16,384. */
+static void hold_learnt(int32_t full_40, int32_t acr, int32_t as)
+{
+    char name[60];
+    Gauge g = with_wide(FULL_40, full_40);
+    g.acr = acr;
+    g.learnf = true;
+    charge_to_full(&g, 320);
+    snprintf(name, sizeof name, "Full40 %d, ACR %d teaches AS", (int)full_40, (int)acr);
+    hold(name, as, g.as);
+}
+
+/* The figures beyond 16 bits, which are proved of the definitions too. */
+static void hold_large(void)
+{
+    hold_fallen(65535, 131069, 0, 131069);
+    hold_fallen(65535, 131070, 1, 0);
+    hold_fallen(65535, 131072, 1, 2);
+    hold_fallen(40000, 65543, 0, 65543);
+    hold_fallen(1, 131072, 255, 0);
+    hold_aged(65535, 65536, 128, 65536);
+    hold_aged(65535, 262144, 128, 262144);
+    hold_aged(65535, 1048576, 128, 1048576);
+    hold_aged(65535, 2097119, 128, 2097119);
+    hold_aged(65535, 2097120, 127, 0);
+    hold_aged(1025, 32799, 128, 32799);
+    hold_aged(1025, 32800, 127, 0);
+    hold_learnt(60000, 60000, 128);
+    hold_learnt(60000, 50000, 106);
+    hold_learnt(60000, 32768, 69);
+    hold_learnt(1, 512, 128);
+}
+
 /* At 40 degrees M gives RARC 51, 48, 47 for ACR 5120, 4821, 4820. */
 static void hold_saves(void)
 {
@@ -1282,6 +1351,7 @@ static int hold_figures(void)
     hold_full_and_learn();
     hold_conversions();
     hold_offset();
+    hold_large();
     hold_saves();
     hold_crc();
     return failures == 0 ? 0 : 1;

@@ -3,8 +3,8 @@
 -- sentence: what the definitions give and, after `is`, what the paper says.
 use mathlib.Core.Path.{_≡_, refl}
 use mathlib.Core.Bool.{Bool, true, false}
-use mathlib.Core.List.{List, [], _∷_, map}
-use Prim.Native.Nat.{ℕ, _+_, _-_, _*_}
+use mathlib.Core.List.{List, [], _∷_, _++_, map}
+use Prim.Native.Nat.{ℕ, _+_, _-_, _*_, _/_, _%_, _^_}
 use lib.ListN.{set}
 use Rattle.numbers.specs.Offset.{zeroAt}
 use Rattle.state.specs.declared.Profile.{Profile}
@@ -109,6 +109,11 @@ abbrev pub Hold : List Figure → Type 0
 Hold [] = Unit {0}
 Hold (f ∷ more) = (f .given ≡ f .said) × Hold more
 
+-- two tables, one behind the other
+hold-both : (first second : List Figure) → Hold first → Hold second → Hold (first ++ second)
+hold-both [] second one other = other
+hold-both (f ∷ more) second one other = (one .0, hold-both more second (one .1) other)
+
 abbrev temperatures : List ℕ
 temperatures = plus (8 * 40) ∷ plus (8 * 18) ∷ plus (8 * 0) ∷ minus (8 * 12) ∷ minus (8 * 20) ∷ []
 
@@ -171,8 +176,48 @@ at count rest = record { count = count; rest = rest }
 abbrev worn : Meter
 worn = readAt (plus (8 * 0)) (powered steep 9000 63)
 
-abbrev pub figures : List Figure
-figures =
+-- ---- large numbers: where a number of 16 bits, or of a few more, would wrap
+
+-- the same block, but for the two bytes from an address on, the high one first
+abbrev withPair : List ℕ → ℕ → ℕ → List ℕ
+withPair block address pair = withByte (withByte block address (pair / 256)) (address + 1) (pair % 256)
+
+-- M with this Full40, and with this AC
+abbrev sized : ℕ → List ℕ
+sized full40 = withPair M 0x6a full40
+
+abbrev agingBy : ℕ → List ℕ
+agingBy ac = withPair M 0x62 ac
+
+-- ACR 100, a DS2775 with this Full40 and so much fallen since the last step: the counter and the rest after a conversion in which ACR falls by 8
+abbrev fallenBy : ℕ → ℕ → List ℕ
+fallenBy full40 rest =
+    let m = convertOf (withCycles (poweredBy Ds2775 (sized full40) 100 128) (at 0 rest)) (minus (8 * 4096)) in
+    m .cycles .count ∷ m .cycles .rest ∷ []
+
+-- ACR 100, this AC and so much in the age counter: AS and the counter after such a conversion
+abbrev agedBy : ℕ → ℕ → List ℕ
+agedBy ac age =
+    let m = convertOf (withCharge (powered (agingBy ac) 100 128) (record { count = 100 * 4096; age = age; aging = 128; learnf = false; mark = false }))
+    (minus (8 * 4096)) in
+    m .charge .aging ∷ m .charge .age ∷ []
+
+-- FULL 16384, this Full40, this ACR and LEARNF, full found
+abbrev taughtBy : ℕ → ℕ → Meter
+taughtBy full40 acr =
+    filled (plus (8 * 40))
+    (withCharge (powered (sized full40) acr 128) (record { count = acr * 4096; age = 0; aging = 128; learnf = true; mark = false }))
+
+-- AS learnt at this Full40, from each ACR
+abbrev learntAt : ℕ → List ℕ → List ℕ
+learntAt full40 acrs = map (λ acr. taughtBy full40 acr .charge .aging) acrs
+
+-- M with the largest Full40 and RSNSP, at 40 °C and this ACR
+abbrev largest : ℕ → Meter
+largest acr = readAt (plus (8 * 40)) (powered (withByte (sized 65535) 0x69 255) acr 128)
+
+abbrev pub paperFigures : List Figure
+paperFigures =
     -- F3 to F7. M at 40, 18, 0, -12, -20 °C: FULL, AE, SE
     (map fullAt temperatures is 16384 ∷ 16164 ∷ 15804 ∷ 15444 ∷ 15124 ∷ []) ∷
     (map (λ t. readM t .shown .model .ae) temperatures is 64 ∷ 174 ∷ 354 ∷ 594 ∷ 834 ∷ []) ∷
@@ -205,6 +250,11 @@ figures =
     (converted (minus 1 ∷ seven (plus 0)) (powered M 100 128) .flow .average .iavg ∷ [] is (zeroAt 15 - 1) ∷ []) ∷
     -- F21. AF 4032, AE 5000: RARC 0
     (agedFull worn ∷ worn .shown .model .ae ∷ worn .shown .results .rarc ∷ [] is 4032 ∷ 5000 ∷ 0 ∷ []) ∷
+    []
+
+-- the cycle counter of request [12]
+abbrev pub cycleFigures : List Figure
+cycleFigures =
     -- W12.8, W12.9. As many steps of twice Full40 as fit, the rest carried
     (cycled Ds2775 3 (at 0 0) is 1 ∷ 2 ∷ []) ∷
     (cycled Ds2775 3 (at 1 5) is 3 ∷ 1 ∷ []) ∷
@@ -221,43 +271,70 @@ figures =
     (cycled Ds2781 3 (at 0 0) is 0 ∷ 0 ∷ []) ∷
     []
 
+-- our own, at large numbers: falls
+abbrev pub largeFalls : List Figure
+largeFalls =
+    -- W12.8, W12.9. Full40 65,535 with 131,069 fallen: no step, rest 131,069; with 131,070 one step, rest 0; with 131,072 one step, rest 2
+    (fallenBy 65535 131061 is 0 ∷ 131069 ∷ []) ∷
+    (fallenBy 65535 131062 is 1 ∷ 0 ∷ []) ∷
+    (fallenBy 65535 131064 is 1 ∷ 2 ∷ []) ∷
+    -- 65,536 and 65,543 fallen are carried; Full40 32,768, which has a step of 65,536; and 65,536 steps at once
+    (fallenBy 65535 65528 is 0 ∷ 65536 ∷ []) ∷
+    (fallenBy 40000 65535 is 0 ∷ 65543 ∷ []) ∷
+    (fallenBy 32768 65527 is 0 ∷ 65535 ∷ []) ∷
+    (fallenBy 32768 65528 is 1 ∷ 0 ∷ []) ∷
+    (fallenBy 1 131064 is 255 ∷ 0 ∷ []) ∷
+    []
+
+-- ages
+abbrev pub largeAges : List Figure
+largeAges =
+    -- C16. The age counter at 2^16, 2^17, 2^18 and 2^20
+    (agedBy 65535 65528 is 128 ∷ 65536 ∷ []) ∷
+    (agedBy 65535 131064 is 128 ∷ 131072 ∷ []) ∷
+    (agedBy 65535 262136 is 128 ∷ 262144 ∷ []) ∷
+    (agedBy 65535 1048568 is 128 ∷ 1048576 ∷ []) ∷
+    -- C17. AC 65,535 at 2,097,119 and 2,097,120; AC 1,025 at 32,799 and 32,800; AC 32,769, of which 32 × AC is above 2^20
+    (agedBy 65535 2097111 is 128 ∷ 2097119 ∷ []) ∷
+    (agedBy 65535 2097112 is 127 ∷ 0 ∷ []) ∷
+    (agedBy 1025 32791 is 128 ∷ 32799 ∷ []) ∷
+    (agedBy 1025 32792 is 127 ∷ 0 ∷ []) ∷
+    (agedBy 32769 1048599 is 128 ∷ 1048607 ∷ []) ∷
+    (agedBy 32769 1048600 is 127 ∷ 0 ∷ []) ∷
+    []
+
+-- and what is worked out of the largest
+abbrev pub largeResults : List Figure
+largeResults =
+    -- C30. Full40 60,000: ACR 60,000, 50,000 and 32,768 teach AS 128, 106 and 69
+    (learntAt 60000 (60000 ∷ 50000 ∷ 32768 ∷ []) is 128 ∷ 106 ∷ 69 ∷ []) ∷
+    -- C31. Quotients of 256, 2^15, 2^16, 2^17 and 2^20 are moved to 128
+    (learntAt 1 (2 ∷ 256 ∷ 512 ∷ 1024 ∷ 8192 ∷ []) is 128 ∷ 128 ∷ 128 ∷ 128 ∷ 128 ∷ []) ∷
+    -- C34. Full40 65,535 and AS 128: ACR 65,535
+    (acr (taughtBy 65535 65535) ∷ [] is 65535 ∷ []) ∷
+    -- R31, R34. ACR, Full40 and RSNSP the largest: RARC 100, RSRC 100, RAAC 65,024, RSAC 65,279
+    (largest 65535 .shown .results .rarc ∷ largest 65535 .shown .results .rsrc ∷ largest 65535 .shown .results .raac ∷ largest 65535 .shown .results .rsac ∷ []
+    is 100 ∷ 100 ∷ 65024 ∷ 65279 ∷ []) ∷
+    -- C24. Eight c of 32,767 and of -32,768
+    (converted (plus 32767 ∷ seven (plus 32767)) (powered M 100 128) .flow .average .iavg ∷ [] is (zeroAt 15 + 32767) ∷ []) ∷
+    (converted (minus 32768 ∷ seven (minus 32768)) (powered M 100 128) .flow .average .iavg ∷ [] is 0 ∷ []) ∷
+    -- C14. The count stops at 2^28 - 1 and at 0
+    (convertOf (powered M 65535 128) (plus 32767) .charge .count ∷ convertOf (powered M 7 128) (minus 32768) .charge .count ∷ [] is (2 ^ 28 - 1) ∷ 0 ∷ []) ∷
+    []
+
+abbrev pub largeFigures : List Figure
+largeFigures = largeFalls ++ (largeAges ++ largeResults)
+
+abbrev pub figures : List Figure
+figures = paperFigures ++ (cycleFigures ++ largeFigures)
+
 pub figures-hold : Hold figures
 unfolding poweredOf countedOf cycledOf averagedOf renewedOf foundOf learntOf agedFullOf shareOf shareUpOf filledOf settledOf flowedOf convertOf slopesOver
     modelLines drainingOf pointOf emptiedOf leftOf usableOf percentOf amountOf resultsOf ratedOf flaggedOf keptOf loweredOf seenOf drainedOf resultsShown readOf
-figures-hold = (
-  refl,
-  (
-    refl,
-    (
-      refl,
-      (
-        refl,
-        (
-          refl,
-          (
-            refl,
-            (
-              refl,
-              (
-                refl,
-                (
-                  refl,
-                  (
-                    refl,
-                    (
-                      refl,
-                      (
-                        refl,
-                        (refl, (refl, (refl, (refl, (refl, (refl, (refl, (refl, (refl, (refl, (refl, (refl, (refl, (refl, tt)))))))))))))),
-                      ),
-                    ),
-                  ),
-                ),
-              ),
-            ),
-          ),
-        ),
-      ),
-    ),
-  ),
-)
+figures-hold =
+    hold-both paperFigures (cycleFigures ++ largeFigures)
+    (refl, (refl, (refl, (refl, (refl, (refl, (refl, (refl, (refl, (refl, (refl, (refl, (refl, (refl, (refl, (refl, (refl, tt)))))))))))))))))
+    (hold-both cycleFigures largeFigures (refl, (refl, (refl, (refl, (refl, (refl, (refl, (refl, (refl, tt)))))))))
+    (hold-both largeFalls (largeAges ++ largeResults) (refl, (refl, (refl, (refl, (refl, (refl, (refl, (refl, tt))))))))
+    (hold-both largeAges largeResults (refl, (refl, (refl, (refl, (refl, (refl, (refl, (refl, (refl, (refl, tt))))))))))
+    (refl, (refl, (refl, (refl, (refl, (refl, (refl, tt))))))))))
