@@ -10,6 +10,7 @@
 #include "aims/power_on.h"
 #include "aims/conversion.h"
 #include "aims/camera.h"
+#include "aims/thresholds.h"
 #include "aims/offset.h"
 #include "aims/samples.h"
 #include "aims/reading.h"

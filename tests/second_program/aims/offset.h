@@ -70,6 +70,7 @@ static void saw_each(const Gauge *was, const Gauge *is, int32_t raw, int32_t pla
         saw_mark(was, is, measured, place, ticks);
     if (was->ds2775)
         saw_cycles(was, is, place, ticks);
+    saw_full_thresholds(was, is, full_now);
     SAW(since_write == 1 && adds && ticks == 0, "mark: the second conversion after a write adds");
     SAW(since_write == 1 && adds && place == 2, "mark: the second of a sample adds");
     SAW(full_last && adds, "mark: none after full, a conversion adds");

@@ -78,6 +78,7 @@ static void saw_reading(const Gauge *was, const Gauge *is, int32_t voltage, int3
     if (is->voltage < edge)
         saw_below(was, is, (int32_t)(is->ae * full_40 / 16384));
     SAW(is->voltage == edge, "reading: VOLT at 4 x VAE");
+    saw_empty_thresholds(was, is);
 
     SAW(n > 0 && d > 0 && is->as == 128, "results: with AS 128");
     SAW(n > 0 && d > 0 && is->as == 63, "results: with AS 63");

@@ -16,16 +16,18 @@ from .moments_and_widths import LATCHED
 from .offset import OFFSETS
 from .power_on import POWER_ON
 from .preset import PRESET
+from .ranges import RANGES
 from .reading import READING
 from .samples import SAMPLES
 from .session import SESSION
 from .slips import SLIPS
+from .thresholds import THRESHOLDS
 from .trays import TRAYS
 from .writes_of_as import AS_WRITES, AS_WRITES_TRAYS
 
 RULES = SESSION + BREAKPOINTS + POWER_ON + BUS + CONVERSION + READING
 
-IN_SESSIONS = SLIPS + RULES + AS_WRITES + SAMPLES + OFFSETS + LONGER + CYCLES + LATCHED
+IN_SESSIONS = SLIPS + RULES + AS_WRITES + SAMPLES + OFFSETS + LONGER + CYCLES + LATCHED + THRESHOLDS + RANGES
 IN_TRAYS = TRAYS + LONGER_TRAYS + CYCLES_TRAYS + AS_WRITES_TRAYS
 
 
