@@ -32,9 +32,16 @@ strictly() {
     return "$refused"
 }
 
+# A program cannot ask for a file's mode, so where `mend` replaces a plain file the umask leaves the new one what that file lets be read and written.
+keep_mode() { # FILE
+    local mode
+    if [ -f "$1" ] && [ ! -L "$1" ] && mode=$(stat -c %a -- "$1"); then umask "$(printf %o $((0777 & ~0$mode)))"; fi
+}
+
 # Runs the program and ends.
 start() { # WORD..
     local ended
+    [ "$name" != mend ] || keep_mode "$1"
     if [[ $options != *' --strict '* ]]; then
         told "$@"
         exit

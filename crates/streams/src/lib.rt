@@ -152,55 +152,116 @@ pub fn say(name: &[u8], said: Said, room: &[u8]) {
 
 // ---- a file that is written
 
-// Whether a file may take the name: it is free, or a file has it that may be written. No device has `fsync`, and no folder can be opened so.
-fn replaceable(name: &[u8]) -> bool {
-    let fd = os::open_update(name);
-    if fd < 0 {
-        return os::errno() == libc::ENOENT;
-    }
-    let plain = libc::fsync(fd) == 0;
-    libc::close(fd);
-    plain
-}
-
-// Writes the bytes to a file that is made for them, down to the device. Where they cannot be written no file is left.
-fn make(name: &[u8], bytes: &[u8]) -> bool {
-    let fd = os::create(name);
-    if fd < 0 {
-        return false;
-    }
-    let taken = io::write_all(fd, bytes);
-    let kept = libc::fsync(fd) == 0;
-    let closed = libc::close(fd) == 0;
-    let whole = numbers::and(taken, numbers::and(kept, closed));
-    if !whole {
-        os::unlink(name);
-    }
-    whole
-}
-
-// Makes the file under another name, and then gives it its own: so it is whole, or what had the name is as it was.
-fn replace(name: &[u8], beside: &[u8], bytes: &[u8]) -> bool {
-    if !replaceable(name) {
-        return false;
-    }
-    if !make(beside, bytes) {
-        return false;
-    }
-    let moved = os::rename(beside, name) == 0;
-    if !moved {
-        os::unlink(beside);
-    }
-    moved
-}
-
-fn say_unwritten(program: &[u8], name: &[u8], beside: &[u8]) {
+fn say_start(program: &[u8], name: &[u8]) {
     io::write_all(STDERR_FILENO, program);
     io::write_all(STDERR_FILENO, b": cannot write ");
     io::write_all(STDERR_FILENO, name);
-    io::write_all(STDERR_FILENO, b" by way of ");
-    io::write_all(STDERR_FILENO, beside);
+    io::write_all(STDERR_FILENO, b": ");
+}
+
+// Why a file is not written.
+fn say_unwritten(program: &[u8], name: &[u8], why: &[u8]) -> bool {
+    say_start(program, name);
+    io::write_all(STDERR_FILENO, why);
     io::write_all(STDERR_FILENO, b"\n");
+    false
+}
+
+// The same in the system's own words for the call that failed last.
+fn say_failed(program: &[u8], name: &[u8]) -> bool {
+    io::write_all(STDERR_FILENO, program);
+    io::write_all(STDERR_FILENO, b": cannot write ");
+    os::fail(name);
+    false
+}
+
+// Whether a file may take the name: it is free, or a plain file has it that may be written. No device has `fsync`, and no folder can be opened so.
+fn replaceable(program: &[u8], name: &[u8]) -> bool {
+    let fd = os::open_update(name);
+    if fd < 0 {
+        let error = os::errno();
+        if error == libc::ENOENT {
+            return true;
+        }
+        if error == libc::EISDIR {
+            return say_unwritten(program, name, b"it is a folder");
+        }
+        return say_failed(program, name);
+    }
+    let plain = libc::fsync(fd) == 0;
+    libc::close(fd);
+    if plain {
+        return true;
+    }
+    say_unwritten(program, name, b"it is not a plain file")
+}
+
+// The other name of the file is taken: another run is writing, or one that was ended left it.
+fn say_taken(program: &[u8], name: &[u8], beside: &[u8]) -> bool {
+    say_start(program, name);
+    io::write_all(STDERR_FILENO, beside);
+    io::write_all(
+        STDERR_FILENO,
+        b" is there, in use by another run or left by one\n",
+    );
+    false
+}
+
+// The file cannot be made under its other name.
+fn say_unmade(program: &[u8], name: &[u8], beside: &[u8]) -> bool {
+    let error = os::errno();
+    if error == libc::EEXIST {
+        return say_taken(program, name, beside);
+    }
+    if error == libc::ENOENT {
+        return say_unwritten(program, name, b"there is no such folder");
+    }
+    say_failed(program, name)
+}
+
+// Whether all bytes went to the device.
+fn filled(fd: i32, bytes: &[u8]) -> bool {
+    if io::write_all(fd, bytes) {
+        return libc::fsync(fd) == 0;
+    }
+    false
+}
+
+// Writes the bytes to a file that is made for them under the other name. Where they cannot be written no file is left.
+fn make(program: &[u8], name: &[u8], beside: &[u8], bytes: &[u8]) -> bool {
+    let fd = os::create(beside);
+    if fd < 0 {
+        return say_unmade(program, name, beside);
+    }
+    let whole = filled(fd, bytes);
+    if !whole {
+        say_failed(program, name);
+    }
+    let closed = libc::close(fd) == 0;
+    if numbers::and_not(whole, closed) {
+        say_failed(program, name);
+    }
+    let made = numbers::and(whole, closed);
+    if !made {
+        os::unlink(beside);
+    }
+    made
+}
+
+// Makes the file under another name, and then gives it its own: so it is whole, or what had the name is as it was.
+fn replace(program: &[u8], name: &[u8], beside: &[u8], bytes: &[u8]) -> bool {
+    if !replaceable(program, name) {
+        return false;
+    }
+    if !make(program, name, beside, bytes) {
+        return false;
+    }
+    if os::rename(beside, name) == 0 {
+        return true;
+    }
+    say_failed(program, name);
+    os::unlink(beside);
+    false
 }
 
 // The other name of a file: its own, and `.new` behind it. A name that is too long for that has none.
@@ -215,24 +276,39 @@ fn put_beside(name: &[u8], room: &mut [u8]) -> usize
     digits::put_bytes(b".new", room, next)
 }
 
-// Writes the file that a word of the call names, which is not a link. Where it cannot be written, standard error has a line with its name.
+fn say_name(program: &[u8], why: &[u8]) -> bool {
+    io::write_all(STDERR_FILENO, program);
+    io::write_all(STDERR_FILENO, b": the name of the file to write is ");
+    io::write_all(STDERR_FILENO, why);
+    io::write_all(STDERR_FILENO, b"\n");
+    false
+}
+
+// Writes the file that a word of the call names, which is not a link. Where it cannot be written, standard error has a line that says why.
 fn write_named(program: &[u8], word: usize, bytes: &[u8]) -> bool {
     let mut name = io::buffer();
     let got = os::arg(word, &mut name);
+    let cut = os::errno() != 0;
     name[PATH_MAX - 1] = 0;
     let n = within(got, &name);
     let mut other = io::buffer();
     let put = put_beside(&name[..n], &mut other);
     let m = within(put, &other);
-    let mut text = [0u8; 1];
-    let linked = libc::readlink(&name, &mut text) >= 0;
-    if !linked {
-        if replace(&name[..n], &other[..m], bytes) {
-            return true;
-        }
+    if numbers::or(cut, m == 0) {
+        return say_name(program, b"too long");
     }
-    say_unwritten(program, &name[..n], &other[..m]);
-    false
+    if n == 0 {
+        return say_name(program, b"empty");
+    }
+    let mut text = [0u8; 1];
+    if libc::readlink(&name, &mut text) >= 0 {
+        return say_unwritten(
+            program,
+            &name[..n],
+            b"it is a link; give the name of the file itself",
+        );
+    }
+    replace(program, &name[..n], &other[..m], bytes)
 }
 
 // Says what is said; where it goes to standard output, the file that a word of the call names is written first. Where it cannot be written,
