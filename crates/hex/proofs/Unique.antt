@@ -8,6 +8,8 @@ use Rattle.hex.proofs.byte_in
 use Rattle.hex.proofs.address_in
 use Rattle.hex.proofs.checked_line
 use Rattle.hex.proofs.put_data
+use Rattle.hex.proofs.first_bad
+use Rattle.hex.proofs.first_gap
 use contract.Lifetimes.{Lfts}
 use denote.Ref.{now}
 use denote.Triple.Entry.{Args, Res}
@@ -34,6 +36,12 @@ address-in-once κs a r r′ w w′ p h h′ = (h ∙ sym h′, refl)
 
 pub checked-line-once : Once «checked_line».ended «checked_line».Reads.Pre «checked_line».Reads.Learnt
 checked-line-once κs a r r′ w w′ p h h′ = (h ∙ sym h′, refl)
+
+pub first-bad-once : Once first_bad.ended first_bad.Reads.Pre first_bad.Reads.Learnt
+first-bad-once κs a r r′ w w′ p h h′ = (h .0 ∙ sym (h′ .0), refl)
+
+pub first-gap-once : Once first_gap.ended first_gap.Reads.Pre first_gap.Reads.Learnt
+first-gap-once κs a r r′ w w′ p h h′ = (h ∙ sym h′, refl)
 
 pub put-data-once : Once put_data.ended put_data.Reads.Pre put_data.Reads.Learnt
 put-data-once κs a r r′ w w′ p h h′ = (refl, λ i. (tt, ((h ∙ sym h′) i, (tt, tt))))

@@ -12,6 +12,7 @@ ghost use Rattle.numbers.specs.Choice.{pick};
 ghost use Rattle.hex.specs.Export.{answerNumber, imageAccepted, bothAccepted, exportLabel, exportText, exportSize, exportAnswer, Exporting};
 ghost use Rattle.hex.specs.Import.{textLines, Cut, linesAnswer, countOf, lastAddress, wholeText, dataAt};
 ghost use Rattle.hex.specs.Import.{importedOf, importSize, importAnswer, Importing};
+ghost use Rattle.hex.specs.Flaw.{pairsCause, begunCause, formCause, causeOf, flawFrom, gapOf};
 
 // What is wrong with a line: its form, its checksum, or which record it is.
 pub enum Fault {
@@ -429,4 +430,138 @@ pub fn read_text(text: &[u8], room: &mut [u8]) -> Answer
         }
         Answer::Refused(why) => Answer::Refused(why),
     }
+}
+
+// ---- what is wrong with a text, for the words of a refusal
+
+// Why a line is bad: six ways in which it is not formed, its checksum, or which record it is.
+pub enum Cause {
+    Empty,
+    Colon,
+    Feed,
+    Return,
+    Digits,
+    Pairs,
+    Sum,
+    Place,
+}
+
+// The first bad line of a text by its number, from 1 on, and why it is bad. 0 where none is.
+pub struct Flaw {
+    pub line: usize,
+    pub cause: Cause,
+}
+
+// Of a line that has a colon, a line feed and a checksum's length between them.
+fn pairs_cause(line: &[u8]) -> Cause
+    requires { ⌜ 12 ≤ length (now line) ⌝ }
+    ensures { λ r. ⌜ r ≡ pairsCause (now (line .entry)) ⌝ }
+{
+    let n = line.len();
+    if line[n - 2] == b'\r' {
+        return Cause::Return;
+    }
+    if digits::upper_digits(&line[1..n - 1]) {
+        return Cause::Pairs;
+    }
+    Cause::Digits
+}
+
+// Of a line that has a colon.
+fn begun_cause(line: &[u8]) -> Cause
+    requires { ⌜ 0 < length (now line) ⌝ }
+    ensures { λ r. ⌜ r ≡ begunCause (now (line .entry)) ⌝ }
+{
+    let n = line.len();
+    if line[n - 1] == b'\n' {
+        if n < 12 {
+            return Cause::Pairs;
+        }
+        return pairs_cause(line);
+    }
+    Cause::Feed
+}
+
+// Why a line is not formed.
+fn form_cause(line: &[u8]) -> Cause
+    requires { ⌜ 0 < length (now line) ⌝ }
+    ensures { λ r. ⌜ r ≡ formCause (now (line .entry)) ⌝ }
+{
+    if line[0] == b'\n' {
+        return Cause::Empty;
+    }
+    if line[0] == b':' {
+        return begun_cause(line);
+    }
+    Cause::Colon
+}
+
+fn cause_of(line: &[u8]) -> Cause
+    requires { ⌜ 0 < length (now line) ⌝ }
+    ensures { λ r. ⌜ r ≡ causeOf (now (line .entry)) ⌝ }
+{
+    if formed(line) {
+        if sums_to_zero(line) {
+            return Cause::Place;
+        }
+        return Cause::Sum;
+    }
+    form_cause(line)
+}
+
+pub fn first_bad(text: &[u8]) -> Flaw
+    ensures { λ r. ⌜ r ≡ flawFrom 1 (textLines (now (text .entry))) ⌝ }
+    ensures small { λ r. ⌜ r .line ≤ length (now (text .entry)) ⌝ }
+{
+    let mut number = 1;
+    let mut at = 0;
+    while at < text.len() {
+        let end = line_end(text, at);
+        let line = checked_line(&text[at..end]);
+        match line {
+            CheckedLine::Good => {
+                at = end;
+                number += 1;
+            }
+            CheckedLine::Bad(_) => {
+                let cause = cause_of(&text[at..end]);
+                return Flaw {
+                    line: number,
+                    cause: cause,
+                };
+            }
+        }
+    }
+    let none = Cause::Place;
+    Flaw {
+        line: 0,
+        cause: none,
+    }
+}
+
+// What a text without a bad line lacks.
+pub enum Gap {
+    Label,
+    Low,
+    High,
+    End,
+    Last,
+}
+
+pub fn first_gap(text: &[u8]) -> Gap
+    ensures { λ r. ⌜ r ≡ gapOf (textLines (now (text .entry))) ⌝ }
+{
+    if count(text, 0x20) != 1 {
+        return Gap::Label;
+    }
+    if count(text, 0x60) != 1 {
+        return Gap::Low;
+    }
+    if count(text, 0x70) != 1 {
+        return Gap::High;
+    }
+    if count(text, 0) != 1 {
+        return Gap::End;
+    }
+    Gap::Last
 }

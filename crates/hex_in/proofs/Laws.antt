@@ -18,10 +18,10 @@ use Rattle.hex.proofs.Lines.{import-sized}
 use Rattle.hex_in.specs.HexIn.{hexInRefusalWords, hexInOverText, mostText, roomSize, hexInSpeech}
 
 -- a refusal, by its number and its words
-pub why-said : {why x : HexRefusal} {number : ℕ} {room after : List ℕ} {r : Said} → why ≡ x → number ≡ hexRefusalNumber why
-    → Saying (error (refusedText number (hexInRefusalWords x))) room r after →
-    Saying (error (refusedText (hexRefusalNumber why) (hexInRefusalWords why))) room r after
-why-said is told w = rw (← told, is) w
+pub why-said : {why x : HexRefusal} (ls : List (List ℕ)) {number : ℕ} {room after : List ℕ} {r : Said} → why ≡ x → number ≡ hexRefusalNumber why
+    → Saying (error (refusedText number (hexInRefusalWords x ls))) room r after →
+    Saying (error (refusedText (hexRefusalNumber why) (hexInRefusalWords why ls))) room r after
+why-said ls is told w = rw (← told, is) w
 
 -- ---- what is said of what `read` told
 
@@ -51,7 +51,7 @@ module _ {text room after : List ℕ} {answer : Answer} (w : Importing text room
       })
 
   pub refusal-said : {why : HexRefusal} {r : Said} {last : List ℕ} → answer ≡ Refused why →
-      Saying (error (refusedText (hexRefusalNumber why) (hexInRefusalWords why))) after r last
+      Saying (error (refusedText (hexRefusalNumber why) (hexInRefusalWords why (textLines text)))) after r last
       → Saying (hexInSpeech text) room r last
   unfolding hexInSpeech
   refusal-said is said = rw (le-ltb mostText (length text) few, answered ∙ is) (rw (rw (sym (w .answer) ∙ is) at (w .written)) at said)

@@ -1,49 +1,112 @@
 // hex_in: reads Intel HEX on standard input and writes the 48 bytes that it has, a label and block 1
 use hex::Answer;
-use hex::Fault;
+use hex::Cause;
+use hex::Gap;
 use hex::HexRefusal;
 use streams::Input;
 use streams::Said;
 use streams::Stream;
 ghost use mathlib.Core.Path.{_≡_};
 ghost use mathlib.Core.List.{List};
-ghost use Prim.Native.Nat.{ℕ};
+ghost use Prim.Native.Nat.{ℕ, _+_, _≤_};
 ghost use lib.ListN.{length};
 ghost use Rattle.streams.specs.Streams.{Front, Saying, error, refusedText};
+ghost use Rattle.digits.specs.Digits.{Writing};
 ghost use Rattle.hex.specs.Export.{hexRefusalNumber};
-ghost use Rattle.hex_in.specs.HexIn.{faultWords, hexInRefusalWords, roomSize, hexInSpeech, hexInOf};
+ghost use Rattle.hex.specs.Import.{textLines};
+ghost use Rattle.hex.specs.Flaw.{flawFrom};
+ghost use Rattle.hex_in.specs.HexIn.{causeWords, flawWords, gapWords, hexInRefusalWords, mostText, roomSize, hexInSpeech, hexInOf};
 
-fn put_fault(number: u8, fault: Fault, room: &mut [u8]) -> Said
-    requires { ⌜ length (now room) ≡ roomSize ⌝ }
-    ensures { λ r. ⌜ Saying (error (refusedText number (faultWords fault))) (now (room .entry)) r (now (room .exit)) ⌝ }
+// What is wrong with a line, behind its number.
+fn put_cause(cause: Cause, room: &mut [u8], at: usize) -> usize
+    requires { ⌜ at + 72 ≤ length (now room) ⌝ }
+    ensures { λ r. ⌜ Writing 72 (causeWords cause) (now (room .entry)) at r (now (room .exit)) ⌝ }
 {
-    match fault {
-        Fault::Form => streams::put_refused(
-            number,
-            b"a line is not a colon, the upper-case pairs its count asks and a line feed",
+    match cause {
+        Cause::Empty => digits::put_bytes(b" is empty", room, at),
+        Cause::Colon => digits::put_bytes(b" does not begin with a colon", room, at),
+        Cause::Feed => digits::put_bytes(b" has no line feed at its end", room, at),
+        Cause::Return => digits::put_bytes(
+            b" ends with a carriage return: take them out, as by tr -d '\\r'",
             room,
+            at,
         ),
-        Fault::Checksum => streams::put_refused(number, b"the checksum of a line is wrong", room),
-        Fault::Record => streams::put_refused(
-            number,
-            b"a line is neither the end record nor 16 bytes at 0020h, 0060h or 0070h",
+        Cause::Digits => digits::put_bytes(
+            b" has a character that is no upper-case digit: if lower case, tr a-f A-F",
             room,
+            at,
+        ),
+        Cause::Pairs => digits::put_bytes(
+            b" has not the pairs of digits that its count asks",
+            room,
+            at,
+        ),
+        Cause::Sum => digits::put_bytes(b" has a wrong checksum", room, at),
+        Cause::Place => digits::put_bytes(
+            b" is neither the end record nor 16 bytes at 0020h, 0060h or 0070h",
+            room,
+            at,
         ),
     }
 }
 
-fn put_why(why: HexRefusal, room: &mut [u8]) -> Said
+// The first bad line.
+fn put_flaw(number: u8, text: &[u8], room: &mut [u8]) -> Said
+    requires { ⌜ length (now text) ≤ mostText ⌝ }
     requires { ⌜ length (now room) ≡ roomSize ⌝ }
-    ensures { λ r. ⌜ Saying (error (refusedText (hexRefusalNumber why) (hexInRefusalWords why))) (now (room .entry)) r (now (room .exit)) ⌝ }
+    ensures { λ r. ⌜ Saying (error (refusedText number (flawWords (flawFrom 1 (textLines (now (text .entry))))))) (now (room .entry)) r (now (room .exit)) ⌝ }
+{
+    let flaw = hex::first_bad(text);
+    let cause = flaw.cause;
+    let a = digits::put_decimal(number as usize, room, 0);
+    let b = digits::put_bytes(b": ", room, a);
+    let c = digits::put_bytes(b"line ", room, b);
+    let d = digits::put_decimal(flaw.line, room, c);
+    let e = put_cause(cause, room, d);
+    let count = digits::put_byte(b'\n', room, e);
+    let stream = Stream::Error;
+    Said {
+        stream: stream,
+        count: count,
+    }
+}
+
+// What a text without a bad line lacks.
+fn put_gap(number: u8, gap: Gap, room: &mut [u8]) -> Said
+    requires { ⌜ length (now room) ≡ roomSize ⌝ }
+    ensures { λ r. ⌜ Saying (error (refusedText number (gapWords gap))) (now (room .entry)) r (now (room .exit)) ⌝ }
+{
+    match gap {
+        Gap::Label => streams::put_refused(
+            number,
+            b"the record at 0020h is missing or repeated",
+            room,
+        ),
+        Gap::Low => streams::put_refused(
+            number,
+            b"the record at 0060h is missing or repeated",
+            room,
+        ),
+        Gap::High => streams::put_refused(
+            number,
+            b"the record at 0070h is missing or repeated",
+            room,
+        ),
+        Gap::End => streams::put_refused(number, b"the end record is missing or repeated", room),
+        Gap::Last => streams::put_refused(number, b"the end record is not last", room),
+    }
+}
+
+fn put_why(why: HexRefusal, text: &[u8], room: &mut [u8]) -> Said
+    requires { ⌜ length (now text) ≤ mostText ⌝ }
+    requires { ⌜ length (now room) ≡ roomSize ⌝ }
+    ensures { λ r. ⌜ Saying (error (refusedText (hexRefusalNumber why) (hexInRefusalWords why (textLines (now (text .entry))))))
+        (now (room .entry)) r (now (room .exit)) ⌝ }
 {
     let number = hex::answer_number(Answer::Refused(why));
     match why {
-        HexRefusal::Line(fault) => put_fault(number, fault, room),
-        HexRefusal::Whole => streams::put_refused(
-            number,
-            b"a record is missing or repeated, or the end record is not last",
-            room,
-        ),
+        HexRefusal::Line(_) => put_flaw(number, text, room),
+        HexRefusal::Whole => put_gap(number, hex::first_gap(text), room),
         HexRefusal::Image => streams::put_refused(number, b"the text is refused", room),
         HexRefusal::Room => streams::put_refused(
             number,
@@ -75,7 +138,7 @@ fn put_import(text: &[u8], room: &mut [u8]) -> Said
                 count: 48,
             }
         }
-        Answer::Refused(why) => put_why(why, room),
+        Answer::Refused(why) => put_why(why, text, room),
     }
 }
 

@@ -1,134 +1,152 @@
 -- `hex_in::put_why` meets its contract.
+use denote.Ref.{now}
+use Rattle.hex.specs.Import.{textLines}
 use Rattle.hex_in.proofs.Laws.{why-said}
 use borrow.Author.Needs.{needs}
 use Rattle.hex_in.proofs.put_why.Statement.{statement}
 use Rattle.hex_in.proofs.put_why.Tie as tie
 
 -- places: `a→b` leads from the record of the place a back to that of the place b
-abbrev slice-known2→put-fault : tie.After-slice-known2 → tie.After-put-fault
-slice-known2→put-fault c = c .before .before
+abbrev answer-number→start : tie.After-answer-number → tie.Start
+answer-number→start c = c .before .before .before
 
-abbrev slice-known2→why : tie.After-slice-known2 → tie.After-why
-slice-known2→why c = slice-known2→put-fault c .before .before .before
+abbrev put-flaw-arg→start : tie.After-put-flaw-arg → tie.Start
+put-flaw-arg→start c = answer-number→start (c .before .before .before)
+
+abbrev slice-known2→start : tie.After-slice-known2 → tie.Start
+slice-known2→start c = put-flaw-arg→start (c .before .before .before)
+
+abbrev put-flaw-arg→enum-told : tie.After-put-flaw-arg → tie.After-enum-told
+put-flaw-arg→enum-told c = c .before
+
+abbrev slice-known2→enum-told : tie.After-slice-known2 → tie.After-enum-told
+slice-known2→enum-told c = put-flaw-arg→enum-told (c .before .before .before)
+
+abbrev put-flaw-arg→answer-number : tie.After-put-flaw-arg → tie.After-answer-number
+put-flaw-arg→answer-number c = c .before .before .before
 
 abbrev slice-known2→answer-number : tie.After-slice-known2 → tie.After-answer-number
-slice-known2→answer-number c = slice-known2→why c .before .before
+slice-known2→answer-number c = put-flaw-arg→answer-number (c .before .before .before)
 
-abbrev slice-known3→put-refused : tie.After-slice-known3 → tie.After-put-refused
-slice-known3→put-refused c = c .before .before
+abbrev match-keys2→start : tie.At-match-keys2 → tie.Start
+match-keys2→start c = answer-number→start (c .before)
 
-abbrev slice-known3→enum-told : tie.After-slice-known3 → tie.After-enum-told
-slice-known3→enum-told c = slice-known3→put-refused c .before .before .before
+abbrev put-gap-arg→start : tie.After-put-gap-arg → tie.Start
+put-gap-arg→start c = match-keys2→start (c .before .before .before)
+
+abbrev slice-known3→start : tie.After-slice-known3 → tie.Start
+slice-known3→start c = put-gap-arg→start (c .before .before .before)
+
+abbrev put-gap-arg→enum-told2 : tie.After-put-gap-arg → tie.After-enum-told2
+put-gap-arg→enum-told2 c = c .before .before
+
+abbrev slice-known3→enum-told2 : tie.After-slice-known3 → tie.After-enum-told2
+slice-known3→enum-told2 c = put-gap-arg→enum-told2 (c .before .before .before)
+
+abbrev match-keys2→answer-number : tie.At-match-keys2 → tie.After-answer-number
+match-keys2→answer-number c = c .before
+
+abbrev put-gap-arg→answer-number : tie.After-put-gap-arg → tie.After-answer-number
+put-gap-arg→answer-number c = match-keys2→answer-number (c .before .before .before)
 
 abbrev slice-known3→answer-number : tie.After-slice-known3 → tie.After-answer-number
-slice-known3→answer-number c = slice-known3→enum-told c .before .before
+slice-known3→answer-number c = put-gap-arg→answer-number (c .before .before .before)
 
-abbrev slice-known4→put-refused2 : tie.After-slice-known4 → tie.After-put-refused2
-slice-known4→put-refused2 c = c .before .before
+abbrev put-gap-arg→first-gap : tie.After-put-gap-arg → tie.After-first-gap
+put-gap-arg→first-gap c = c .before
 
-abbrev slice-known4→enum-told2 : tie.After-slice-known4 → tie.After-enum-told2
-slice-known4→enum-told2 c = slice-known4→put-refused2 c .before .before .before
+abbrev slice-known3→first-gap : tie.After-slice-known3 → tie.After-first-gap
+slice-known3→first-gap c = put-gap-arg→first-gap (c .before .before .before)
+
+abbrev match-keys3→start : tie.At-match-keys3 → tie.Start
+match-keys3→start c = answer-number→start (c .before)
+
+abbrev put-refused-arg2→start : tie.After-put-refused-arg2 → tie.Start
+put-refused-arg2→start c = match-keys3→start (c .before .before .before)
+
+abbrev slice-known4→start : tie.After-slice-known4 → tie.Start
+slice-known4→start c = put-refused-arg2→start (c .before .before .before)
+
+abbrev put-refused-arg2→enum-told3 : tie.After-put-refused-arg2 → tie.After-enum-told3
+put-refused-arg2→enum-told3 c = c .before .before
+
+abbrev slice-known4→enum-told3 : tie.After-slice-known4 → tie.After-enum-told3
+slice-known4→enum-told3 c = put-refused-arg2→enum-told3 (c .before .before .before)
+
+abbrev match-keys3→answer-number : tie.At-match-keys3 → tie.After-answer-number
+match-keys3→answer-number c = c .before
+
+abbrev put-refused-arg2→answer-number : tie.After-put-refused-arg2 → tie.After-answer-number
+put-refused-arg2→answer-number c = match-keys3→answer-number (c .before .before .before)
 
 abbrev slice-known4→answer-number : tie.After-slice-known4 → tie.After-answer-number
-slice-known4→answer-number c = slice-known4→enum-told2 c .before .before
+slice-known4→answer-number c = put-refused-arg2→answer-number (c .before .before .before)
 
-abbrev slice-known5→put-refused3 : tie.After-slice-known5 → tie.After-put-refused3
-slice-known5→put-refused3 c = c .before .before
+abbrev match-keys4→start : tie.At-match-keys4 → tie.Start
+match-keys4→start c = answer-number→start (c .before)
 
-abbrev slice-known5→enum-told3 : tie.After-slice-known5 → tie.After-enum-told3
-slice-known5→enum-told3 c = slice-known5→put-refused3 c .before .before .before
+abbrev put-refused-arg4→start : tie.After-put-refused-arg4 → tie.Start
+put-refused-arg4→start c = match-keys4→start (c .before .before .before)
+
+abbrev slice-known5→start : tie.After-slice-known5 → tie.Start
+slice-known5→start c = put-refused-arg4→start (c .before .before .before)
+
+abbrev put-refused-arg4→enum-told4 : tie.After-put-refused-arg4 → tie.After-enum-told4
+put-refused-arg4→enum-told4 c = c .before .before
+
+abbrev slice-known5→enum-told4 : tie.After-slice-known5 → tie.After-enum-told4
+slice-known5→enum-told4 c = put-refused-arg4→enum-told4 (c .before .before .before)
+
+abbrev match-keys4→answer-number : tie.At-match-keys4 → tie.After-answer-number
+match-keys4→answer-number c = c .before
+
+abbrev put-refused-arg4→answer-number : tie.After-put-refused-arg4 → tie.After-answer-number
+put-refused-arg4→answer-number c = match-keys4→answer-number (c .before .before .before)
 
 abbrev slice-known5→answer-number : tie.After-slice-known5 → tie.After-answer-number
-slice-known5→answer-number c = slice-known5→enum-told3 c .before .before
-
-answer-number-requires : tie.Need-answer-number-requires
-answer-number-requires c κs = search needs
-
-enum-known-why : tie.Need-enum-known-why
-enum-known-why c = search needs
-
-put-fault-requires : tie.Need-put-fault-requires
-put-fault-requires c κs = search needs
-
-enum-told : tie.Need-enum-told
-enum-told c = search needs
-
-slice-aggregate-put-refused : tie.Need-slice-aggregate-put-refused
-slice-aggregate-put-refused c = search needs
-
-put-refused-requires : tie.Need-put-refused-requires
-put-refused-requires c κs = search needs
-
-enum-told-2 : tie.Need-enum-told-2
-enum-told-2 c = search needs
-
-slice-aggregate-put-refused-2 : tie.Need-slice-aggregate-put-refused-2
-slice-aggregate-put-refused-2 c = search needs
-
-put-refused-requires-2 : tie.Need-put-refused-requires-2
-put-refused-requires-2 c κs = search needs
-
-enum-told-3 : tie.Need-enum-told-3
-enum-told-3 c = search needs
-
-slice-aggregate-put-refused-3 : tie.Need-slice-aggregate-put-refused-3
-slice-aggregate-put-refused-3 c = search needs
-
-put-refused-requires-3 : tie.Need-put-refused-requires-3
-put-refused-requires-3 c κs = search needs
-
-same-length : tie.Need-same-length
-same-length c = search needs
+slice-known5→answer-number c = put-refused-arg4→answer-number (c .before .before .before)
 
 returns : tie.Need-returns
 returns c =
-    why-said (slice-known2→why c .why .given .1) (slice-known2→answer-number c .answer-number .ensures) (slice-known2→put-fault c .put-fault .ensures)
-
-same-length-2 : tie.Need-same-length-2
-same-length-2 c = search needs
+    why-said (textLines (now (slice-known2→start c .args .text))) (slice-known2→enum-told c .enum-told .given .1)
+    (slice-known2→answer-number c .answer-number .ensures) (c .before .before .put-flaw .ensures)
 
 returns-2 : tie.Need-returns-2
 returns-2 c =
-    why-said (slice-known3→enum-told c .enum-told .given .1) (slice-known3→answer-number c .answer-number .ensures)
-    (slice-known3→put-refused c .put-refused .ensures)
-
-same-length-3 : tie.Need-same-length-3
-same-length-3 c = search needs
+    why-said (textLines (now (slice-known3→start c .args .text))) (slice-known3→enum-told2 c .enum-told2 .given .1)
+    (slice-known3→answer-number c .answer-number .ensures) (rw (slice-known3→first-gap c .first-gap .ensures) at (c .before .before .put-gap .ensures))
 
 returns-3 : tie.Need-returns-3
 returns-3 c =
-    why-said (slice-known4→enum-told2 c .enum-told2 .given .1) (slice-known4→answer-number c .answer-number .ensures)
-    (slice-known4→put-refused2 c .put-refused2 .ensures)
-
-same-length-4 : tie.Need-same-length-4
-same-length-4 c = search needs
+    why-said (textLines (now (slice-known4→start c .args .text))) (slice-known4→enum-told3 c .enum-told3 .given .1)
+    (slice-known4→answer-number c .answer-number .ensures) (c .before .before .put-refused .ensures)
 
 returns-4 : tie.Need-returns-4
 returns-4 c =
-    why-said (slice-known5→enum-told3 c .enum-told3 .given .1) (slice-known5→answer-number c .answer-number .ensures)
-    (slice-known5→put-refused3 c .put-refused3 .ensures)
+    why-said (textLines (now (slice-known5→start c .args .text))) (slice-known5→enum-told4 c .enum-told4 .given .1)
+    (slice-known5→answer-number c .answer-number .ensures) (c .before .before .put-refused2 .ensures)
 
 pub put-why-spec : {M : Type 1} → statement M
 put-why-spec =
     tie.close
     (tie.spec
-    answer-number-requires
-    enum-known-why
-    put-fault-requires
-    enum-told
-    slice-aggregate-put-refused
-    put-refused-requires
-    enum-told-2
-    slice-aggregate-put-refused-2
-    put-refused-requires-2
-    enum-told-3
-    slice-aggregate-put-refused-3
-    put-refused-requires-3
-    same-length
+    (λ c κs. search needs)
+    (λ c. search needs)
+    (λ c κs. search needs)
+    (λ c. search needs)
+    (λ c κs. search needs)
+    (λ c κs. search needs)
+    (λ c. search needs)
+    (λ c. search needs)
+    (λ c κs. search needs)
+    (λ c. search needs)
+    (λ c. search needs)
+    (λ c κs. search needs)
+    (λ c. search needs)
     returns
-    same-length-2
+    (λ c. search needs)
     returns-2
-    same-length-3
+    (λ c. search needs)
     returns-3
-    same-length-4
+    (λ c. search needs)
     returns-4)

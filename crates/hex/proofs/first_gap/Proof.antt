@@ -1,0 +1,111 @@
+-- `hex::first_gap` meets its contract.
+use mathlib.Core.Path.{refl, sym, _∙_}
+use borrow.Author.Tests.{eq-eqb, ne-eqb}
+use Rattle.hex.specs.Flaw.{gapOf}
+use borrow.Author.Needs.{needs}
+use Rattle.hex.proofs.first_gap.Statement.{statement}
+use Rattle.hex.proofs.first_gap.Tie as tie
+
+-- places: `a→b` leads from the record of the place a back to that of the place b
+abbrev count2→count : tie.After-count2 → tie.After-count
+count2→count c = c .before .before
+
+abbrev then3→count : tie.Then3 → tie.After-count
+then3→count c = count2→count (c .before .before .before)
+
+abbrev count2→else1 : tie.After-count2 → tie.Else1
+count2→else1 c = c .before
+
+abbrev then3→else1 : tie.Then3 → tie.Else1
+then3→else1 c = count2→else1 (c .before .before .before)
+
+abbrev count3→count : tie.After-count3 → tie.After-count
+count3→count c = count2→count (c .before .before)
+
+abbrev then4→count : tie.Then4 → tie.After-count
+then4→count c = count3→count (c .before .before .before)
+
+abbrev count3→else1 : tie.After-count3 → tie.Else1
+count3→else1 c = c .before .before .before
+
+abbrev then4→else1 : tie.Then4 → tie.Else1
+then4→else1 c = count3→else1 (c .before .before .before)
+
+abbrev count3→count2 : tie.After-count3 → tie.After-count2
+count3→count2 c = c .before .before
+
+abbrev then4→count2 : tie.Then4 → tie.After-count2
+then4→count2 c = count3→count2 (c .before .before .before)
+
+abbrev count3→else2 : tie.After-count3 → tie.Else2
+count3→else2 c = c .before
+
+abbrev then4→else2 : tie.Then4 → tie.Else2
+then4→else2 c = count3→else2 (c .before .before .before)
+
+abbrev else4→count : tie.Else4 → tie.After-count
+else4→count c = count3→count (c .before .before .before)
+
+abbrev else4→else1 : tie.Else4 → tie.Else1
+else4→else1 c = count3→else1 (c .before .before .before)
+
+abbrev else4→count2 : tie.Else4 → tie.After-count2
+else4→count2 c = count3→count2 (c .before .before .before)
+
+abbrev else4→else2 : tie.Else4 → tie.Else2
+else4→else2 c = count3→else2 (c .before .before .before)
+
+returns : tie.Need-returns
+unfolding gapOf
+returns c = rw (ne-eqb _ _ (λ e. c .if1 .taken (c .before .count .ensures ∙ e))) refl
+
+returns-2 : tie.Need-returns-2
+unfolding gapOf
+returns-2 c =
+    rw (
+      eq-eqb _ _ (sym (c .before .before .before .count .ensures) ∙ c .before .before .if1 .left),
+      ne-eqb _ _ (λ e. c .if2 .taken (c .before .count2 .ensures ∙ e)),
+    ) refl
+
+returns-3 : tie.Need-returns-3
+unfolding gapOf
+returns-3 c =
+    rw (
+      eq-eqb _ _ (sym (then3→count c .count .ensures) ∙ then3→else1 c .if1 .left),
+      eq-eqb _ _ (sym (c .before .before .before .count2 .ensures) ∙ c .before .before .if2 .left),
+      ne-eqb _ _ (λ e. c .if3 .taken (c .before .count3 .ensures ∙ e)),
+    ) refl
+
+returns-4 : tie.Need-returns-4
+unfolding gapOf
+returns-4 c =
+    rw (
+      eq-eqb _ _ (sym (then4→count c .count .ensures) ∙ then4→else1 c .if1 .left),
+      eq-eqb _ _ (sym (then4→count2 c .count2 .ensures) ∙ then4→else2 c .if2 .left),
+      eq-eqb _ _ (sym (c .before .before .before .count3 .ensures) ∙ c .before .before .if3 .left),
+      ne-eqb _ _ (λ e. c .if4 .taken (c .before .count4 .ensures ∙ e)),
+    ) refl
+
+returns-5 : tie.Need-returns-5
+unfolding gapOf
+returns-5 c =
+    rw (
+      eq-eqb _ _ (sym (else4→count c .count .ensures) ∙ else4→else1 c .if1 .left),
+      eq-eqb _ _ (sym (else4→count2 c .count2 .ensures) ∙ else4→else2 c .if2 .left),
+      eq-eqb _ _ (sym (c .before .before .before .count3 .ensures) ∙ c .before .before .if3 .left),
+      eq-eqb _ _ (sym (c .before .count4 .ensures) ∙ c .if4 .left),
+    ) refl
+
+pub first-gap-spec : {M : Type 1} → statement M
+first-gap-spec =
+    tie.close
+    (tie.spec
+    (λ c κs. search needs)
+    returns
+    (λ c κs. search needs)
+    returns-2
+    (λ c κs. search needs)
+    returns-3
+    (λ c κs. search needs)
+    returns-4
+    returns-5)
