@@ -820,6 +820,9 @@ static int32_t plain_record(Gauge *g, int32_t room_left, int32_t kind, const byt
 }
 
 /* Runs the session's records; the replies are printed and only their room is counted. */
+/* The first image that a session refused: its record and its answer; 0 where none was. */
+static int32_t refused_record, refused_answer;
+
 static void run_session(Subject of, const byte *session, int32_t size, int printing)
 {
     int32_t at = 0, room_left = REPLY_ROOM;
@@ -843,6 +846,10 @@ static void run_session(Subject of, const byte *session, int32_t size, int print
         char kind_text[8];
         int32_t answer = of.tray != NULL ? tray_record(of.tray, room_left, kind, header + 4, length, reply, &replied)
                                          : plain_record(of.gauge, room_left, kind, header + 4, length, reply, &replied);
+        if (refused_record == 0 && answer != 0 && (kind == 1 || kind == 8)) {
+            refused_record = number;
+            refused_answer = answer;
+        }
         room_left -= replied;
         at += 4 + length;
         snprintf(kind_text, sizeof kind_text, "%04x", (unsigned)kind);
@@ -1362,6 +1369,19 @@ static int hold_figures(void)
 static Gauge gauge; /* all zeros: no image was accepted */
 static Tray tray;
 
+/* What it means that an image is refused. */
+static const char *refusal_meaning(int32_t answer)
+{
+    switch (answer) {
+    case 4: return "it is not 60 bytes (61 in kind 8)";
+    case 5: return "it comes after an event or after eight images";
+    case 6: return "its address has another family code or a wrong CRC";
+    case 7: return "its lock byte is above 3";
+    case 10: return "its breakpoints are crossed or above 40 degrees";
+    default: return "its address is there already"; /* 12 */
+    }
+}
+
 /* The image of a gauge at the end of a session of so many bytes, or why there is none (W8.18). */
 static int image_at_end(const Gauge *g, int32_t size, const char *none)
 {
@@ -1371,7 +1391,10 @@ static int image_at_end(const Gauge *g, int32_t size, const char *none)
         return 1;
     }
     if (!g->accepted) {
-        fprintf(stderr, "5: %s\n", none);
+        fprintf(stderr, "5: %s", none);
+        if (refused_record != 0)
+            fprintf(stderr, "; the first that was refused, record %d, got %d: %s", (int)refused_record, (int)refused_answer, refusal_meaning(refused_answer));
+        fprintf(stderr, "\n");
         return 1;
     }
     fwrite(image, 1, (size_t)take_image_out(g, image), stdout);

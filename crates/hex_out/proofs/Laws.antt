@@ -10,23 +10,26 @@ use Rattle.numbers.specs.Choice.{both}
 use Rattle.slices.proofs.Laws.{put-front}
 use Rattle.streams.specs.declared.Said.{Said}
 use Rattle.streams.specs.declared.Stream.the-variants.{Output}
-use Rattle.streams.specs.Streams.{Front, CountWithin, Saying, error, refusedText}
+use Rattle.streams.specs.Streams.{Front, CountWithin, Speech, Saying, error, refusedText}
+use Rattle.digits.specs.Ascii.{ascii}
 use Rattle.streams.proofs.Laws.{cut, seen}
 use Rattle.record.specs.Image.{imageSize, imageBlock}
-use Rattle.record.specs.Record.{judgedAmong}
+use Rattle.record.specs.declared.Refusal.the-variants.{Size}
+use Rattle.record.specs.declared.Taken.the-variants as taken
+use Rattle.record.specs.Record.{judgedAmong, judgedOf}
 use Rattle.hex.specs.declared.HexRefusal.{HexRefusal}
 use Rattle.hex.specs.declared.HexRefusal.the-variants.{Image}
 use Rattle.hex.specs.declared.Answer.{Answer}
 use Rattle.hex.specs.declared.Answer.the-variants.{Done, Refused}
 use Rattle.hex.specs.Export.{hexRefusalNumber, imageAccepted, bothAccepted, exportLabel, exportText, exportSize, exportAnswer, Exporting}
 use Rattle.hex.proofs.Texts.{granted, label-sized, block-sized, text-length}
-use Rattle.hex_out.specs.HexOut.{hexOutRefusalWords, hexOutBy, hexOutSpeech}
+use Rattle.hex_out.specs.HexOut.{sideWords, refusedSideWords, hexOutRefusalWords, hexOutBy, hexOutSpeech}
 
 -- a refusal, by its number and its words
-pub why-said : {why x : HexRefusal} {number : ℕ} {room after : List ℕ} {r : Said} → why ≡ x → number ≡ hexRefusalNumber why
-    → Saying (error (refusedText number (hexOutRefusalWords x))) room r after →
-    Saying (error (refusedText (hexRefusalNumber why) (hexOutRefusalWords why))) room r after
-why-said is told w = rw (← told, is) w
+pub why-said : {why x : HexRefusal} (pack factory : List ℕ) {number : ℕ} {room after : List ℕ} {r : Said} → why ≡ x
+    → number ≡ hexRefusalNumber why → Saying (error (refusedText number (hexOutRefusalWords x pack factory))) room r after →
+    Saying (error (refusedText (hexRefusalNumber why) (hexOutRefusalWords why pack factory))) room r after
+why-said pack factory is told w = rw (← told, is) w
 
 -- ---- what is said of what `write` told, with room for the whole text
 
@@ -51,28 +54,39 @@ module _ {pack factory room after : List ℕ} {answer : Answer} (w : Exporting p
       })
 
   pub refusal-said : {why : HexRefusal} {r : Said} {last : List ℕ} → answer ≡ Refused why →
-      Saying (error (refusedText (hexRefusalNumber why) (hexOutRefusalWords why))) after r last
+      Saying (error (refusedText (hexRefusalNumber why) (hexOutRefusalWords why pack factory))) after r last
       → Saying (hexOutSpeech pack factory) room r last
   unfolding hexOutSpeech
   refusal-said is said = rw (answered ∙ is) (rw (rw (sym (w .answer) ∙ is) at (w .written)) at said)
 
 -- ---- of a file that is too long the bytes do not matter
 
-long-refused : (image : List ℕ) → imageSize < length image → imageAccepted image ≡ false
+long-judged : (image : List ℕ) → imageSize < length image → judgedOf image ≡ taken.Refused Size
 unfolding judgedAmong
-long-refused image long = rw (ne-eqb (length image) imageSize (λ e. omega arith)) refl
+long-judged image long = rw (ne-eqb (length image) imageSize (λ e. omega arith)) refl
 
-refused-by : (pack factory : List ℕ) → bothAccepted pack factory ≡ false → hexOutSpeech pack factory ≡ hexOutBy (Refused Image) [] []
+none-judged : judgedOf [] ≡ taken.Refused Size
+unfolding judgedAmong
+none-judged = refl
+
+refused-by : (pack factory : List ℕ) → bothAccepted pack factory ≡ false → hexOutSpeech pack factory ≡ hexOutBy (Refused Image) pack factory
 unfolding hexOutSpeech exportAnswer
 refused-by pack factory e = rw e refl
 
-long-pack : (factory pack : List ℕ) → imageSize < length pack → hexOutSpeech pack factory ≡ hexOutBy (Refused Image) [] []
-unfolding bothAccepted
-long-pack factory pack long = refused-by pack factory (rw (long-refused pack long) refl)
+-- what is said of a pack's image that is too long
+abbrev longSpeech : Speech
+longSpeech = error (refusedText 44 (sideWords (ascii "pack") 4))
 
-long-factory : (pack factory : List ℕ) → imageSize < length factory → hexOutSpeech pack factory ≡ hexOutBy (Refused Image) [] []
-unfolding bothAccepted
-long-factory pack factory long = refused-by pack factory (rw (long-refused factory long) (last (imageAccepted pack)))
+long-pack : (factory pack : List ℕ) → imageSize < length pack → hexOutSpeech pack factory ≡ longSpeech
+unfolding bothAccepted refusedSideWords
+long-pack factory pack long =
+    refused-by pack factory (rw (long-judged pack long) refl) ∙ rw (long-judged pack long) refl
+
+long-factory : (pack factory : List ℕ) → imageSize < length factory → hexOutSpeech pack factory ≡ hexOutSpeech pack []
+unfolding bothAccepted refusedSideWords
+long-factory pack factory long =
+    refused-by pack factory (rw (long-judged factory long) (last (imageAccepted pack)))
+    ∙ rw (long-judged factory long) (sym (refused-by pack [] (rw none-judged (last (imageAccepted pack))) ∙ rw none-judged refl))
   where
     last : (s : Bool) → both s false ≡ false
     last true = refl
@@ -85,5 +99,5 @@ pub both-seen : {pack factory s t : List ℕ} {i j n m : ℕ} → length pack �
 both-seen {pack} {factory} {s} {t} {i} {j} {n} {m} one two first second front other =
     ap (λ (l : List ℕ). hexOutSpeech l (take m factory)) (cut first)
     ∙ ap (hexOutSpeech (take i pack)) (cut second)
-    ∙ seen (λ l. hexOutSpeech l (take j factory)) (hexOutBy (Refused Image) [] []) imageSize (long-pack (take j factory)) one front
-    ∙ seen (hexOutSpeech s) (hexOutBy (Refused Image) [] []) imageSize (long-factory s) two other
+    ∙ seen (λ l. hexOutSpeech l (take j factory)) longSpeech imageSize (long-pack (take j factory)) one front
+    ∙ seen (hexOutSpeech s) (hexOutSpeech s []) imageSize (long-factory s) two other

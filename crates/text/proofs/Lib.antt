@@ -3,6 +3,7 @@ pub mod Unique
 pub mod Laws
 pub mod Going
 pub mod Lines
+pub mod Refused
 pub mod Printed
 pub mod AtEnd
 pub mod TakenOut

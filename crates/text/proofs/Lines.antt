@@ -9,10 +9,10 @@ use Rattle.runs.specs.Run.{Line, codeOf, codesOf, repliesOf}
 use Rattle.runs.proofs.Lines.{AllCoded}
 use Rattle.text.specs.Text.{codeKind, codeAnswer, codeReplied, linesText, codesText}
 
-code-kind : (kind answer replied : ℕ) → kind < 65536 → codeKind (codeOf kind answer replied) ≡ kind
+pub code-kind : (kind answer replied : ℕ) → kind < 65536 → codeKind (codeOf kind answer replied) ≡ kind
 code-kind kind answer replied h = omega arith
 
-code-answer : (kind answer replied : ℕ) → kind < 65536 → answer < 256 → codeAnswer (codeOf kind answer replied) ≡ answer
+pub code-answer : (kind answer replied : ℕ) → kind < 65536 → answer < 256 → codeAnswer (codeOf kind answer replied) ≡ answer
 code-answer kind answer replied h k = omega arith
 
 code-replied : (kind answer replied : ℕ) → kind < 65536 → answer < 256 → codeReplied (codeOf kind answer replied) ≡ replied

@@ -39,16 +39,21 @@ module _ {S : Type 0} (did : S → ℕ → Rec → Did S) (start : S) (f : Fits 
   sized Over idle = (ap length (idle .answered), ap length (idle .replies))
 
   module _ (bytes : Bytes s) where
+    -- as many of the answers as there are lines
+    pub codes-told : (length s + 3) / 4 ≤ length answers → Running did start s room answers r after told
+        → take (r .lines) told ≡ codesOf (lines (length room))
+    codes-told h run =
+        let ls = lines (length room) in
+        let few : length (codesOf ls) ≤ length answers = omega (arith, codes-length ls, lines-few did start (length room) s) in
+        rw (run .answered) (front answers (codesOf ls) (r .lines) (run .lines ∙ sym (codes-length ls)) few)
+
     told-done : (length s + 3) / 4 ≤ length answers → Running did start s room answers r after told
         → codedText (r .outcome) (take (r .lines) told) (take (r .replied) after) ≡ textOf Done (lines (length room))
     told-done h run =
         let ls = lines (length room) in
-        let few : length (codesOf ls) ≤ length answers = omega (arith, codes-length ls, lines-few did start (length room) s) in
-        let codes : take (r .lines) told
-        ≡ codesOf ls = rw (run .answered) (front answers (codesOf ls) (r .lines) (run .lines ∙ sym (codes-length ls)) few) in
         let replies : take (r .replied) after
         ≡ repliesOf ls = rw (run .replies) (front room (repliesOf ls) (r .replied) (run .replied) (lines-fit did f start (length room) (recsOf s))) in
-        rw (run .outcome, codes, replies, ← append-nil (repliesOf ls))
+        rw (run .outcome, codes-told h run, replies, ← append-nil (repliesOf ls))
         (ap (λ (t : List ℕ). headerText ++ t) (codes-lines 1 ls [] (lines-coded did f start (length room) s bytes)))
 
     told-text : (o : Outcome) → outcomeOf (length s) ≡ o → 8192 ≡ length answers → RunsTo did start o s room answers r after told

@@ -1,8 +1,8 @@
--- The image of a pack taken out into a room of 61 bytes, of a session or of a slot of a tray: what is said by the answer and the room.
+-- The image of a pack taken out into a room of 61 bytes or more, of a session or of a slot of a tray: what is said by the answer and the room.
 use mathlib.Core.Path.{_≡_, refl, sym, ap, _∙_}
 use mathlib.Core.Bool.{Bool, true, false}
 use mathlib.Core.List.{List, _++_}
-use Prim.Native.Nat.{ℕ}
+use Prim.Native.Nat.{ℕ, _≤_}
 use native.Mathlib.Omega.{arith}
 use borrow.Author.Tests.{le-leb}
 use lib.Dec.{leb}
@@ -24,7 +24,7 @@ pub record OutOf (held : Bool) (gauge : Gauge) (room : List ℕ) (answer : ℕ) 
   pub number : answer ≡ pick held (pick (leb (sizeFor gauge) (length room)) 0 (refusalNumber Room)) (refusalNumber Order)
   pub written : after ≡ pick held (roomAfter (leb (sizeFor gauge) (length room)) gauge room) room
 
-module _ {held : Bool} {gauge : Gauge} {room after : List ℕ} {answer : ℕ} (t : OutOf held gauge room answer after) (size : length room ≡ 61)
+module _ {held : Bool} {gauge : Gauge} {room after : List ℕ} {answer : ℕ} (t : OutOf held gauge room answer after) (size : 61 ≤ length room)
     (words : List ℕ) where
   long : leb (sizeFor gauge) (length room) ≡ true
   long = le-leb (sizeFor gauge) (length room) (omega (arith, size-few gauge))

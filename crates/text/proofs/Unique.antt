@@ -8,6 +8,8 @@ use Rattle.text.proofs.put_bare_end
 use Rattle.text.proofs.put_end
 use Rattle.text.proofs.report
 use Rattle.text.proofs.put_unrun
+use Rattle.text.proofs.put_meaning
+use Rattle.text.proofs.put_no_image
 
 pub put-fields-once : Once put_fields.ended put_fields.Reads.Pre put_fields.Reads.Learnt
 put-fields-once κs a r r′ w w′ p h h′ = (h .onward ∙ sym (h′ .onward), λ i. (tt, (tt, (tt, ((h .written ∙ sym (h′ .written)) i, (tt, tt))))))
@@ -26,3 +28,9 @@ report-once κs a r r′ w w′ p h h′ = (h .counted ∙ sym (h′ .counted), 
 
 pub put-unrun-once : Once put_unrun.ended put_unrun.Reads.Pre put_unrun.Reads.Learnt
 put-unrun-once κs a r r′ w w′ p h h′ = (same-said h h′, λ i. (tt, (same-room h h′ i, tt)))
+
+pub put-meaning-once : Once put_meaning.ended put_meaning.Reads.Pre put_meaning.Reads.Learnt
+put-meaning-once κs a r r′ w w′ p h h′ = (h .onward ∙ sym (h′ .onward), λ i. (tt, ((h .written ∙ sym (h′ .written)) i, (tt, tt))))
+
+pub put-no-image-once : Once put_no_image.ended put_no_image.Reads.Pre put_no_image.Reads.Learnt
+put-no-image-once κs a r r′ w w′ p h h′ = (same-said h h′, λ i. (tt, (tt, (tt, (tt, (same-room h h′ i, tt))))))

@@ -3,9 +3,9 @@ use mathlib.Core.Path.{_≡_}
 use mathlib.Core.Bool.{Bool}
 use mathlib.Core.List.{List, [], _∷_, _++_}
 use Prim.Native.Nat.{ℕ, _+_, _*_, _/_, _%_, _≤_}
-use lib.Dec.{leb}
+use lib.Dec.{eqb, leb, ltb}
 use lib.ListN.{length, take, drop}
-use Rattle.numbers.specs.Choice.{pick, both}
+use Rattle.numbers.specs.Choice.{pick, both, either}
 use Rattle.slices.specs.Slices.{put}
 use Rattle.digits.specs.Ascii.{ascii}
 use Rattle.digits.specs.Digits.{decimalText}
@@ -116,3 +116,34 @@ ranSpeech Over said = unrunSpeech Over
 -- it goes to standard output; where there is none, 5 and what that means go to standard error
 abbrev pub packSpeech : Bool → Gauge → List ℕ → Speech
 packSpeech held gauge words = pick held (output (bytesOf gauge)) (error (refusedText (refusalNumber Order) words))
+
+-- ---- why no image was accepted
+
+-- what the refusal of an image means, by its number
+unfoldable pub imageMeaning : ℕ → List ℕ
+imageMeaning answer =
+    pick (eqb answer 4) (ascii "it is not 60 bytes (61 in kind 8)")
+    (pick (eqb answer 5) (ascii "it comes after an event or after eight images")
+    (pick (eqb answer 6) (ascii "its address has another family code or a wrong CRC")
+    (pick (eqb answer 7) (ascii "its lock byte is above 3")
+    (pick (eqb answer 10) (ascii "its breakpoints are crossed or above 40 degrees")
+    (pick (eqb answer 12) (ascii "its address is there already") (ascii "it is refused"))))))
+
+-- whether a line is of an image, kind 1 or 8, that was refused
+unfoldable pub refusedImage : ℕ → ℕ → Bool
+refusedImage kind answer = both (either (eqb kind 1) (eqb kind 8)) (ltb 0 answer)
+
+-- such a line by its number, its answer and what that means
+abbrev pub refusedImageText : ℕ → ℕ → List ℕ
+refusedImageText number answer =
+    ascii "; the first that was refused, record " ++ (decimalText number ++ (ascii ", got " ++ (decimalText answer ++ (ascii ": " ++ imageMeaning answer))))
+
+-- the first such line, of lines that are numbered from a number on; nothing where there is none
+abbrev pub firstRefused : ℕ → List Line → List ℕ
+firstRefused number [] = []
+firstRefused number (l ∷ ls) = pick (refusedImage (l .kind) (l .answer)) (refusedImageText number (l .answer)) (firstRefused (number + 1) ls)
+
+-- the same of lines as `run` hands them back
+abbrev pub firstCoded : ℕ → List ℕ → List ℕ
+firstCoded number [] = []
+firstCoded number (c ∷ cs) = pick (refusedImage (codeKind c) (codeAnswer c)) (refusedImageText number (codeAnswer c)) (firstCoded (number + 1) cs)

@@ -6,11 +6,13 @@ use streams::Stream;
 ghost use mathlib.Core.Path.{_≡_};
 ghost use mathlib.Core.List.{[]};
 ghost use Prim.Native.Nat.{_+_, _*_, _≤_, _<_};
-ghost use lib.ListN.{length};
+ghost use lib.ListN.{length, take};
 ghost use Rattle.digits.specs.Digits.{lower, pairsOf, Writing};
-ghost use Rattle.streams.specs.Streams.{Saying};
+ghost use Rattle.streams.specs.Streams.{Saying, error, refusedText};
 ghost use Rattle.text.specs.Line.{kindText, fieldsText, endText};
 ghost use Rattle.text.specs.Text.{codesText, headerText, overText, codedText, mostOf, fitsOf, Held, endedText, Reporting, unrunSpeech};
+ghost use mathlib.Core.List.{_++_};
+ghost use Rattle.text.specs.Text.{imageMeaning, refusedImage, refusedImageText, firstCoded};
 
 fn put_kind(table: &[u8; 512], kind: usize, answer: usize, out: &mut [u8], at: usize) -> usize
     requires { ⌜ now table ≡ pairsOf lower ⌝ }
@@ -192,5 +194,99 @@ pub fn put_unrun(outcome: Outcome, room: &mut [u8]) -> Said
             b"the session is over 32,768 bytes",
             room,
         ),
+    }
+}
+
+// ---- why no image was accepted
+
+// What the refusal of an image means, by its number.
+pub fn put_meaning(answer: u8, out: &mut [u8], at: usize) -> usize
+    requires { ⌜ at + 50 ≤ length (now out) ⌝ }
+    ensures { λ r. ⌜ Writing 50 (imageMeaning answer) (now (out .entry)) at r (now (out .exit)) ⌝ }
+{
+    if answer == 4 {
+        return digits::put_bytes(b"it is not 60 bytes (61 in kind 8)", out, at);
+    }
+    if answer == 5 {
+        return digits::put_bytes(b"it comes after an event or after eight images", out, at);
+    }
+    if answer == 6 {
+        return digits::put_bytes(
+            b"its address has another family code or a wrong CRC",
+            out,
+            at,
+        );
+    }
+    if answer == 7 {
+        return digits::put_bytes(b"its lock byte is above 3", out, at);
+    }
+    if answer == 10 {
+        return digits::put_bytes(b"its breakpoints are crossed or above 40 degrees", out, at);
+    }
+    if answer == 12 {
+        return digits::put_bytes(b"its address is there already", out, at);
+    }
+    digits::put_bytes(b"it is refused", out, at)
+}
+
+fn refused_image(kind: u64, answer: u8) -> bool
+    ensures { λ r. ⌜ r ≡ refusedImage kind answer ⌝ }
+{
+    numbers::and(numbers::or(kind == 1, kind == 8), 0 < answer)
+}
+
+fn put_refused_image(number: usize, answer: u8, out: &mut [u8], at: usize) -> usize
+    requires { ⌜ number < 100000 ⌝ }
+    requires { ⌜ at + 105 ≤ length (now out) ⌝ }
+    ensures { λ r. ⌜ Writing 105 (refusedImageText number answer) (now (out .entry)) at r (now (out .exit)) ⌝ }
+{
+    let a = digits::put_bytes(b"; the first that was refused, record ", out, at);
+    let b = digits::put_decimal(number, out, a);
+    let c = digits::put_bytes(b", got ", out, b);
+    let d = digits::put_decimal(answer as usize, out, c);
+    let e = digits::put_bytes(b": ", out, d);
+    put_meaning(answer, out, e)
+}
+
+fn put_first_refused(codes: &[u64], out: &mut [u8], at: usize) -> usize
+    requires { ⌜ length (now codes) < 100000 ⌝ }
+    requires { ⌜ at + 105 ≤ length (now out) ⌝ }
+    ensures { λ r. ⌜ Writing 105 (firstCoded 1 (now (codes .entry))) (now (out .entry)) at r (now (out .exit)) ⌝ }
+{
+    let mut i = 0;
+    while i < codes.len() {
+        let code = codes[i];
+        let answer = (code / 65536 % 256) as u8;
+        if refused_image(code % 65536, answer) {
+            return put_refused_image(i + 1, answer, out, at);
+        }
+        i += 1;
+    }
+    at
+}
+
+// That no image was accepted, in words, and which was refused first, of as many of the lent answers as the run has lines.
+pub fn put_no_image(
+    number: u8,
+    words: &[u8],
+    lines: usize,
+    answers: &[u64],
+    room: &mut [u8],
+) -> Said
+    requires { ⌜ length (now answers) < 100000 ⌝ }
+    requires { ⌜ length (now words) + 113 ≤ length (now room) ⌝ }
+    ensures { λ r. ⌜ Saying (error (refusedText number (now (words .entry) ++ firstCoded 1 (take lines (now (answers .entry))))))
+        (now (room .entry)) r (now (room .exit)) ⌝ }
+{
+    let few = slices::lesser(lines, answers.len());
+    let a = digits::put_decimal(number as usize, room, 0);
+    let b = digits::put_bytes(b": ", room, a);
+    let c = digits::put_bytes(words, room, b);
+    let d = put_first_refused(&answers[..few], room, c);
+    let count = digits::put_byte(b'\n', room, d);
+    let stream = Stream::Error;
+    Said {
+        stream: stream,
+        count: count,
     }
 }

@@ -6,7 +6,10 @@ use lib.ListN.{length}
 use Rattle.numbers.specs.Choice.{pick}
 use Rattle.streams.specs.Streams.{Speech, error}
 use Rattle.runs.specs.declared.Outcome.the-variants.{Over}
-use Rattle.text.specs.Text.{unrunSpeech}
+use Rattle.runs.specs.Record.{recsOf}
+use Rattle.runs.specs.Run.{linesAfter}
+use Rattle.tray_record.specs.Tray.{emptyTray, trayDid}
+use Rattle.text.specs.Text.{unrunSpeech, firstRefused}
 use Rattle.text.proofs.Printed.{over-said}
 use Rattle.tray_image.specs.TrayImage.{isNumber, slotOf, noNumberText, trayAtEnd, slotSpeech, trayImageSpeech, wordSpeech}
 
@@ -15,4 +18,4 @@ overSpeech word = pick (isNumber word) (unrunSpeech Over) (error noNumberText)
 
 pub alike : (word s : List ℕ) → 32768 < length s → wordSpeech word s ≡ overSpeech word
 unfolding wordSpeech trayImageSpeech
-alike word s h = rw (over-said s (slotSpeech (trayAtEnd s) (slotOf word)) h) refl
+alike word s h = rw (over-said s (slotSpeech (trayAtEnd s) (slotOf word) (firstRefused 1 (linesAfter trayDid emptyTray 65536 (recsOf s)))) h) refl

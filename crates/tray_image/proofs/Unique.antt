@@ -21,7 +21,7 @@ pub put-no-number-once : Once put_no_number.ended put_no_number.Reads.Pre put_no
 put-no-number-once κs a r r′ w w′ p h h′ = (same-said h h′, λ i. (same-room h h′ i, tt))
 
 pub put-image-once : Once put_image.ended put_image.Reads.Pre put_image.Reads.Learnt
-put-image-once κs a r r′ w w′ p h h′ = (same-said h h′, λ i. (tt, (tt, (same-room h h′ i, tt))))
+put-image-once κs a r r′ w w′ p h h′ = (same-said h h′, λ i. (tt, (tt, (tt, (tt, (same-room h h′ i, tt))))))
 
 pub put-taken-once : Once put_taken.ended put_taken.Reads.Pre put_taken.Reads.Learnt
 put-taken-once κs a r r′ w w′ p h h′ = (same-said h h′, λ i. (tt, (tt, (same-room h h′ i, tt))))

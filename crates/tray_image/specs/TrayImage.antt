@@ -1,6 +1,6 @@
 -- What the program says of a tray session and of a word of its call, SLOT: the pack image taken out of that slot at the end, or why there is none.
 use mathlib.Core.Bool.{Bool, true}
-use mathlib.Core.List.{List, [], _∷_}
+use mathlib.Core.List.{List, [], _∷_, _++_}
 use Prim.Native.Nat.{ℕ, _+_, _-_, _*_, min}
 use lib.Dec.{ltb, leb}
 use lib.ListN.{length}
@@ -8,11 +8,11 @@ use Rattle.numbers.specs.Choice.{pick, both}
 use Rattle.digits.specs.Ascii.{ascii}
 use Rattle.streams.specs.Streams.{Speech, error, unreadText}
 use Rattle.runs.specs.Record.{recsOf}
-use Rattle.runs.specs.Run.{endAfter, outcomeOf}
+use Rattle.runs.specs.Run.{linesAfter, endAfter, outcomeOf}
 use Rattle.tray_record.specs.declared.Tray.{Tray}
 use Rattle.tray_record.specs.Tray.{emptyTray, packOf, trayDid}
 use Rattle.tray_run.specs.TrayRun.{slotHeld}
-use Rattle.text.specs.Text.{ranSpeech, packSpeech}
+use Rattle.text.specs.Text.{ranSpeech, packSpeech, firstRefused}
 
 -- ---- SLOT, in decimal digits
 
@@ -53,13 +53,13 @@ slotWords = ascii "no image was accepted for this slot"
 unfoldable pub trayAtEnd : List ℕ → Tray
 trayAtEnd s = endAfter trayDid emptyTray 65536 (recsOf s)
 
--- the image goes to standard output, 5 for a slot without an image to standard error
-abbrev pub slotSpeech : Tray → ℕ → Speech
-slotSpeech tray i = packSpeech (slotHeld tray i) (packOf tray i) slotWords
+-- the image goes to standard output, 5 for a slot without an image to standard error, with the first image that was refused
+abbrev pub slotSpeech : Tray → ℕ → List ℕ → Speech
+slotSpeech tray i first = packSpeech (slotHeld tray i) (packOf tray i) (slotWords ++ first)
 
 -- and so does the refusal of a session that was not run, with an answer lent for each record that 32,768 bytes can hold
 unfoldable pub trayImageSpeech : ℕ → List ℕ → Speech
-trayImageSpeech i s = ranSpeech (outcomeOf (length s)) (slotSpeech (trayAtEnd s) i)
+trayImageSpeech i s = ranSpeech (outcomeOf (length s)) (slotSpeech (trayAtEnd s) i (firstRefused 1 (linesAfter trayDid emptyTray 65536 (recsOf s))))
 
 -- of any word
 unfoldable pub wordSpeech : List ℕ → List ℕ → Speech

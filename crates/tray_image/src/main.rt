@@ -7,8 +7,9 @@ use tray_record::Tray;
 ghost use mathlib.Core.Path.{_≡_};
 ghost use mathlib.Core.List.{List};
 ghost use Prim.Native.Nat.{ℕ};
-ghost use lib.ListN.{length};
+ghost use lib.ListN.{length, take};
 ghost use Rattle.streams.specs.Streams.{Front, Saying, error};
+ghost use Rattle.text.specs.Text.{firstCoded};
 ghost use Rattle.tray_image.specs.TrayImage.{isNumber, slotOf, noNumberText, slotSpeech, trayImageSpeech, wordSpeech, trayImageOf};
 
 // ---- SLOT
@@ -43,7 +44,7 @@ fn slot_of(word: &[u8]) -> u8
 }
 
 fn put_no_number(room: &mut [u8]) -> Said
-    requires { ⌜ length (now room) ≡ 61 ⌝ }
+    requires { ⌜ length (now room) ≡ 160 ⌝ }
     ensures { λ r. ⌜ Saying (error noNumberText) (now (room .entry)) r (now (room .exit)) ⌝ }
 {
     let count = digits::put_bytes(b"tray_image: SLOT is no number\n", room, 0);
@@ -56,10 +57,11 @@ fn put_no_number(room: &mut [u8]) -> Said
 
 // ---- the image
 
-// The image of a slot of a session that was run to its end.
-fn put_image(tray: Tray, slot: u8, room: &mut [u8]) -> Said
-    requires { ⌜ length (now room) ≡ 61 ⌝ }
-    ensures { λ r. ⌜ Saying (slotSpeech tray slot) (now (room .entry)) r (now (room .exit)) ⌝ }
+// The image of a slot of a session that was run to its end, and has so many lines.
+fn put_image(tray: Tray, slot: u8, lines: usize, answers: &[u64], room: &mut [u8]) -> Said
+    requires { ⌜ length (now answers) ≡ 8192 ⌝ }
+    requires { ⌜ length (now room) ≡ 160 ⌝ }
+    ensures { λ r. ⌜ Saying (slotSpeech tray slot (firstCoded 1 (take lines (now (answers .entry))))) (now (room .entry)) r (now (room .exit)) ⌝ }
 {
     let answer = tray_run::take_out(tray, slot, room);
     if answer == 0 {
@@ -70,11 +72,17 @@ fn put_image(tray: Tray, slot: u8, room: &mut [u8]) -> Said
             count: count,
         };
     }
-    streams::put_refused(answer, b"no image was accepted for this slot", room)
+    text::put_no_image(
+        answer,
+        b"no image was accepted for this slot",
+        lines,
+        answers,
+        room,
+    )
 }
 
 fn put_taken(bytes: &[u8], slot: u8, room: &mut [u8]) -> Said
-    requires { ⌜ length (now room) ≡ 61 ⌝ }
+    requires { ⌜ length (now room) ≡ 160 ⌝ }
     ensures { λ r. ⌜ Saying (trayImageSpeech slot (now (bytes .entry))) (now (room .entry)) r (now (room .exit)) ⌝ }
 {
     let mut replies = [0u8; 65536];
@@ -84,13 +92,13 @@ fn put_taken(bytes: &[u8], slot: u8, room: &mut [u8]) -> Said
     let outcome = ended.outcome;
     let tray = ran.tray;
     match outcome {
-        Outcome::Done => put_image(tray, slot, room),
+        Outcome::Done => put_image(tray, slot, ended.lines, &answers, room),
         Outcome::Over => text::put_unrun(Outcome::Over, room),
     }
 }
 
 fn put_asked(word: &[u8], bytes: &[u8], room: &mut [u8]) -> Said
-    requires { ⌜ length (now room) ≡ 61 ⌝ }
+    requires { ⌜ length (now room) ≡ 160 ⌝ }
     ensures { λ r. ⌜ Saying (wordSpeech (now (word .entry)) (now (bytes .entry))) (now (room .entry)) r (now (room .exit)) ⌝ }
 {
     if is_number(word) {
@@ -100,10 +108,10 @@ fn put_asked(word: &[u8], bytes: &[u8], room: &mut [u8]) -> Said
 }
 
 // What the program says. A byte more than a session may have is enough to know of any input. (That the room keeps its length is said for `main`.)
-fn extracted(word: &[u8], input: &[u8; 32769], got: Input, room: &mut [u8; 61]) -> Said
+fn extracted(word: &[u8], input: &[u8; 32769], got: Input, room: &mut [u8; 160]) -> Said
     ensures { λ r. ⌜ ((s : List ℕ) → Front s (now (input .entry)) (got .count) →
         Saying (trayImageOf (got .failed) (now (word .entry)) s) (now (room .entry)) r (now (room .exit))) ⌝ }
-    ensures { λ _. ⌜ 61 ≡ length (now (room .exit)) ⌝ }
+    ensures { λ _. ⌜ 160 ≡ length (now (room .exit)) ⌝ }
 {
     if got.failed {
         return streams::put_unread(b"tray_image", room);
@@ -118,7 +126,7 @@ fn main() {
     let length = os::arg(1, &mut word);
     let mut input = [0u8; 32769];
     let got = streams::read_input(&mut input);
-    let mut room = [0u8; 61];
+    let mut room = [0u8; 160];
     let said = extracted(&word[..length], &input, got, &mut room);
     streams::say(b"tray_image", said, &room);
 }

@@ -179,5 +179,5 @@ TRAYS = [
     ("W8.18-slot-8-is-slot-0", IMAGE_SLOT, "slot < SLOTS ? &tray.packs[slot] : &tray.packs[0]"),
     ("W8.18-missing-slot-is-the-last", IMAGE_SLOT, "slot < tray.count ? &tray.packs[slot] : tray.count > 0 ? &tray.packs[tray.count - 1] : &none"),
     ("W8.18-missing-slot-is-zeros", "    if (!g->accepted) {", "    if (!g->accepted && !tray.closed) {"),
-    ("W8.18-missing-slot-is-9", 'fprintf(stderr, "5: %s\\n", none);', 'fprintf(stderr, "9: %s\\n", none);'),
+    ("W8.18-missing-slot-is-9", 'fprintf(stderr, "5: %s", none);', 'fprintf(stderr, "9: %s", none);'),
 ]

@@ -7,7 +7,11 @@ use lib.ListN.{length}
 use denote.Ref.{now}
 use Rattle.runs.specs.declared.Outcome.the-variants.{Over}
 use Rattle.streams.proofs.Laws.{cut, seen}
-use Rattle.text.specs.Text.{unrunSpeech}
+use Rattle.runs.specs.Record.{recsOf}
+use Rattle.runs.specs.Run.{linesAfter}
+use Rattle.runs.specs.SessionRecord.{didOf}
+use Rattle.session_run.specs.SessionRun.{emptyOf}
+use Rattle.text.specs.Text.{unrunSpeech, firstRefused}
 use Rattle.text.proofs.Printed.{over-said}
 use Rattle.image.specs.Image.{sessionAtEnd, imageSpeech, sessionImageSpeech}
 use borrow.Author.Needs.{needs}
@@ -17,7 +21,7 @@ use Rattle.image.proofs.extracted.Tie as tie
 -- a session that is over 32,768 bytes: its bytes do not matter
 alike : (s : List ℕ) → 32768 < length s → sessionImageSpeech s ≡ unrunSpeech Over
 unfolding sessionImageSpeech
-alike s h = over-said s (imageSpeech (sessionAtEnd s)) h
+alike s h = over-said s (imageSpeech (sessionAtEnd s) (firstRefused 1 (linesAfter didOf emptyOf 65536 (recsOf s)))) h
 
 returns : tie.Need-returns
 returns c = (λ s front. rw (c .before .before .before .if1 .taken) (c .put-unread .ensures), search needs)

@@ -5,6 +5,7 @@ use lib.ListN.{replicate, length-replicate}
 use denote.Ref.{now}
 use Rattle.runs.specs.declared.Outcome.the-variants.{Over}
 use Rattle.runs.specs.SessionRecord.{didOf}
+use Rattle.runs.proofs.AnyRecord.{did-fits}
 use Rattle.session_run.specs.SessionRun.{emptyOf, resultOf}
 use Rattle.text.proofs.AtEnd.{AtEnd, at-end, done-said, idle-said}
 use Rattle.image.specs.Image.{sessionAtEnd, imageSpeech, sessionImageSpeech}
@@ -12,44 +13,74 @@ use borrow.Author.Needs.{needs}
 use Rattle.image.proofs.put_taken.Statement.{statement}
 use Rattle.image.proofs.put_taken.Tie as tie
 
--- where the run is over, and where the session was lent for it
-abbrev ran : tie.After-session → tie.After-run
-ran c = c .before .before .before
+-- where the session was run, and where it was lent
+abbrev known : tie.After-run → tie.After-slice-known
+known c = c .before .before .before
 
-abbrev known : tie.After-session → tie.After-slice-known
-known c = ran c .before .before .before
-
-abbrev lent : tie.After-session → tie.Start
+abbrev lent : tie.After-run → tie.Start
 lent c = known c .before .before
 
 -- what is known of its end
-ending : (c : tie.After-session) → AtEnd didOf emptyOf (now (lent c .args .bytes)) (resultOf (ran c .run .result))
+ending : (c : tie.After-run) → AtEnd didOf emptyOf (now (lent c .args .bytes)) (resultOf (c .run .result)) (c .run .last .1 .1 .0)
 ending c =
-    let run = ran c .run in
-    at-end didOf emptyOf _ (resultOf (run .result)) (replicate 65536 0) (replicate 8192 0) (run .last .1 .0) (run .last .1 .1 .0)
-    (sym (length-replicate {A = ℕ} 65536 0)) (run .ensures)
+    let run = c .run in
+    at-end didOf emptyOf _ (resultOf (run .result)) (run .last .1 .1 .0) (replicate 65536 0) (replicate 8192 0) (run .last .1 .0) did-fits
+    (λ i. known c .before .shared-slice-known .given i .fits) (sym (length-replicate {A = ℕ} 8192 0)) (sym (length-replicate {A = ℕ} 65536 0)) (run .ensures)
+
+-- places: `a→b` leads from the record of the place a back to that of the place b
+abbrev answers2→run : tie.After-answers2 → tie.After-run
+answers2→run c = c .before .before
+
+abbrev match-keys1→run : tie.At-match-keys1 → tie.After-run
+match-keys1→run c = answers2→run (c .before .before .before)
+
+abbrev put-image-arg→run : tie.After-put-image-arg → tie.After-run
+put-image-arg→run c = match-keys1→run (c .before .before .before)
+
+abbrev slice-known2→run : tie.After-slice-known2 → tie.After-run
+slice-known2→run c = put-image-arg→run (c .before .before .before)
+
+abbrev put-image-arg→enum-told : tie.After-put-image-arg → tie.After-enum-told
+put-image-arg→enum-told c = c .before .before
+
+abbrev slice-known2→enum-told : tie.After-slice-known2 → tie.After-enum-told
+slice-known2→enum-told c = put-image-arg→enum-told (c .before .before .before)
+
+abbrev session→run : tie.After-session → tie.After-run
+session→run c = answers2→run (c .before .before)
+
+abbrev put-unrun-arg→run : tie.After-put-unrun-arg → tie.After-run
+put-unrun-arg→run c = session→run (c .before .before .before)
+
+abbrev slice-known3→run : tie.After-slice-known3 → tie.After-run
+slice-known3→run c = put-unrun-arg→run (c .before .before .before)
+
+abbrev put-unrun-arg→enum-told2 : tie.After-put-unrun-arg → tie.After-enum-told2
+put-unrun-arg→enum-told2 c = c .before
+
+abbrev slice-known3→enum-told2 : tie.After-slice-known3 → tie.After-enum-told2
+slice-known3→enum-told2 c = put-unrun-arg→enum-told2 (c .before .before .before)
+
 
 returns : tie.Need-returns
 unfolding sessionImageSpeech sessionAtEnd
 returns c =
-    let said = c .before .before in
-    let told = said .before .before in
-    let end = told .before .before in
-    done-said didOf emptyOf imageSpeech _ (ending end) (told .enum-told .given .1) (said .put-image .ensures)
+    done-said didOf emptyOf imageSpeech _ _ (ending (slice-known2→run c)) (slice-known2→enum-told c .enum-told .given .1)
+    (c .before .before .put-image .ensures)
 
 returns-2 : tie.Need-returns-2
 unfolding sessionImageSpeech sessionAtEnd
 returns-2 c =
-    let said = c .before .before in
-    let told = said .before .before in
-    let end = told .before .before in
-    idle-said didOf emptyOf imageSpeech _ (ending end) Over (told .enum-told2 .given .1) (said .put-unrun .ensures)
+    idle-said didOf emptyOf imageSpeech _ _ (ending (slice-known3→run c)) Over (slice-known3→enum-told2 c .enum-told2 .given .1)
+    (c .before .before .put-unrun .ensures)
 
 pub put-taken-spec : {M : Type 1} → statement M
 put-taken-spec =
     tie.close
     (tie.spec
     (λ c. search needs)
+    (λ c. search needs)
+    (λ c κs. search needs)
     (λ c κs. search needs)
     (λ c. search needs)
     (λ c κs. search needs)

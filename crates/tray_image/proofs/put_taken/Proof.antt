@@ -1,5 +1,6 @@
 -- `tray_image::put_taken` meets its contract.
 use mathlib.Core.Path.{sym}
+use mathlib.Core.List.{List}
 use Prim.Native.Nat.{ℕ}
 use lib.ListN.{replicate, length-replicate}
 use denote.Ref.{now}
@@ -8,54 +9,85 @@ use Rattle.runs.specs.declared.Outcome.the-variants.{Over}
 use Rattle.tray_record.specs.declared.Tray.{Tray}
 use Rattle.tray_record.specs.Tray.{emptyTray, trayDid}
 use Rattle.tray_run.specs.TrayRun.{trayResultOf}
+use Rattle.tray_run.proofs.Turns.{did-fits}
 use Rattle.text.proofs.AtEnd.{AtEnd, at-end, done-said, idle-said}
 use Rattle.tray_image.specs.TrayImage.{trayAtEnd, slotSpeech, trayImageSpeech}
 use borrow.Author.Needs.{needs}
 use Rattle.tray_image.proofs.put_taken.Statement.{statement}
 use Rattle.tray_image.proofs.put_taken.Tie as tie
 
--- where the run is over, and where the session was lent for it
-abbrev ran : tie.After-tray → tie.After-run
-ran c = c .before .before .before
+-- where the session was run, and where it was lent
+abbrev known : tie.After-run → tie.After-slice-known
+known c = c .before .before .before
 
-abbrev known : tie.After-tray → tie.After-slice-known
-known c = ran c .before .before .before
-
-abbrev lent : tie.After-tray → tie.Start
+abbrev lent : tie.After-run → tie.Start
 lent c = known c .before .before
 
 -- what is said of the tray
-abbrev saidOf : tie.After-tray → Tray → Speech
-saidOf c τ = slotSpeech τ (lent c .args .slot)
+abbrev saidOf : tie.After-run → Tray → List ℕ → Speech
+saidOf c τ first = slotSpeech τ (lent c .args .slot) first
 
 -- what is known of its end
-ending : (c : tie.After-tray) → AtEnd trayDid emptyTray (now (lent c .args .bytes)) (trayResultOf (ran c .run .result))
+ending : (c : tie.After-run) → AtEnd trayDid emptyTray (now (lent c .args .bytes)) (trayResultOf (c .run .result)) (c .run .last .1 .1 .0)
 ending c =
-    let run = ran c .run in
-    at-end trayDid emptyTray _ (trayResultOf (run .result)) (replicate 65536 0) (replicate 8192 0) (run .last .1 .0) (run .last .1 .1 .0)
-    (sym (length-replicate {A = ℕ} 65536 0)) (run .ensures)
+    let run = c .run in
+    at-end trayDid emptyTray _ (trayResultOf (run .result)) (run .last .1 .1 .0) (replicate 65536 0) (replicate 8192 0) (run .last .1 .0) did-fits
+    (λ i. known c .before .shared-slice-known .given i .fits) (sym (length-replicate {A = ℕ} 8192 0)) (sym (length-replicate {A = ℕ} 65536 0)) (run .ensures)
+
+-- places: `a→b` leads from the record of the place a back to that of the place b
+abbrev answers2→run : tie.After-answers2 → tie.After-run
+answers2→run c = c .before .before
+
+abbrev match-keys1→run : tie.At-match-keys1 → tie.After-run
+match-keys1→run c = answers2→run (c .before .before .before)
+
+abbrev put-image-arg→run : tie.After-put-image-arg → tie.After-run
+put-image-arg→run c = match-keys1→run (c .before .before .before)
+
+abbrev slice-known2→run : tie.After-slice-known2 → tie.After-run
+slice-known2→run c = put-image-arg→run (c .before .before .before)
+
+abbrev put-image-arg→enum-told : tie.After-put-image-arg → tie.After-enum-told
+put-image-arg→enum-told c = c .before .before
+
+abbrev slice-known2→enum-told : tie.After-slice-known2 → tie.After-enum-told
+slice-known2→enum-told c = put-image-arg→enum-told (c .before .before .before)
+
+abbrev tray→run : tie.After-tray → tie.After-run
+tray→run c = answers2→run (c .before .before)
+
+abbrev put-unrun-arg→run : tie.After-put-unrun-arg → tie.After-run
+put-unrun-arg→run c = tray→run (c .before .before .before)
+
+abbrev slice-known3→run : tie.After-slice-known3 → tie.After-run
+slice-known3→run c = put-unrun-arg→run (c .before .before .before)
+
+abbrev put-unrun-arg→enum-told2 : tie.After-put-unrun-arg → tie.After-enum-told2
+put-unrun-arg→enum-told2 c = c .before
+
+abbrev slice-known3→enum-told2 : tie.After-slice-known3 → tie.After-enum-told2
+slice-known3→enum-told2 c = put-unrun-arg→enum-told2 (c .before .before .before)
+
 
 returns : tie.Need-returns
 unfolding trayImageSpeech trayAtEnd
 returns c =
-    let said = c .before .before in
-    let told = said .before .before in
-    let end = told .before .before in
-    done-said trayDid emptyTray (saidOf end) _ (ending end) (told .enum-told .given .1) (said .put-image .ensures)
+    done-said trayDid emptyTray (saidOf (slice-known2→run c)) _ _ (ending (slice-known2→run c)) (slice-known2→enum-told c .enum-told .given .1)
+    (c .before .before .put-image .ensures)
 
 returns-2 : tie.Need-returns-2
 unfolding trayImageSpeech trayAtEnd
 returns-2 c =
-    let said = c .before .before in
-    let told = said .before .before in
-    let end = told .before .before in
-    idle-said trayDid emptyTray (saidOf end) _ (ending end) Over (told .enum-told2 .given .1) (said .put-unrun .ensures)
+    idle-said trayDid emptyTray (saidOf (slice-known3→run c)) _ _ (ending (slice-known3→run c)) Over (slice-known3→enum-told2 c .enum-told2 .given .1)
+    (c .before .before .put-unrun .ensures)
 
 pub put-taken-spec : {M : Type 1} → statement M
 put-taken-spec =
     tie.close
     (tie.spec
     (λ c. search needs)
+    (λ c. search needs)
+    (λ c κs. search needs)
     (λ c κs. search needs)
     (λ c. search needs)
     (λ c κs. search needs)
