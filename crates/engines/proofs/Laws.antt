@@ -1,9 +1,8 @@
 -- What follows of the test that a meter is sound, and of what `run` told.
-use mathlib.Core.Path.{_≡_, refl, sym, ap, _∙_}
+use mathlib.Core.Path.{_≡_, sym, ap, _∙_}
 use mathlib.Core.Bool.{true}
 use mathlib.Core.List.{List}
 use Prim.Native.Nat.{ℕ, _-_, _*_, _^_, _≤_, _<_}
-use native.Mathlib.Nat.{zero-add}
 use native.Mathlib.Omega.{arith}
 use borrow.Author.Tests.{leb-true, ltb-true, le-leb, lt-leb}
 use lib.Dec.{leb, ltb}
@@ -13,14 +12,12 @@ use Rattle.numbers.specs.Offset.{offset32Of}
 use Rattle.numbers.proofs.Bounds.{both-true}
 use Rattle.slices.specs.Slices.{part, pairAt, quadAt}
 use Rattle.slices.proofs.Laws.{part-rest}
-use Rattle.digits.specs.Digits.{Writing}
-use Rattle.streams.specs.declared.Stream.the-variants.{Output}
+use Rattle.streams.specs.declared.Said.{Said}
 use Rattle.streams.specs.Streams.{error, refusedText, Saying}
 use Rattle.state.specs.declared.Charge.{Charge}
 use Rattle.state.specs.State.{ChargeWF, AverageWF, MeterWF}
 use Rattle.state.specs.declared.Average.{Average}
 use Rattle.state.specs.declared.Meter.{Meter}
-use Rattle.gauge.specs.declared.Gauge.{Gauge}
 use Rattle.runs.specs.Record.{recsOf}
 use Rattle.runs.specs.Run.{endAfter, Runs}
 use Rattle.runs.proofs.Ends.{within-done}
@@ -28,7 +25,7 @@ use Rattle.runs.specs.declared.Session.{Session}
 use Rattle.runs.specs.SessionRecord.{didOf}
 use Rattle.session_run.specs.declared.Ran.{Ran}
 use Rattle.session_run.specs.SessionRun.{emptyOf, resultOf}
-use Rattle.engines.specs.Engines.{enginesSizeWords, chargeSound, averageSound, soundOf, engineLines, gaugeAfter, comparedSpeech}
+use Rattle.engines.specs.Engines.{enginesSizeWords, chargeSound, averageSound, soundOf, endSpeech, sessionAfter, comparedSpeech}
 
 -- ---- a sound meter is well-formed
 
@@ -68,20 +65,18 @@ sized n e =
 
 -- the session behind the first 6 bytes is run
 pub ended : (s replies answers : List ℕ) (r : Ran) (after told : List ℕ) → length s ≤ 32774 → 65536 ≡ length replies
-    → Runs didOf emptyOf (part (length s - 6) s 6) replies answers (resultOf r) after told → r .session .gauge ≡ gaugeAfter (drop 6 s)
+    → Runs didOf emptyOf (part (length s - 6) s 6) replies answers (resultOf r) after told → r .session ≡ sessionAfter (drop 6 s)
 ended s replies answers r after told short fits runs =
     let size : length (drop 6 s) ≤ 32768 = omega (arith, length-drop 6 s) in
     let run = rw (part-rest s 6, within-done (length (drop 6 s)) size) at runs in
-    ap (λ (σ : Session). σ .gauge) (run .state) ∙ ap (λ (room : ℕ). endAfter didOf emptyOf room (recsOf (drop 6 s)) .gauge) (sym fits)
+    run .state ∙ ap (λ (room : ℕ). endAfter didOf emptyOf room (recsOf (drop 6 s))) (sym fits)
 
--- its lines are said
-pub lines-said : (s : List ℕ) {room after : List ℕ} {g : Gauge} {raw n count : ℕ} → both (leb 6 (length s)) (leb (length s) 32774) ≡ true
-    → g ≡ gaugeAfter (drop 6 s) → raw ≡ offset32Of (quadAt s 0) → n ≡ pairAt s 4
-    → Writing 258 (engineLines g raw n) room 0 count after → Saying (comparedSpeech s) room (record { stream = Output; count = count }) after
+-- what is said of its end is what is said of the input
+pub end-said : (s : List ℕ) {room after : List ℕ} {σ : Session} {raw n : ℕ} {x : Said} → both (leb 6 (length s)) (leb (length s) 32774) ≡ true
+    → σ ≡ sessionAfter (drop 6 s) → raw ≡ offset32Of (quadAt s 0) → n ≡ pairAt s 4
+    → Saying (endSpeech σ raw n) room x after → Saying (comparedSpeech s) room x after
 unfolding comparedSpeech
-lines-said s fits eg er en w =
-    let x = rw (eg, er, en) at w in
-    rw fits (record { stream = refl; counted = x .onward ∙ zero-add _; written = x .written })
+end-said s fits es er en w = rw fits (rw (es, er, en) at w)
 
 -- ---- an input that is too long: its bytes do not matter
 

@@ -18,6 +18,7 @@ use Rattle.samples.specs.Samples.{sampledOf}
 use Rattle.state.specs.declared.Common.{Common}
 use Rattle.registers.specs.Registers.{registersOf}
 use Rattle.gauge.specs.declared.Gauge.{Gauge}
+use Rattle.runs.specs.declared.Session.{Session}
 use Rattle.runs.specs.Record.{recsOf}
 use Rattle.runs.specs.Run.{endAfter}
 use Rattle.runs.specs.SessionRecord.{didOf}
@@ -28,6 +29,9 @@ enginesName = ascii "engines"
 
 abbrev pub enginesSizeWords : List ℕ
 enginesSizeWords = ascii "the input is not 6 to 32,774 bytes"
+
+abbrev pub enginesImageWords : List ℕ
+enginesImageWords = ascii "no image was accepted behind the first 6 bytes"
 
 -- ---- what an engine asks of a meter, as a test
 
@@ -58,16 +62,20 @@ engineLines gauge raw n =
     let line = meterLine (gauge .common) (sampledOf (gauge .meter) raw n) in
     pick (soundOf (gauge .meter)) (line ++ line) []
 
--- the gauge at the end of a session, with 65,536 bytes of reply room
-abbrev pub gaugeAfter : List ℕ → Gauge
-gaugeAfter s = endAfter didOf emptyOf 65536 (recsOf s) .gauge
+-- the state at the end of a session, with 65,536 bytes of reply room
+abbrev pub sessionAfter : List ℕ → Session
+sessionAfter s = endAfter didOf emptyOf 65536 (recsOf s)
+
+-- its lines; 5 where no image was accepted
+unfoldable pub endSpeech : Session → ℕ → ℕ → Speech
+endSpeech session raw n = pick (session .loaded) (output (engineLines (session .gauge) raw n)) (error (refusedText 5 enginesImageWords))
 
 -- ---- what is said: the raw current in 4 bytes, n in 2, and then the session
 
 unfoldable pub comparedSpeech : List ℕ → Speech
 comparedSpeech s =
     pick (both (leb 6 (length s)) (leb (length s) 32774))
-    (output (engineLines (gaugeAfter (drop 6 s)) (offset32Of (quadAt s 0)) (pairAt s 4)))
+    (endSpeech (sessionAfter (drop 6 s)) (offset32Of (quadAt s 0)) (pairAt s 4))
     (error (refusedText 4 enginesSizeWords))
 
 -- what is said of standard input s, or where a read of it failed

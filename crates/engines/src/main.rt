@@ -1,5 +1,6 @@
 // engines: runs the session on standard input behind 6 bytes, a raw current and n, and shows what both sampling engines make of its end
 use gauge::Gauge;
+use runs::Session;
 use state::Average;
 use state::Common;
 use state::Meter;
@@ -13,7 +14,7 @@ ghost use lib.ListN.{length};
 ghost use Rattle.state.specs.State.{MeterWF};
 ghost use Rattle.digits.specs.Digits.{Writing};
 ghost use Rattle.streams.specs.Streams.{Front, Saying};
-ghost use Rattle.engines.specs.Engines.{averageSound, soundOf, registersText, meterLine, engineLines, comparedSpeech, comparedOf};
+ghost use Rattle.engines.specs.Engines.{averageSound, soundOf, registersText, meterLine, engineLines, endSpeech, comparedSpeech, comparedOf};
 
 // What an engine asks of the count of conversions and of the run of eight.
 fn average_sound(average: Average) -> bool
@@ -77,6 +78,22 @@ fn put_lines(gauge: Gauge, raw: u32, n: u16, out: &mut [u8]) -> usize
     0
 }
 
+// What is said of the end of a session: nothing is shown of one without an image.
+fn put_ended(session: Session, raw: u32, n: u16, room: &mut [u8]) -> Said
+    requires { ⌜ length (now room) ≡ 258 ⌝ }
+    ensures { λ r. ⌜ Saying (endSpeech session raw n) (now (room .entry)) r (now (room .exit)) ⌝ }
+{
+    if session.loaded {
+        let count = put_lines(session.gauge, raw, n, room);
+        let stream = Stream::Output;
+        return Said {
+            stream: stream,
+            count: count,
+        };
+    }
+    streams::put_refused(5, b"no image was accepted behind the first 6 bytes", room)
+}
+
 fn put_compared(bytes: &[u8], room: &mut [u8]) -> Said
     requires { ⌜ length (now room) ≡ 258 ⌝ }
     ensures { λ r. ⌜ Saying (comparedSpeech (now (bytes .entry))) (now (room .entry)) r (now (room .exit)) ⌝ }
@@ -87,12 +104,7 @@ fn put_compared(bytes: &[u8], room: &mut [u8]) -> Said
         let mut replies = [0u8; 65536];
         let mut answers = [0u64; 8192];
         let ran = session_run::run(&bytes[6..], &mut replies, &mut answers);
-        let count = put_lines(ran.session.gauge, raw, n, room);
-        let stream = Stream::Output;
-        return Said {
-            stream: stream,
-            count: count,
-        };
+        return put_ended(ran.session, raw, n, room);
     }
     streams::put_refused(4, b"the input is not 6 to 32,774 bytes", room)
 }

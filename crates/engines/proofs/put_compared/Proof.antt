@@ -6,53 +6,105 @@ use lib.ListN.{length, replicate, length-replicate}
 use denote.Ref.{now}
 use Rattle.numbers.specs.Offset.{offset32Of}
 use Rattle.engines.specs.Engines.{comparedSpeech}
-use Rattle.engines.proofs.Laws.{sized, ended, lines-said}
+use Rattle.engines.proofs.Laws.{sized, ended, end-said}
 use borrow.Author.Needs.{needs}
 use Rattle.engines.proofs.put_compared.Statement.{statement}
 use Rattle.engines.proofs.put_compared.Tie as tie
 
+-- where the input is asked for its length
+abbrev asked→start : tie.Then1 → tie.Start
+asked→start c = c .before .before .before .before
+
+bounds : (c : tie.Then1) → let n = length (now (asked→start c .args .bytes)) in (6 ≤ n) × (n ≤ 32774)
+bounds c = sized (length (now (asked→start c .args .bytes))) (sym (c .before .and .ensures) ∙ c .if1 .taken)
+
 -- places: `a→b` leads from the record of the place a back to that of the place b
-abbrev and→start : tie.After-and → tie.Start
-and→start c = c .before .before .before
+abbrev quad→then1 : tie.After-quad → tie.Then1
+quad→then1 c = c .before
 
-abbrev then1→start : tie.Then1 → tie.Start
-then1→start c = and→start (c .before)
+abbrev run-arg→then1 : tie.After-run-arg → tie.Then1
+run-arg→then1 c = quad→then1 (c .before .before .before)
 
-abbrev pair→then1 : tie.After-pair → tie.Then1
-pair→then1 c = c .before .before .before
+abbrev run→then1 : tie.After-run → tie.Then1
+run→then1 c = run-arg→then1 (c .before .before .before)
 
-abbrev answers→pair : tie.After-answers → tie.After-pair
-answers→pair c = c .before .before .before
-
-abbrev run→pair : tie.After-run → tie.After-pair
-run→pair c = answers→pair (c .before)
-
-abbrev put-lines-arg→run : tie.After-put-lines-arg → tie.After-run
-put-lines-arg→run c = c .before .before
-
-abbrev put-lines→run : tie.After-put-lines → tie.After-run
-put-lines→run c = put-lines-arg→run (c .before)
-
-abbrev slice-known2→put-lines : tie.After-slice-known2 → tie.After-put-lines
-slice-known2→put-lines c = c .before .before
-
-abbrev slice-known2→run : tie.After-slice-known2 → tie.After-run
-slice-known2→run c = put-lines→run (slice-known2→put-lines c)
-
-abbrev slice-known2→pair : tie.After-slice-known2 → tie.After-pair
-slice-known2→pair c = run→pair (slice-known2→run c)
-
-abbrev slice-known2→offset32 : tie.After-slice-known2 → tie.After-offset32
-slice-known2→offset32 c = slice-known2→pair c .before
-
-abbrev slice-known2→quad : tie.After-slice-known2 → tie.After-quad
-slice-known2→quad c = slice-known2→offset32 c .before
+abbrev put-ended-arg→then1 : tie.After-put-ended-arg → tie.Then1
+put-ended-arg→then1 c = run→then1 (c .before .before .before)
 
 abbrev slice-known2→then1 : tie.After-slice-known2 → tie.Then1
-slice-known2→then1 c = pair→then1 (slice-known2→pair c)
+slice-known2→then1 c = put-ended-arg→then1 (c .before .before .before)
 
-bounds : (c : tie.Then1) → let n = length (now (then1→start c .args .bytes)) in (6 ≤ n) × (n ≤ 32774)
-bounds c = sized (length (now (then1→start c .args .bytes))) (sym (c .before .and .ensures) ∙ c .if1 .taken)
+abbrev slice-known→start : tie.After-slice-known → tie.Start
+slice-known→start c = c .before .before
+
+abbrev quad→start : tie.After-quad → tie.Start
+quad→start c = slice-known→start (c .before .before .before)
+
+abbrev run-arg→start : tie.After-run-arg → tie.Start
+run-arg→start c = quad→start (c .before .before .before)
+
+abbrev run→start : tie.After-run → tie.Start
+run→start c = run-arg→start (c .before .before .before)
+
+abbrev put-ended-arg→start : tie.After-put-ended-arg → tie.Start
+put-ended-arg→start c = run→start (c .before .before .before)
+
+abbrev slice-known2→start : tie.After-slice-known2 → tie.Start
+slice-known2→start c = put-ended-arg→start (c .before .before .before)
+
+abbrev put-ended-arg→run : tie.After-put-ended-arg → tie.After-run
+put-ended-arg→run c = c .before .before .before
+
+abbrev slice-known2→run : tie.After-slice-known2 → tie.After-run
+slice-known2→run c = put-ended-arg→run (c .before .before .before)
+
+abbrev run-arg→offset32 : tie.After-run-arg → tie.After-offset32
+run-arg→offset32 c = c .before .before
+
+abbrev run→offset32 : tie.After-run → tie.After-offset32
+run→offset32 c = run-arg→offset32 (c .before .before .before)
+
+abbrev put-ended-arg→offset32 : tie.After-put-ended-arg → tie.After-offset32
+put-ended-arg→offset32 c = run→offset32 (c .before .before .before)
+
+abbrev slice-known2→offset32 : tie.After-slice-known2 → tie.After-offset32
+slice-known2→offset32 c = put-ended-arg→offset32 (c .before .before .before)
+
+abbrev run-arg→quad : tie.After-run-arg → tie.After-quad
+run-arg→quad c = c .before .before .before
+
+abbrev run→quad : tie.After-run → tie.After-quad
+run→quad c = run-arg→quad (c .before .before .before)
+
+abbrev put-ended-arg→quad : tie.After-put-ended-arg → tie.After-quad
+put-ended-arg→quad c = run→quad (c .before .before .before)
+
+abbrev slice-known2→quad : tie.After-slice-known2 → tie.After-quad
+slice-known2→quad c = put-ended-arg→quad (c .before .before .before)
+
+abbrev run-arg→pair : tie.After-run-arg → tie.After-pair
+run-arg→pair c = c .before
+
+abbrev run→pair : tie.After-run → tie.After-pair
+run→pair c = run-arg→pair (c .before .before .before)
+
+abbrev put-ended-arg→pair : tie.After-put-ended-arg → tie.After-pair
+put-ended-arg→pair c = run→pair (c .before .before .before)
+
+abbrev slice-known2→pair : tie.After-slice-known2 → tie.After-pair
+slice-known2→pair c = put-ended-arg→pair (c .before .before .before)
+
+abbrev put-refused-arg2→and : tie.After-put-refused-arg2 → tie.After-and
+put-refused-arg2→and c = c .before .before .before
+
+abbrev slice-known3→and : tie.After-slice-known3 → tie.After-and
+slice-known3→and c = put-refused-arg2→and (c .before .before .before)
+
+abbrev put-refused-arg2→else1 : tie.After-put-refused-arg2 → tie.Else1
+put-refused-arg2→else1 c = c .before .before
+
+abbrev slice-known3→else1 : tie.After-slice-known3 → tie.Else1
+slice-known3→else1 c = put-refused-arg2→else1 (c .before .before .before)
 
 quad-requires : tie.Need-quad-requires
 quad-requires c κs = omega (arith, bounds c .0)
@@ -61,29 +113,25 @@ pair-requires : tie.Need-pair-requires
 pair-requires c κs = omega (arith, bounds (c .before .before) .0)
 
 sub-run : tie.Need-sub-run
-sub-run c = omega (arith, bounds (pair→then1 c) .0)
+sub-run c = omega (arith, bounds (c .before .before .before) .0)
 
 part-run-start : tie.Need-part-run-start
-part-run-start c = omega (arith, bounds (pair→then1 c) .0)
+part-run-start c = omega (arith, bounds (c .before .before .before) .0)
 
 returns : tie.Need-returns
 returns c =
-    let asked = slice-known2→then1 c in
-    let s = now (then1→start asked .args .bytes) in
+    let asked = (slice-known2→then1 c) in
+    let s = now (slice-known2→start c .args .bytes) in
     let run = slice-known2→run c .run in
-    lines-said s (sym (asked .before .and .ensures) ∙ asked .if1 .taken)
+    end-said s (sym (asked .before .and .ensures) ∙ asked .if1 .taken)
     (ended s (replicate 65536 0) (replicate 8192 0) (run .result) (run .last .1 .0) (run .last .1 .1 .0) (bounds asked .1)
     (sym (length-replicate {A = ℕ} 65536 0)) (run .ensures))
     (slice-known2→offset32 c .offset32 .ensures ∙ ap offset32Of (slice-known2→quad c .quad .ensures))
-    (slice-known2→pair c .pair .ensures) (slice-known2→put-lines c .put-lines .ensures)
+    (slice-known2→pair c .pair .ensures) (c .before .before .put-ended .ensures)
 
 returns-2 : tie.Need-returns-2
 unfolding comparedSpeech
-returns-2 c =
-    let at-put-refused = c .before .before in
-    let at-else1 = at-put-refused .before .before .before in
-    let at-and = at-else1 .before in
-    rw (sym (at-and .and .ensures) ∙ at-else1 .if1 .left) (at-put-refused .put-refused .ensures)
+returns-2 c = rw (sym (slice-known3→and c .and .ensures) ∙ slice-known3→else1 c .if1 .left) (c .before .before .put-refused .ensures)
 
 pub put-compared-spec : {M : Type 1} → statement M
 put-compared-spec =
