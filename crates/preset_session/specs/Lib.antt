@@ -1,1 +1,2 @@
 pub mod PresetSession
+pub mod PresetPairs
