@@ -1,6 +1,7 @@
 -- What a pack goes through changes its count as the books say, and keeps the ledger.
 use mathlib.Core.Path.{_≡_, refl, sym, ap, subst, _∙_}
 use mathlib.Core.Bool.{Bool, true, false, not}
+use mathlib.Core.Logic.{_⊎_, inl, inr, ⊎-elim}
 use mathlib.Core.List.{List, [], _∷_, _++_}
 use Prim.Native.Nat.{ℕ, zero, suc, _+_, _-_, _^_, zero-le}
 use native.Mathlib.Nat.{div-add-mod'}
@@ -36,6 +37,7 @@ use Rattle.record.specs.declared.Change.the-variants.{Reading, Conversion, Samp
 use Rattle.demands.specs.History.{Happening, imaged, changed, transacted, happened, lived}
 use Rattle.demands.specs.Books.{Converts, conversionsBy, tickAfter, conversionsIn, Ledger, bookedC, booked, ledgerAfter, bookedSum, entriesOf, ledgerOf}
 use Rattle.demands.specs.Books.{sumOver, countIn, unclamped, convertsNow, steady, isWrite, writesAcr, acrWritten, keepsBooks, NoWider, BooksKept}
+use Rattle.demands.specs.Books.{Unsteady, full-here, clamp-here, further}
 use Rattle.demands.proofs.Choice.{contrary}
 
 -- The count is ACR × 4,096 + fraction
@@ -246,10 +248,24 @@ acted-sets g t master h =
     let z = both-true (selectedOf (g .common .address) t master) _ h in
     rw (z .0) (writes-sets (t .command) g (t .address) (drop (t .from) master) (z .1))
 
+why-unsteady : (corrects inside rest : Bool) → both (not corrects) (both inside rest) ≡ false
+    → (corrects ≡ true) ⊎ ((inside ≡ false) ⊎ (rest ≡ false))
+why-unsteady true inside rest e = inl refl
+why-unsteady false false rest e = inr (inl refl)
+why-unsteady false true false e = inr (inr refl)
+why-unsteady false true true e = contrary cc
+
+unsteady-has : (n : ℕ) (m : Meter) (raw : ℕ) → steady m raw n ≡ false → Unsteady m raw n
+unsteady-has zero m raw e = contrary cc
+unsteady-has (suc n) m raw e =
+    ⊎-elim (λ c. full-here c) (⊎-elim (λ c. clamp-here c) (λ r. further (unsteady-has n (convertOf m raw) raw r)))
+    (why-unsteady (correctsFull m raw) _ (steady (convertOf m raw) raw n) e)
+
 -- THE BOOKS ARE NOT KEPT FOR A REASON
 pub no-wider : NoWider
 unfolding settledOf
 no-wider = record {
+  unsteady = λ m raw n. unsteady-has n m raw;
   full = λ m raw e. rw (converted-charge m raw, e) refl;
   empty = λ m volt temp e. rw (read-charge m volt temp, e) refl;
   written = acted-sets;

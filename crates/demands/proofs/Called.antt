@@ -1,7 +1,11 @@
 -- Any session within the limits has a call, and so has each of its moments, of every run.
-use mathlib.Core.Path.{refl}
+use mathlib.Core.Path.{_≡_, refl}
+use mathlib.Core.Logic.{_⊎_, inl, inr}
+use mathlib.Core.Bool.{Bool, true, false}
 use mathlib.Core.List.{List, [], _∷_, _++_}
-use Prim.Native.Nat.{ℕ, _+_, _/_, _≤_}
+use Prim.Native.Nat.{ℕ, _+_, _/_, _≤_, _<_}
+use borrow.Author.Tests.{ltb-true, ltb-false}
+use lib.Dec.{ltb}
 use native.Mathlib.Omega.{arith}
 use lib.ListN.{length}
 use Rattle.slices.specs.Slices.{put}
@@ -9,7 +13,7 @@ use Rattle.runs.specs.declared.Outcome.the-variants.{Done}
 use Rattle.runs.specs.Record.{Rec, whole, cut, recsOf, recordOf}
 use Rattle.runs.specs.Run.{Did, linesAfter, endAfter, repliesOf, codesOf}
 use Rattle.runs.proofs.Ends.{within-done}
-use Rattle.demands.specs.Call.{Call, Within, firstOf, Stopped}
+use Rattle.demands.specs.Call.{Call, Within, firstOf, Stopped, WithinOrOver, RunsExist}
 use Rattle.demands.proofs.Moments.{first-length}
 
 -- the bytes of records
@@ -53,3 +57,20 @@ module _ {S : Type 0} (did : S → ℕ → Rec → Did S) (start : S) where
         room = refl;
         answers = refl;
       }
+
+  -- each call that the contract allows is within, or over
+  pub within-or-over : WithinOrOver did start
+  within-or-over c allowed lent = by (ltb 32768 (length (c .bytes))) refl
+    where
+      by : (over : Bool) → ltb 32768 (length (c .bytes)) ≡ over → Within did start c ⊎ (32768 < length (c .bytes))
+      by true e = inr (ltb-true 32768 (length (c .bytes)) e)
+      by false e =
+          let short = ltb-false 32768 (length (c .bytes)) e in
+          inl (record { allowed = allowed; short = short; lent = omega (arith, short, lent) })
+
+  pub runs-exist : RunsExist did start
+  runs-exist = record {
+    sessions = λ s room answers short lent.
+        record { run = called s room answers; within = called-within s room answers short lent; bytes = refl; room′ = refl; answers′ = refl };
+    moments = λ n c w. record { run = called (firstOf n (c .bytes)) (c .room) (c .answers); stopped = called-stopped n c w };
+  }

@@ -27,7 +27,7 @@ use Rattle.demands.specs.Longer.{formKind}
 use Rattle.demands.specs.Alone.{reachIn}
 use Rattle.demands.proofs.Alone.{transaction-kind, asked-form}
 use Rattle.demands.specs.Images.{imageKind}
-use Rattle.demands.specs.Isolation.{Agree, imagesAfter, Differs, none, held, here, there, images, Places, Twins, Others, Isolation}
+use Rattle.demands.specs.Isolation.{Agree, imagesAfter, Differs, none, held, here, there, images, Places, Twins, Others, Isolation, IsolationThroughout}
 use Rattle.demands.proofs.Moments.{leftOf, left-cons, running, stopped-within}
 use Rattle.demands.proofs.Every.{run-exact}
 use Rattle.demands.proofs.Fitted.{fitted-has}
@@ -208,3 +208,13 @@ isolation = record {
       ∙ ap (λ (room : ℕ). lineOf (whole n p) (trayDid (e .ran .state) room (whole n p))) left
       ∙ sym (far .line);
 }
+
+-- the paper's sentence, of its three parts
+pub isolated-throughout : IsolationThroughout
+isolated-throughout k c d t i j place a e s u =
+    let twins = isolation .stops k c d t i j place a e s u in
+    record {
+      states = isolation .states k a e twins;
+      replies = λ n x p l m b f taken taken′ reach away.
+          isolation .replies k n c d (t .one) (t .other) x p l m a b e f taken taken′ twins reach away;
+    }

@@ -179,9 +179,17 @@ abbrev pub BooksKept : Gauge → List Happening → Type 0
 BooksKept gauge [] = Unit
 BooksKept gauge (h ∷ hs) = (keepsBooks gauge h ≡ true) × BooksKept (happened gauge h) hs
 
+-- one of so many conversions is a full correction, or would take the count out of its range
+pub data Unsteady : Meter → ℕ → ℕ → Type 0 where
+  full-here : {m : Meter} {raw n : ℕ} → correctsFull m raw ≡ true → Unsteady m raw (suc n)
+  clamp-here : {m : Meter} {raw n : ℕ} → unclamped (countIn m +ℤ booked (ledgerOf m) (convertsNow m raw)) ≡ false → Unsteady m raw (suc n)
+  further : {m : Meter} {raw n : ℕ} → Unsteady (convertOf m raw) raw n → Unsteady m raw (suc n)
+
 -- ---- and where they are not, there is a reason: each of these sets ACR, or clamps
 
 pub record NoWider : Type 0 where
+  -- conversions over which the books are not kept, a 1,024th or not, have one of the two
+  pub unsteady : (m : Meter) (raw n : ℕ) → steady m raw n ≡ false → Unsteady m raw n
   -- step 6 fills the charge that steps 1 to 5 leave
   pub full : (m : Meter) (raw : ℕ) → correctsFull m raw ≡ true
       → convertOf m raw .charge ≡ filledOf (chargeIn m raw) (m .shown .model .full) (capacityOf (m .cells .block .shadow) .full40)

@@ -2,8 +2,9 @@
 -- did `didOf` and start `emptyOf`, and the call is one of `session_run::run`; for trays they are `Tray`, `trayDid` and `emptyTray`, and the call is
 -- one of `tray_run::run`.
 use mathlib.Core.Path.{_≡_}
+use mathlib.Core.Logic.{_⊎_}
 use mathlib.Core.List.{List, [], _∷_, _++_, map, zip}
-use Prim.Native.Nat.{ℕ, zero, suc, _+_, _/_, _≤_}
+use Prim.Native.Nat.{ℕ, zero, suc, _+_, _/_, _≤_, _<_}
 use lib.ListN.{length, take, drop}
 use Rattle.slices.specs.Slices.{put}
 use Rattle.runs.specs.declared.Outcome.the-variants.{Done}
@@ -51,6 +52,11 @@ module _ {S : Type 0} (did : S → ℕ → Rec → Did S) (start : S) where
     pub answered : c .told ≡ put (c .answers) 0 (codesOf (linesIn c))
     pub replied : c .replies ≡ put (c .room) 0 (repliesOf (linesIn c))
 
+  -- ---- each call that the contract allows is within, or over
+
+  abbrev pub WithinOrOver : Type 0
+  WithinOrOver = (c : Call S) → Allowed c → length (c .answers) ≡ 8192 → Within c ⊎ (32768 < length (c .bytes))
+
   -- ---- the moments of a session
 
   -- the session of c, lent the same, run up to the end of its n-th record
@@ -59,6 +65,23 @@ module _ {S : Type 0} (did : S → ℕ → Rec → Did S) (start : S) where
     pub bytes : d .bytes ≡ firstOf n (c .bytes)
     pub room : d .room ≡ c .room
     pub answers : d .answers ≡ c .answers
+
+  -- there is such a run of every session and every n, so that what is said of runs that are stopped is said of every moment
+  pub record StoppedRun (n : ℕ) (c : Call S) : Type 0 where
+    pub run : Call S
+    pub stopped : Stopped n c run
+
+  -- and a call of every session that is not over
+  pub record SessionRun (s room answers : List ℕ) : Type 0 where
+    pub run : Call S
+    pub within : Within run
+    pub bytes : run .bytes ≡ s
+    pub room′ : run .room ≡ room
+    pub answers′ : run .answers ≡ answers
+
+  pub record RunsExist : Type 0 where
+    pub sessions : (s room answers : List ℕ) → length s ≤ 32768 → (length s + 3) / 4 ≤ length answers → SessionRun s room answers
+    pub moments : (n : ℕ) (c : Call S) → Within c → StoppedRun n c
 
   -- a record of the session of c with its line, and the runs that stop before it and after it
   pub record Taking (c : Call S) (r : Rec) (l : Line) (a b : Call S) : Type 0 where

@@ -30,7 +30,7 @@ use Rattle.tray_record.specs.Tray.{emptyTray, packOf, trayDid}
 use Rattle.tray_run.specs.TrayRun.{SlotOut}
 use Rattle.demands.specs.Call.{Call, Within, gotOf, linesIn, Told, Stopped, Taking}
 
--- ---- "after each event", of every run
+-- ---- "after each event", of every run. A run that is stopped after n records is there for every n (`RunsExist` of Call.antt)
 
 module _ {S : Type 0} (did : S → ℕ → Rec → Did S) (start : S) where
   -- stopped after n records, the state, and the lines that room and answers hold, are what the definitions give for these records

@@ -81,6 +81,7 @@ pub record Others (k : ℕ) (τ σ : Tray) : Type 0 where
   pub packs : (j : ℕ) → (j ≡ k → ⊥) → packOf τ j ≡ packOf σ j
   pub address : packOf τ k .common .address ≡ packOf σ k .common .address
 
+-- in three parts, which `IsolationThroughout` joins
 pub record Isolation : Type 0 where
   -- two such sessions that are stopped at a place in both are two such sessions: so what holds at the end holds after each record that both hold
   pub stops : (k : ℕ) (c d : Call Tray) (t : Twins k c d) (i j : ℕ) → Places (t .differs) i j
@@ -91,6 +92,21 @@ pub record Isolation : Type 0 where
       → (x : Form) (p : List ℕ) (l m : Line) (a b e f : Call Tray)
       → Taking trayDid emptyTray c (whole (formKind x) p) l a b → Taking trayDid emptyTray d (whole (formKind x) p) m e f
       → Twins k a e → reachIn (a .ran .state) x p ≡ One j → (j ≡ k → ⊥) → l ≡ m
+
+-- at a place in both sessions, by the runs a and e that stop there: "the others' states stay the same", and of a transaction that both hold next and
+-- that is matched to another slot, answer and reply
+pub record SameAt (k : ℕ) (c d a e : Call Tray) : Type 0 where
+  pub states : Others k (a .ran .state) (e .ran .state)
+  pub replies : (j : ℕ) (x : Form) (p : List ℕ) (l m : Line) (b f : Call Tray)
+      → Taking trayDid emptyTray c (whole (formKind x) p) l a b → Taking trayDid emptyTray d (whole (formKind x) p) m e f
+      → reachIn (a .ran .state) x p ≡ one j → (j ≡ k → ⊥) → l ≡ m
+
+-- the paper's one sentence: "Change one pack's image and slot events at will, its address and the acceptance of each record kept" (`Twins`), and at
+-- every place in both all the rest is the same
+abbrev pub IsolationThroughout : Type 0
+IsolationThroughout =
+    (k : ℕ) (c d : Call Tray) (t : Twins k c d) (i j : ℕ) → Places (t .differs) i j
+    → (a e : Call Tray) → Stopped trayDid emptyTray i c a → Stopped trayDid emptyTray j d e → SameAt k c d a e
 
 -- and it speaks of something: two sessions with a transaction that is matched to another slot, and done; up to it they are two such sessions,
 -- which differ in the slot's pack
