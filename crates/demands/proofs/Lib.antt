@@ -32,7 +32,6 @@ pub mod EveryOpening
 pub mod TrayDemand3
 pub mod WholeTrays
 pub mod Programming
-pub mod Functions
 pub mod Cases
 pub mod Called
 pub mod Example
@@ -43,5 +42,7 @@ pub mod Blind
 pub mod Stored
 pub mod History
 pub mod BooksExample
-pub mod TrayFunctions
 pub mod Mending
+pub mod Hundred
+pub mod Functions
+pub mod Theorems

@@ -16,3 +16,6 @@ pub mod Stored
 pub mod Programming
 pub mod Slow
 pub mod Mending
+pub mod Contracts
+pub mod Hundred
+pub mod Theorems

@@ -1,0 +1,105 @@
+-- All theorems, as one value.
+use mathlib.Core.Path.{sym, _∙_}
+use Rattle.reading.proofs.Product.{product-lines}
+use Rattle.gauge.proofs.Profiles.{only-two}
+use Rattle.gauge.proofs.ImageAging.{pack-aging}
+use Rattle.gauge.proofs.ImageProfiles.{images-share}
+use Rattle.runs.specs.SessionRecord.{didOf}
+use Rattle.session_run.specs.SessionRun.{emptyOf}
+use Rattle.tray_record.specs.Tray.{emptyTray, trayDid}
+use Rattle.mending.proofs.Worth as worth
+use Rattle.hex.proofs.RoundTrip as hex
+use Rattle.demands.specs.Theorems.{OfSessions, OfTrays, EnginesEqual, OfGauges, OfBench, OfBooks, Theorems}
+use Rattle.demands.proofs.Functions.{contracts}
+use Rattle.demands.proofs.Called.{within-or-over, runs-exist}
+use Rattle.demands.proofs.Demand1.{demand-1, tray-demand-1}
+use Rattle.demands.proofs.Demand2.{demand-2, tray-demand-2}
+use Rattle.demands.proofs.Demand3.{demand-3}
+use Rattle.demands.proofs.TrayDemand3.{tray-demand-3}
+use Rattle.demands.proofs.Example.{demand-3-met}
+use Rattle.demands.proofs.TrayExample.{tray-demand-3-met, isolation-met}
+use Rattle.demands.proofs.Alone.{alone}
+use Rattle.demands.proofs.Slots.{slots-as-old}
+use Rattle.demands.proofs.Isolation.{isolation, isolated-throughout}
+use Rattle.demands.proofs.Hundred.{hundred}
+use Rattle.demands.proofs.Slow.{slow}
+use Rattle.demands.proofs.Longer.{longer, longer-met}
+use Rattle.demands.proofs.Programming.{bench, bench-done}
+use Rattle.demands.proofs.Mending.{mended-first}
+use Rattle.demands.proofs.Blind.{from-events}
+use Rattle.demands.proofs.Booked.{no-wider}
+use Rattle.demands.proofs.History.{session-history, session-books, session-eeprom, slot-history, slot-books, slot-eeprom}
+use Rattle.demands.proofs.BooksExample.{books-met, slot-books-met, eeprom-met, slot-eeprom-met}
+
+sessions : OfSessions
+sessions = record {
+  bounded = within-or-over didOf emptyOf;
+  exist = runs-exist didOf emptyOf;
+  demand-1 = demand-1;
+  demand-2 = demand-2;
+  demand-3 = demand-3;
+  demand-3-met = demand-3-met;
+}
+
+trays : OfTrays
+trays = record {
+  bounded = within-or-over trayDid emptyTray;
+  exist = runs-exist trayDid emptyTray;
+  demand-1 = tray-demand-1;
+  demand-2 = tray-demand-2;
+  demand-3 = tray-demand-3;
+  demand-3-met = tray-demand-3-met;
+  slots = slots-as-old;
+  alone = alone;
+  isolation = isolation;
+  throughout = isolated-throughout;
+  isolation-met = isolation-met;
+}
+
+both-engines : EnginesEqual
+both-engines meter raw n a b plain quick = plain .0 ∙ sym (quick .0)
+
+gauges : OfGauges
+gauges = record {
+  hundred = hundred;
+  product = product-lines;
+  engines = both-engines;
+  slow = slow;
+  longer = longer;
+  longer-met = longer-met;
+  profiles = only-two;
+  images = images-share;
+  aging = pack-aging;
+}
+
+at-bench : OfBench
+at-bench = record {
+  programmed = bench;
+  programmed-done = bench-done;
+  mended = mended-first;
+  mended-calls = worth.by-call;
+  accepted = worth.accepted;
+  unchanged = worth.unchanged;
+  twice = worth.twice;
+  arranged = worth.arranged;
+  capped = worth.capped;
+  kept = worth.kept;
+  lines = hex.good-lines;
+  exported = hex.unchanged;
+  round-trip = hex.round-trip;
+}
+
+books : OfBooks
+books = record {
+  from-events = from-events;
+  no-wider = no-wider;
+  session = record { history = session-history; books = session-books; eeprom = session-eeprom };
+  slots = λ j. record { history = slot-history j; books = slot-books j; eeprom = slot-eeprom j };
+  books-met = books-met;
+  slot-books-met = slot-books-met;
+  eeprom-met = eeprom-met;
+  slot-eeprom-met = slot-eeprom-met;
+}
+
+pub theorems : Theorems
+theorems = record { contracts = contracts; sessions = sessions; trays = trays; gauges = gauges; bench = at-bench; books = books }

@@ -1,0 +1,153 @@
+-- WHAT IS PROVED: the theorems of documents 01 and 02, in the papers' own words. `theorems` of proofs/Theorems.antt is one value of this record.
+--
+-- A call is what a function's contract lets a caller learn; that it is, of each function, is `contracts`. Each statement has a page of its own, named
+-- after its subject; this page has none that is not linked here.
+use mathlib.Core.Path.{_≡_}
+use Prim.Native.Nat.{ℕ}
+use Rattle.params.specs.declared.Curves.{Curves}
+use Rattle.state.specs.declared.Meter.{Meter}
+use Rattle.state.specs.declared.Profile.{Profile}
+use Rattle.reading.specs.Reading.{modelLines}
+use Rattle.reading.specs.Product.{productOf}
+use Rattle.samples.proofs.Engines.{plainly, quickly}
+use Rattle.gauge.specs.Profiles.{OnlyTwo}
+use Rattle.gauge.specs.ImageAging.{PackAging}
+use Rattle.gauge.specs.ImageProfiles.{ImagesShare}
+use Rattle.runs.specs.Record.{Rec}
+use Rattle.runs.specs.Run.{Did}
+use Rattle.runs.specs.SessionRecord.{didOf}
+use Rattle.session_run.specs.SessionRun.{emptyOf}
+use Rattle.tray_record.specs.Tray.{emptyTray, trayDid}
+use Rattle.mending.specs.Worth.{AcceptedTheorem, UnchangedTheorem, TwiceTheorem, ArrangedTheorem, CappedTheorem, KeptTheorem, ByCallTheorem}
+use Rattle.hex.specs.Theorems.{GoodLines, RoundTrip, ExportedText}
+use Rattle.demands.specs.Contracts.{Contracts}
+use Rattle.demands.specs.Call.{WithinOrOver, RunsExist}
+use Rattle.demands.specs.Demand1.{sessionMost, trayMost, Demand1}
+use Rattle.demands.specs.Demand2.{Demand2, TrayDemand2}
+use Rattle.demands.specs.Demand3.{Demand3, Demand3Met, TrayDemand3, TrayDemand3Met}
+use Rattle.demands.specs.Slots.{SlotsAsOld}
+use Rattle.demands.specs.Alone.{Alone}
+use Rattle.demands.specs.Isolation.{Isolation, IsolationThroughout, IsolationMet}
+use Rattle.demands.specs.Longer.{Longer, LongerMet}
+use Rattle.demands.specs.Slow.{Slow}
+use Rattle.demands.specs.Hundred.{Hundred}
+use Rattle.demands.specs.Programming.{BenchTheorem, DoneTheorem}
+use Rattle.demands.specs.Mending.{MendedTheorem}
+use Rattle.demands.specs.History.{Pack, ofGauge, ofSlot, HistoryHolds}
+use Rattle.demands.specs.Books.{FromEvents, NoWider, BooksClose, BooksMet}
+use Rattle.demands.specs.Stored.{EepromHolds, EepromMet}
+
+-- ---- document 01
+
+pub record OfSessions : Type 0 where
+  -- a call of `run` is within 32,768 bytes, or over; each session has one, and so has each of its moments
+  pub bounded : WithinOrOver didOf emptyOf
+  pub exist : RunsExist didOf emptyOf
+  -- "No input can make it misbehave. Every session, however malformed, gets one numbered answer per record, as document 01 fixes it. A refused
+  -- record changes neither the gauge nor the reply room."
+  pub demand-1 : Demand1 sessionMost didOf emptyOf
+  -- "From an accepted pack image, every reply byte, register, flag and EEPROM byte after each event is what the DS2781 sheet, as condensed in
+  -- document 01, works out. The image taken out at any moment, read into a fresh gauge, gives the state that a power-on would have given there."
+  pub demand-2 : Demand2
+  -- "Labels and gauging keep apart." And there are such sessions of each profile
+  pub demand-3 : Demand3
+  pub demand-3-met : (f : Profile) → Demand3Met f
+
+-- ---- document 02, a tray: request [8]
+
+pub record OfTrays : Type 0 where
+  pub bounded : WithinOrOver trayDid emptyTray
+  pub exist : RunsExist trayDid emptyTray
+  -- the three demands, of "the tray's whole state"
+  pub demand-1 : Demand1 trayMost trayDid emptyTray
+  pub demand-2 : TrayDemand2
+  pub demand-3 : TrayDemand3
+  pub demand-3-met : TrayDemand3Met
+  -- a slot's pack does what a gauge by itself does
+  pub slots : SlotsAsOld
+  -- "A slot's event, or a matched transaction, changes no other pack."
+  pub alone : Alone
+  -- "Change one pack's image and slot events at will, its address and the acceptance of each record kept: replies to transactions matched to the
+  -- others, and the others' states, stay the same."
+  pub isolation : Isolation
+  pub throughout : IsolationThroughout
+  pub isolation-met : IsolationMet
+
+-- ---- document 02, of what a gauge counts and shows
+
+-- any two results that the contracts of `samples::plain` and `samples::quick` allow for one meter, one raw current and any n are equal
+abbrev pub EnginesEqual : Type 0
+EnginesEqual = (meter : Meter) (raw n : ℕ) (a b : Meter) → plainly meter raw n a → quickly meter raw n b → a ≡ b
+
+pub record OfGauges : Type 0 where
+  -- [1]: "A full pack should say 100."
+  pub hundred : Hundred
+  -- [4]: "Work the three lines out by the number of degrees in each segment and a product. Nothing anyone can see changes, crossed breakpoints written
+  -- over the bus included."
+  pub product : (curves : Curves) (t : ℕ) → productOf curves t ≡ modelLines curves t
+  -- [5]: "Two engines, the plain repetition and a quick one that works out whole stretches at once, are proved equal for every state and every n
+  -- from 1 to 64."
+  pub engines : EnginesEqual
+  -- [5]: "A sample of n ticks means n conversions of that reading"
+  pub slow : Slow
+  -- [11]: ".. a transaction allowed in both forms gives one answer"
+  pub longer : Longer
+  pub longer-met : LongerMet
+  -- [12]: "Only two things differ from 01 here"
+  pub profiles : OnlyTwo
+  pub images : ImagesShare
+  -- [13]: "A write at 14h is from now on dropped ..; later results follow the gauge's own AS. Saved AS is honoured at power-on as before."
+  pub aging : PackAging
+
+-- ---- document 02, at the bench: requests [2], [9] and [10]
+
+pub record OfBench : Type 0 where
+  -- "Run through the gauge it ends with exactly those EEPROM bytes in block 1, and block 0, saved cells and locks unchanged."
+  pub programmed : BenchTheorem
+  pub programmed-done : DoneTheorem
+  -- "a tool which writes a 60-byte image that is accepted"; "An acceptable image with AS in range comes out unchanged with no lines. Mending twice is as
+  -- mending once."
+  pub mended : MendedTheorem
+  pub mended-calls : ByCallTheorem
+  pub accepted : AcceptedTheorem
+  pub unchanged : UnchangedTheorem
+  pub twice : TwiceTheorem
+  pub arranged : ArrangedTheorem
+  pub capped : CappedTheorem
+  pub kept : KeptTheorem
+  -- "Import reads just this layout, record order free, and gives back the 48 bytes of every export."
+  pub lines : GoodLines
+  pub exported : ExportedText
+  pub round-trip : RoundTrip
+
+-- ---- document 02, the books: request [14]
+
+-- of a pack that a run holds
+pub record OfPack {S : Type 0} (did : S → ℕ → Rec → Did S) (start : S) (pack : Pack S) : Type 0 where
+  pub history : HistoryHolds did start pack
+  -- "Over any run of accepted events with no power-on, no ACR write, no full or empty correction and no clamp at either end, the final count .. less
+  -- the first equals the sum .."
+  pub books : BooksClose did start pack
+  -- "no byte of a block's EEPROM changes while the block is locked, and each byte is always its image value or .. the shadow value at the last such copy"
+  pub eeprom : EepromHolds did start pack
+
+pub record OfBooks : Type 0 where
+  -- "The sum is defined from events and shadow bytes, not from the count." And the conditions are no wider than they have to be
+  pub from-events : FromEvents
+  pub no-wider : NoWider
+  pub session : OfPack didOf emptyOf ofGauge
+  pub slots : (j : ℕ) → OfPack trayDid emptyTray (ofSlot j)
+  pub books-met : BooksMet didOf emptyOf ofGauge
+  pub slot-books-met : BooksMet trayDid emptyTray (ofSlot 1)
+  pub eeprom-met : EepromMet didOf emptyOf ofGauge
+  pub slot-eeprom-met : EepromMet trayDid emptyTray (ofSlot 1)
+
+-- ---- all of them
+
+pub record Theorems : Type 0 where
+  pub contracts : Contracts
+  pub sessions : OfSessions
+  pub trays : OfTrays
+  pub gauges : OfGauges
+  pub bench : OfBench
+  pub books : OfBooks
