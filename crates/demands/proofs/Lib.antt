@@ -44,5 +44,6 @@ pub mod History
 pub mod BooksExample
 pub mod Mending
 pub mod Hundred
+pub mod HexExample
 pub mod Functions
 pub mod Theorems

@@ -26,6 +26,7 @@ use Rattle.demands.proofs.Slow.{slow}
 use Rattle.demands.proofs.Longer.{longer, longer-met}
 use Rattle.demands.proofs.Programming.{bench, bench-done}
 use Rattle.demands.proofs.Mending.{mended-first}
+use Rattle.demands.proofs.HexExample.{round-trip-met}
 use Rattle.demands.proofs.Blind.{from-events}
 use Rattle.demands.proofs.Booked.{no-wider}
 use Rattle.demands.proofs.History.{session-history, session-books, session-eeprom, slot-history, slot-books, slot-eeprom}
@@ -87,6 +88,7 @@ at-bench = record {
   lines = hex.good-lines;
   exported = hex.unchanged;
   round-trip = hex.round-trip;
+  round-trip-met = round-trip-met;
 }
 
 books : OfBooks

@@ -18,4 +18,5 @@ pub mod Slow
 pub mod Mending
 pub mod Contracts
 pub mod Hundred
+pub mod RoundTrip
 pub mod Theorems

@@ -33,6 +33,7 @@ use Rattle.demands.specs.Slow.{Slow}
 use Rattle.demands.specs.Hundred.{Hundred}
 use Rattle.demands.specs.Programming.{BenchTheorem, DoneTheorem}
 use Rattle.demands.specs.Mending.{MendedTheorem}
+use Rattle.demands.specs.RoundTrip.{RoundTripMet}
 use Rattle.demands.specs.History.{Pack, ofGauge, ofSlot, HistoryHolds}
 use Rattle.demands.specs.Books.{FromEvents, NoWider, BooksClose, BooksMet}
 use Rattle.demands.specs.Stored.{EepromHolds, EepromMet}
@@ -119,6 +120,7 @@ pub record OfBench : Type 0 where
   pub lines : GoodLines
   pub exported : ExportedText
   pub round-trip : RoundTrip
+  pub round-trip-met : RoundTripMet
 
 -- ---- document 02, the books: request [14]
 
