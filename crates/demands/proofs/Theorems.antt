@@ -30,7 +30,7 @@ use Rattle.demands.proofs.HexExample.{round-trip-met}
 use Rattle.demands.proofs.Blind.{from-events}
 use Rattle.demands.proofs.Booked.{no-wider}
 use Rattle.demands.proofs.History.{session-history, session-books, session-eeprom, slot-history, slot-books, slot-eeprom}
-use Rattle.demands.proofs.BooksExample.{books-met, slot-books-met, eeprom-met, slot-eeprom-met}
+use Rattle.demands.proofs.BooksExample.{books-met, books-over-1024th, slot-books-met, eeprom-met, slot-eeprom-met}
 
 sessions : OfSessions
 sessions = record {
@@ -98,6 +98,7 @@ books = record {
   session = record { history = session-history; books = session-books; eeprom = session-eeprom };
   slots = λ j. record { history = slot-history j; books = slot-books j; eeprom = slot-eeprom j };
   books-met = books-met;
+  books-over-1024th = books-over-1024th;
   slot-books-met = slot-books-met;
   eeprom-met = eeprom-met;
   slot-eeprom-met = slot-eeprom-met;

@@ -217,3 +217,13 @@ module _ {S : Type 0} (did : S → ℕ → Rec → Did S) (start : S) (pack : Pa
     pub stopped : Stopped did start taken second first
     pub kept : BooksKept (leftBy pack first) (heardSince pack did taken first second)
     pub sum : sumOver (leftBy pack first) (heardSince pack did taken first second) ≡ pos 0 → ⊥
+
+-- and of the 1,024th conversion since power-on, over which the books are kept too: it counts the c before it, whatever its raw current is
+pub record BooksOver1024th : Type 0 where
+  pub gauge : Gauge
+  pub made : gauge .meter .flow .average .made ≡ 1023
+  pub last : value 15 (gauge .meter .flow .trace .last) ≡ pos 0 → ⊥
+  pub raw : ℕ
+  pub kept : BooksKept gauge (changed (Conversion raw) ∷ [])
+  pub sum : sumOver gauge (changed (Conversion raw) ∷ [])
+      ≡ value 15 (gauge .meter .flow .trace .last) +ℤ value 7 (countingOf (gauge .meter .cells .block .shadow) .ab)

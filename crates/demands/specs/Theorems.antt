@@ -35,7 +35,7 @@ use Rattle.demands.specs.Programming.{BenchTheorem, DoneTheorem}
 use Rattle.demands.specs.Mending.{MendedTheorem}
 use Rattle.demands.specs.RoundTrip.{RoundTripMet}
 use Rattle.demands.specs.History.{Pack, ofGauge, ofSlot, HistoryHolds}
-use Rattle.demands.specs.Books.{FromEvents, NoWider, BooksClose, BooksMet}
+use Rattle.demands.specs.Books.{FromEvents, NoWider, BooksClose, BooksMet, BooksOver1024th}
 use Rattle.demands.specs.Stored.{EepromHolds, EepromMet}
 
 -- ---- document 01
@@ -140,6 +140,7 @@ pub record OfBooks : Type 0 where
   pub session : OfPack didOf emptyOf ofGauge
   pub slots : (j : ℕ) → OfPack trayDid emptyTray (ofSlot j)
   pub books-met : BooksMet didOf emptyOf ofGauge
+  pub books-over-1024th : BooksOver1024th
   pub slot-books-met : BooksMet trayDid emptyTray (ofSlot 1)
   pub eeprom-met : EepromMet didOf emptyOf ofGauge
   pub slot-eeprom-met : EepromMet trayDid emptyTray (ofSlot 1)
