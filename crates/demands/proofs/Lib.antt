@@ -46,4 +46,5 @@ pub mod Mending
 pub mod Hundred
 pub mod HexExample
 pub mod Functions
+pub mod Edges
 pub mod Theorems
