@@ -36,8 +36,8 @@ use Rattle.gauge.specs.Act.{ranBy, ranOf, actOf}
 use Rattle.record.specs.declared.Change.the-variants.{Reading, Conversion, Sample, PowerOn}
 use Rattle.demands.specs.History.{Happening, imaged, changed, transacted, happened, lived}
 use Rattle.demands.specs.Books.{Converts, conversionsBy, tickAfter, conversionsIn, Ledger, bookedC, booked, ledgerAfter, bookedSum, entriesOf, ledgerOf}
-use Rattle.demands.specs.Books.{sumOver, countIn, unclamped, convertsNow, steady, isWrite, writesAcr, acrWritten, keepsBooks, NoWider, BooksKept}
-use Rattle.demands.specs.Books.{Unsteady, full-here, clamp-here, further}
+use Rattle.demands.specs.Books.{sumOver, countIn, unclamped, convertsNow, countWith, steady, isWrite, writesAcr, acrWritten, keepsBooks}
+use Rattle.demands.specs.Books.{NoWider, BooksKept, Unsteady, full-here, clamp-here, further}
 use Rattle.demands.proofs.Choice.{contrary}
 
 -- The count is ACR × 4,096 + fraction
@@ -84,6 +84,12 @@ added : (mark : Bool) (count counted ab : ℤ) → let z = count +ℤ pick mark 
 added true count counted ab e = sym (+ℤ-idr count)
 added false count counted ab e = e
 
+-- with the mark too, where the count was in its range
+added-clamped : (mark : Bool) (count counted ab : ℤ) → unclamped count ≡ true
+    → addedZ mark count counted ab ≡ clampZ (pos 0) (pos (2 ^ 28 - 1)) (count +ℤ pick mark (pos 0) (counted +ℤ ab))
+added-clamped true count counted ab e = sym (ap (clampZ (pos 0) (pos (2 ^ 28 - 1))) (+ℤ-idr count) ∙ not-clamped count e)
+added-clamped false count counted ab e = refl
+
 -- what is booked is what is added
 booked-added : (k : Ledger) (x : Converts) (count : ℤ) → let z = count +ℤ booked k x in clampZ (pos 0) (pos (2 ^ 28 - 1)) z ≡ z
     → addedZ (k .mark) count (blankedZ (k .profile) (countingOf (x .shadow) .nben) (bookedC k x)) (value 7 (countingOf (x .shadow) .ab)) ≡ z
@@ -102,17 +108,29 @@ module _ (m : Meter) (raw : ℕ) where
   c-is : value 15 c ≡ bookedC (ledgerOf m) conversion
   c-is = converted-means (m .flow) raw (countingOf block .cob)
 
-  pub converted-count : correctsFull m raw ≡ false → unclamped (countIn m +ℤ booked (ledgerOf m) conversion) ≡ true
-      → countIn (convertOf m raw) ≡ countIn m +ℤ booked (ledgerOf m) conversion
+  -- the count after it is what steps 2 and 3 add, in signed numbers
+  converted-added : correctsFull m raw ≡ false
+      → countIn (convertOf m raw)
+      ≡ addedZ (m .charge .mark) (countIn m) (blankedZ (m .cells .profile) (countingOf block .nben) (bookedC (ledgerOf m) conversion))
+      (value 7 (countingOf block .ab))
   unfolding countedOf
-  converted-count found inside =
+  converted-added found =
       let f = m .cells .profile in
       let p = countingOf block in
       count-is (convertOf m raw)
       ∙ ap (λ (g : Charge). pos (g .count)) (uncorrected m raw found)
       ∙ count-means f p (m .charge) c
       ∙ (λ i. addedZ (m .charge .mark) (sym (count-is m) i) (blankedZ f (p .nben) (c-is i)) (value 7 (p .ab)))
-      ∙ booked-added (ledgerOf m) conversion (countIn m) (not-clamped (countIn m +ℤ booked (ledgerOf m) conversion) inside)
+
+  pub converted-count : correctsFull m raw ≡ false → unclamped (countWith m raw) ≡ true → countIn (convertOf m raw) ≡ countWith m raw
+  converted-count found inside =
+      converted-added found ∙ booked-added (ledgerOf m) conversion (countIn m) (not-clamped (countWith m raw) inside)
+
+  converted-clamped : correctsFull m raw ≡ false → unclamped (countIn m) ≡ true
+      → countIn (convertOf m raw) ≡ clampZ (pos 0) (pos (2 ^ 28 - 1)) (countWith m raw)
+  converted-clamped found inside =
+      let counted = blankedZ (m .cells .profile) (countingOf block .nben) (bookedC (ledgerOf m) conversion) in
+      converted-added found ∙ added-clamped (m .charge .mark) (countIn m) counted (value 7 (countingOf block .ab)) inside
 
   pub converted-ledger : correctsFull m raw ≡ false → ledgerOf (convertOf m raw) ≡ ledgerAfter (ledgerOf m) conversion
   unfolding convertOf flowedOf countedOf
@@ -269,7 +287,9 @@ no-wider = record {
   full = λ m raw e. rw (converted-charge m raw, e) refl;
   empty = λ m volt temp e. rw (read-charge m volt temp, e) refl;
   written = acted-sets;
-  clamped = clamps;
+  clamped = λ m raw found inside outside.
+      let end = converted-clamped m raw found inside in
+      (end, λ same. clamps (countWith m raw) outside (sym end ∙ same));
 }
 
 entered : (g : Gauge) (h : Happening) → keepsBooks g h ≡ true → Entered g h

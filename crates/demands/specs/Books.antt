@@ -141,12 +141,16 @@ unclamped z = both (leZ (pos 0) z) (leZ z (pos (2 ^ 28 - 1)))
 abbrev pub convertsNow : Meter → ℕ → Converts
 convertsNow meter raw = record { raw = raw; shadow = meter .cells .block .shadow }
 
+-- what the count would come to with a conversion
+abbrev pub countWith : Meter → ℕ → ℤ
+countWith meter raw = countIn meter +ℤ booked (ledgerOf meter) (convertsNow meter raw)
+
 -- "no full .. correction", of each of so many conversions
 abbrev pub steady : Meter → ℕ → ℕ → Bool
 steady meter raw zero = true
 steady meter raw (suc n) =
     both (not (correctsFull meter raw))
-    (both (unclamped (countIn meter +ℤ booked (ledgerOf meter) (convertsNow meter raw))) (steady (convertOf meter raw) raw n))
+    (both (unclamped (countWith meter raw)) (steady (convertOf meter raw) raw n))
 
 -- "no ACR write": the pack is selected, and a write runs over 10h and 11h
 abbrev pub isWrite : Command → Bool
@@ -198,7 +202,9 @@ pub record NoWider : Type 0 where
   -- ACR is what was written, and the next conversion will find the mark
   pub written : (g : Gauge) (t : Transaction) (master : List ℕ) → writesAcr g t master ≡ true
       → actOf g t master .meter .charge ≡ markedOf (setOf (g .meter .charge) (acrWritten t master) false)
-  pub clamped : (z : ℤ) → unclamped z ≡ false → clampZ (pos 0) (pos (2 ^ 28 - 1)) z ≡ z → ⊥
+  -- the count stops at the end that it would leave its range by, and so it moves by something else than what is booked
+  pub clamped : (m : Meter) (raw : ℕ) → correctsFull m raw ≡ false → unclamped (countIn m) ≡ true → unclamped (countWith m raw) ≡ false
+      → (countIn (convertOf m raw) ≡ clampZ (pos 0) (pos (2 ^ 28 - 1)) (countWith m raw)) × (countIn (convertOf m raw) ≡ countWith m raw → ⊥)
 
 -- ---- the theorem
 

@@ -2,15 +2,17 @@
 use mathlib.Core.Path.{_≡_, refl, _∙_}
 use mathlib.Core.Bool.{Bool, true, false}
 use mathlib.Core.List.{List}
-use Prim.Native.Nat.{ℕ, zero, suc}
-use lib.Dec.{ltb}
+use Prim.Native.Nat.{ℕ, zero, suc, _+_, _*_}
+use borrow.Author.Tests.{leb-true, le-ltb}
+use lib.Dec.{ltb, leb, eqb}
 use Rattle.numbers.specs.Choice.{both, either, butNot}
 use Rattle.numbers.specs.Offset.{joinedOf}
-use Rattle.numbers.proofs.Bounds.{picked}
+use Rattle.numbers.proofs.Bounds.{picked, both-true}
 use Rattle.params.specs.Params.{countingOf}
 use Rattle.state.specs.declared.Charge.{Charge}
 use Rattle.state.specs.State.{acrOf, elapsedOf, poweredOf}
-use Rattle.conversion.specs.Conversion.{setOf, markedOf, filledOf, settledOf, flowedOf, convertOf, currentIn, chargeIn}
+use Rattle.conversion.specs.Conversion.{fallOf, agedOf, countedOf, setOf, markedOf, filledOf, settledOf, flowedOf, convertOf, currentIn}
+use Rattle.conversion.specs.Conversion.{chargeIn, correctsFull}
 use Rattle.conversion.proofs.ChargeLaws.{counted-stays}
 use Rattle.state.specs.declared.Meter.{Meter}
 use Rattle.reading.specs.Reading.{readOf, drainedOf, resultsShown, emptiedOf}
@@ -22,7 +24,7 @@ use Rattle.record.specs.declared.Change.the-variants.{Reading, Conversion, Samp
 use Rattle.gauge.specs.declared.Gauge.{Gauge}
 use Rattle.gauge.specs.Gauge.{conversionOf, samplingOf, readingOf, powerOnOf, writtenOf, copiedOf, recalledOf, lockedOf}
 use Rattle.gauge.specs.Change.{changedOf}
-use Rattle.gauge.specs.Aging.{agingOf, agesIn, learnsIn, setsOver, setsAging, OwnAging}
+use Rattle.gauge.specs.Aging.{agingOf, agesIn, learnsIn, fallenAs, learntIn, setsOver, setsAging, OwnAging}
 use Rattle.gauge.proofs.Kept.{acted}
 
 -- ---- a conversion
@@ -33,7 +35,28 @@ unfolding settledOf filledOf
 settled-stays g true full full40 e = rw e refl
 settled-stays g false full full40 e = refl
 
+but-not-true : (a b : Bool) → butNot a b ≡ true → (a ≡ true) × (b ≡ false)
+but-not-true a true e = (cc, cc)
+but-not-true a false e = (e, refl)
+
+-- where AC is not 0 and the counter is at least 32 × AC, AS falls
+aged-falls : (ac age aging : ℕ) → butNot (leb (32 * ac) age) (eqb ac 0) ≡ true → agedOf ac age aging .aging ≡ fallenAs aging
+aged-falls ac age aging e =
+    let z = but-not-true (leb (32 * ac) age) (eqb ac 0) e in
+    rw (z .1, le-ltb age (32 * ac) (leb-true (32 * ac) age (z .0))) refl
+
 module _ (m : Meter) (raw : ℕ) where
+  converted-falls : agesIn m raw ≡ true → learnsIn m raw ≡ false → convertOf m raw .charge .aging ≡ fallenAs (m .charge .aging)
+  unfolding convertOf flowedOf countedOf
+  converted-falls ages e =
+      let age = m .charge .age + fallOf (m .charge .count) (chargeIn m raw .count) in
+      settled-stays (chargeIn m raw) _ (m .shown .model .full) _ e
+      ∙ aged-falls (countingOf (m .cells .block .shadow) .ac) age (m .charge .aging) ages
+
+  converted-learns : learnsIn m raw ≡ true → convertOf m raw .charge .aging ≡ learntIn m raw
+  unfolding convertOf flowedOf settledOf filledOf
+  converted-learns e = let z = both-true (correctsFull m raw) _ e in rw (z .0, z .1) refl
+
   converted-stays : either (agesIn m raw) (learnsIn m raw) ≡ false → convertOf m raw .charge .aging ≡ m .charge .aging
   unfolding convertOf flowedOf
   converted-stays e =
@@ -79,6 +102,8 @@ changed-stays g PowerOn e = cc
 pub own-aging : OwnAging
 unfolding powerOnOf poweredOf writtenOf copiedOf recalledOf lockedOf meterWrittenOf meterCopiedOf meterRecalledOf meterLockedOf
 own-aging = record {
+  ages = converted-falls;
+  learns = converted-learns;
   changes = changed-stays;
   transactions = λ g t master. acted (λ (f : Gauge). agingOf f ≡ agingOf g)
       (record {

@@ -1,23 +1,25 @@
 -- What both profiles share, proved: blanking's edge and the cycle counter tell them apart, and nothing else does.
-use mathlib.Core.Path.{_≡_, refl, sym, ap, _∙_}
+use mathlib.Core.Path.{_≡_, refl, sym, ap, subst, _∙_}
 use mathlib.Core.Bool.{Bool, true, false}
 use mathlib.Core.List.{List}
-use Prim.Native.Nat.{ℕ, zero, suc, _+_, _-_}
+use Prim.Native.Nat.{ℕ, zero, suc, _+_, _-_, _^_, _<_}
 use native.Mathlib.Omega.{arith}
 use lib.Dec.{ltb, eqb}
 use lib.ListN.{getD, drop, set}
 use lib.Seq.{getD-set-other}
-use borrow.Author.Tests.{eqb-false, ltb-true, ltb-false, lt-ltb, le-ltb}
+use borrow.Author.Tests.{eqb-true, eqb-false, ltb-true, ltb-false, lt-ltb, le-ltb}
 use Rattle.numbers.specs.Choice.{pick, both}
 use Rattle.numbers.specs.Offset.{zeroAt}
-use Rattle.numbers.proofs.Bounds.{through}
+use Rattle.numbers.proofs.Bounds.{through, both-true}
 use Rattle.state.specs.declared.Profile.{Profile}
 use Rattle.state.specs.declared.Profile.the-variants.{Ds2781, Ds2775}
 use Rattle.state.specs.State.{countsCycles, elapsedOf, poweredOf}
 use Rattle.params.specs.declared.Counting.{Counting}
-use Rattle.params.specs.Params.{countingOf}
+use Rattle.params.specs.Params.{countingOf, capacityOf}
 use Rattle.state.specs.declared.Charge.{Charge}
-use Rattle.conversion.specs.Conversion.{blankedOf, countedOf, cycledOf, withCharge, flowedOf, convertOf, currentIn}
+use Rattle.conversion.specs.Conversion.{blankedOf, grownOf, countedOf, cycledOf, withCharge, settledOf, flowedOf, convertOf, currentIn}
+use Rattle.conversion.specs.Conversion.{correctsFull}
+use Rattle.conversion.proofs.Corrections.{converted-charge}
 use Rattle.reading.specs.Reading.{keptOf, readOf, drainedOf, resultsShown}
 use Rattle.state.specs.declared.Meter.{Meter}
 use Rattle.samples.specs.Samples.{sampledOf, tickedOf, sampleOf}
@@ -40,7 +42,7 @@ use Rattle.gauge.specs.declared.Gauge.{Gauge}
 use Rattle.gauge.specs.Gauge.{withMeter, conversionOf, samplingOf, readingOf, powerOnOf, writtenOf, copiedOf, recalledOf, lockedOf}
 use Rattle.gauge.specs.Change.{changedOf}
 use Rattle.gauge.specs.Act.{ranBy, ranOf, actOf, replyOf}
-use Rattle.gauge.specs.Profiles.{baseMeter, baseOf, edgeIn, edgeOver, meetsEdge, fromCounter, OnlyTwo}
+use Rattle.gauge.specs.Profiles.{baseMeter, baseOf, edgeIn, chargeAs, chargeCounting, edgeOver, meetsEdge, fromCounter, OnlyTwo}
 
 -- ---- a conversion
 
@@ -68,6 +70,51 @@ converted-alike m raw e =
 converted-edge : (m : Meter) (raw : ℕ) (x : Charge) → withCharge (baseMeter (convertOf m raw)) x ≡ withCharge (convertOf (baseMeter m) raw) x
 unfolding convertOf flowedOf cycledOf
 converted-edge m raw x = refl
+
+-- at the edge
+blanked-edge : (nben : Bool) (c : ℕ) → both nben (eqb c (zeroAt 15 - 16)) ≡ true
+    → (blankedOf Ds2775 nben c ≡ zeroAt 15) × (blankedOf Ds2781 nben c ≡ zeroAt 15 - 16)
+blanked-edge nben c e =
+    let z = both-true nben (eqb c (zeroAt 15 - 16)) e in
+    rw (z .0, eqb-true c (zeroAt 15 - 16) (z .1)) (refl, refl)
+
+module _ (m : Meter) (raw : ℕ) where
+  abbrev nben : Bool
+  nben = countingOf (m .cells .block .shadow) .nben
+
+  -- the charge is that of what blanking leaves of c
+  charge-blanked : (x : ℕ) → blankedOf (m .cells .profile) nben (currentIn m raw) ≡ x
+      → convertOf m raw .charge ≡ chargeCounting m raw x
+  unfolding countedOf
+  charge-blanked x e =
+      let full40 = capacityOf (m .cells .block .shadow) .full40 in
+      converted-charge m raw ∙ ap (λ (y : ℕ). settledOf (chargeAs m raw y) (correctsFull m raw) (m .shown .model .full) full40) e
+
+  edge-blanks : m .cells .profile ≡ Ds2775 → edgeIn m raw ≡ true → convertOf m raw .charge ≡ chargeCounting m raw (zeroAt 15)
+  edge-blanks f e = charge-blanked (zeroAt 15) (rw f (blanked-edge nben (currentIn m raw) e .0))
+
+  edge-counts : m .cells .profile ≡ Ds2781 → edgeIn m raw ≡ true → convertOf m raw .charge ≡ chargeCounting m raw (zeroAt 15 - 16)
+  edge-counts f e = charge-blanked (zeroAt 15 - 16) (rw f (blanked-edge nben (currentIn m raw) e .1))
+
+  -- where full is not found and no mark stands, the count grows by that plus AB
+  counting-grows : (x : ℕ) → m .charge .mark ≡ false → correctsFull m raw ≡ false
+      → chargeCounting m raw x .count ≡ grownOf (m .charge .count) x (countingOf (m .cells .block .shadow) .ab)
+  unfolding settledOf
+  counting-grows x mark found = rw (found, mark) refl
+
+-- 16 counts apart, but for a clamp of both at one end
+grown-apart : (count ab : ℕ) → 0 < grownOf count (zeroAt 15) ab → grownOf count (zeroAt 15 - 16) ab < 2 ^ 28 - 1
+    → grownOf count (zeroAt 15) ab ≡ grownOf count (zeroAt 15 - 16) ab → ⊥
+grown-apart count ab low high same = omega arith
+
+edge-differs : (m : Meter) (raw : ℕ) → m .cells .profile ≡ Ds2775 → edgeIn m raw ≡ true → m .charge .mark ≡ false → correctsFull m raw ≡ false
+    → 0 < convertOf m raw .charge .count → convertOf (baseMeter m) raw .charge .count < 2 ^ 28 - 1
+    → convertOf m raw .charge .count ≡ convertOf (baseMeter m) raw .charge .count → ⊥
+edge-differs m raw f e mark found low high same =
+    let ab = countingOf (m .cells .block .shadow) .ab in
+    let one = ap (λ (g : Charge). g .count) (edge-blanks m raw f e) ∙ counting-grows m raw (zeroAt 15) mark found in
+    let other = ap (λ (g : Charge). g .count) (edge-counts (baseMeter m) raw refl e) ∙ counting-grows (baseMeter m) raw (zeroAt 15 - 16) mark found in
+    grown-apart (m .charge .count) ab (subst (λ (x : ℕ). 0 < x) one low) (subst (λ (x : ℕ). x < 2 ^ 28 - 1) other high) (sym one ∙ same ∙ other)
 
 -- ---- conversions, one after the other
 
@@ -156,6 +203,9 @@ unfolding replyOf
 only-two = record {
   changes = changed-alike;
   edge = sampled-edge;
+  blanks = edge-blanks;
+  counts = edge-counts;
+  differs = edge-differs;
   transactions = acted-alike;
   lengths = λ g t master. listed-length _ 0 (t .count) ∙ sym (listed-length _ 0 (t .count));
   replies = λ g t master i e.

@@ -2,12 +2,12 @@
 use mathlib.Core.Path.{_≡_}
 use mathlib.Core.Bool.{Bool, true, false}
 use mathlib.Core.List.{List}
-use Prim.Native.Nat.{ℕ, zero, suc, _+_, _*_}
+use Prim.Native.Nat.{ℕ, zero, suc, _+_, _-_, _*_, max}
 use lib.Dec.{ltb, leb, eqb}
 use Rattle.numbers.specs.Choice.{both, either, butNot}
 use Rattle.params.specs.Params.{countingOf, capacityOf}
-use Rattle.conversion.specs.Conversion.{fallOf, chargeIn, correctsFull}
-use Rattle.state.specs.State.{elapsedOf, asIn}
+use Rattle.conversion.specs.Conversion.{fallOf, learntOf, convertOf, chargeIn, correctsFull}
+use Rattle.state.specs.State.{elapsedOf, asIn, acrOf}
 use Rattle.state.specs.declared.Meter.{Meter}
 use Rattle.samples.specs.Samples.{sampledOf}
 use Rattle.bus.specs.declared.Transaction.{Transaction}
@@ -34,6 +34,14 @@ agesIn meter raw =
 abbrev pub learnsIn : Meter → ℕ → Bool
 learnsIn meter raw = both (correctsFull meter raw) (both (chargeIn meter raw .learnf) (ltb 0 (capacityOf (meter .cells .block .shadow) .full40)))
 
+-- "AS falls by 1, never below 63"
+abbrev pub fallenAs : ℕ → ℕ
+fallenAs aging = max (aging - 1) 63
+
+-- "AS = ACR × 2^21 / (FULL × Full40)", of ACR as steps 1 to 5 leave it
+abbrev pub learntIn : Meter → ℕ → ℕ
+learntIn meter raw = learntOf (acrOf (chargeIn meter raw .count)) (meter .shown .model .full) (capacityOf (meter .cells .block .shadow) .full40)
+
 -- ---- in an event
 
 -- in one of n conversions, each in the meter that those before it leave
@@ -53,6 +61,10 @@ setsAging meter PowerOn = true
 -- ---- the law
 
 pub record OwnAging : Type 0 where
+  -- a conversion that ages takes one off AS
+  pub ages : (m : Meter) (raw : ℕ) → agesIn m raw ≡ true → learnsIn m raw ≡ false → convertOf m raw .charge .aging ≡ fallenAs (m .charge .aging)
+  -- one that teaches sets it to what is learnt, whether it ages or not: step 6 comes last
+  pub learns : (m : Meter) (raw : ℕ) → learnsIn m raw ≡ true → convertOf m raw .charge .aging ≡ learntIn m raw
   -- a change that neither is a power-on nor ages nor teaches leaves AS
   pub changes : (g : Gauge) (c : Change) → setsAging (g .meter) c ≡ false → agingOf (changedOf g c) ≡ agingOf g
   -- every transaction does, a write that runs over 14h too

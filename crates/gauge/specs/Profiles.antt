@@ -1,20 +1,20 @@
 -- "Only two things differ from 01 here": blanking's edge and the cycle counter. Without the counter every gauge goes on as the DS2781 of
 -- document 01 does, but for a conversion at that edge; and it is answered with the same bytes, but for the one of 1Eh.
 use mathlib.Core.Path.{_≡_}
-use mathlib.Core.Bool.{Bool, false}
+use mathlib.Core.Bool.{Bool, true, false}
 use mathlib.Core.List.{List}
-use Prim.Native.Nat.{ℕ, zero, suc, _+_, _-_}
+use Prim.Native.Nat.{ℕ, zero, suc, _+_, _-_, _^_, _<_}
 use lib.Dec.{eqb}
 use lib.ListN.{length, getD}
 use Rattle.numbers.specs.Choice.{both, either}
 use Rattle.numbers.specs.Offset.{zeroAt}
-use Rattle.state.specs.declared.Profile.the-variants.{Ds2781}
-use Rattle.params.specs.Params.{countingOf}
+use Rattle.state.specs.declared.Profile.the-variants.{Ds2781, Ds2775}
+use Rattle.params.specs.Params.{countingOf, capacityOf}
 use Rattle.state.specs.declared.Charge.{Charge}
 use Rattle.state.specs.State.{elapsedOf}
 use Rattle.state.specs.declared.Cells.{Cells}
 use Rattle.state.specs.declared.Meter.{Meter}
-use Rattle.conversion.specs.Conversion.{withCharge, currentIn}
+use Rattle.conversion.specs.Conversion.{addedOf, fallOf, agedOf, learningOf, settledOf, withCharge, convertOf, currentIn, correctsFull}
 use Rattle.samples.specs.Samples.{sampledOf}
 use Rattle.bus.specs.declared.Transaction.{Transaction}
 use Rattle.replies.specs.declared.Source.{Source}
@@ -55,6 +55,28 @@ baseOf gauge = withMeter gauge (baseMeter (gauge .meter))
 abbrev pub edgeIn : Meter → ℕ → Bool
 edgeIn meter raw = both (countingOf (meter .cells .block .shadow) .nben) (eqb (currentIn meter raw) (zeroAt 15 - 16))
 
+-- steps 3 to 5 of a conversion of which so much is counted, kept as z + 2^15, whatever blanking would make of its c
+abbrev pub countAs : Meter → ℕ → ℕ
+countAs meter counted = addedOf (meter .charge .mark) (meter .charge .count) counted (countingOf (meter .cells .block .shadow) .ab)
+
+abbrev pub chargeAs : Meter → ℕ → ℕ → Charge
+chargeAs meter raw counted =
+    let charge = meter .charge in
+    let count = countAs meter counted in
+    let aged = agedOf (countingOf (meter .cells .block .shadow) .ac) (charge .age + fallOf (charge .count) count) (charge .aging) in
+    record {
+      count = count;
+      age = aged .age;
+      aging = aged .aging;
+      learnf = learningOf (charge .learnf) (meter .flow .trace .last) (currentIn meter raw) count;
+      mark = false;
+    }
+
+-- and step 6
+abbrev pub chargeCounting : Meter → ℕ → ℕ → Charge
+chargeCounting meter raw counted =
+    settledOf (chargeAs meter raw counted) (correctsFull meter raw) (meter .shown .model .full) (capacityOf (meter .cells .block .shadow) .full40)
+
 -- one of n conversions, each in the meter that those before it leave
 abbrev pub edgeOver : Meter → ℕ → ℕ → Bool
 edgeOver meter raw zero = false
@@ -86,6 +108,13 @@ pub record OnlyTwo : Type 0 where
   pub changes : (g : Gauge) (c : Change) → meetsEdge (g .meter) c ≡ false → baseOf (changedOf g c) ≡ changedOf (baseOf g) c
   -- conversions at the edge too, but for the charge
   pub edge : (m : Meter) (raw n : ℕ) (x : Charge) → withCharge (baseMeter (sampledOf m raw n)) x ≡ withCharge (sampledOf (baseMeter m) raw n) x
+  -- there the DS2775 counts nothing, "-16 counts as 0", and the DS2781 counts -16
+  pub blanks : (m : Meter) (raw : ℕ) → m .cells .profile ≡ Ds2775 → edgeIn m raw ≡ true → convertOf m raw .charge ≡ chargeCounting m raw (zeroAt 15)
+  pub counts : (m : Meter) (raw : ℕ) → m .cells .profile ≡ Ds2781 → edgeIn m raw ≡ true → convertOf m raw .charge ≡ chargeCounting m raw (zeroAt 15 - 16)
+  -- so their counts differ, where no mark stands, full is not found and they are not both clamped at one end
+  pub differs : (m : Meter) (raw : ℕ) → m .cells .profile ≡ Ds2775 → edgeIn m raw ≡ true → m .charge .mark ≡ false → correctsFull m raw ≡ false
+      → 0 < convertOf m raw .charge .count → convertOf (baseMeter m) raw .charge .count < 2 ^ 28 - 1
+      → convertOf m raw .charge .count ≡ convertOf (baseMeter m) raw .charge .count → ⊥
   -- and every transaction
   pub transactions : (g : Gauge) (t : Transaction) (master : List ℕ) → baseOf (actOf g t master) ≡ actOf (baseOf g) t master
   -- with as long a reply, and the same bytes in it
