@@ -17,6 +17,7 @@ pub mod Single
 pub mod Others
 pub mod Isolation
 pub mod Demand1
+pub mod Numbers
 pub mod Demand2
 pub mod Mix
 pub mod Touched

@@ -13,6 +13,7 @@ pub mod Isolation
 pub mod History
 pub mod Books
 pub mod Stored
+pub mod Numbers
 pub mod Programming
 pub mod Slow
 pub mod Mending
