@@ -31,7 +31,7 @@ use Rattle.tray_record.specs.declared.Reach.the-variants.{One, Every, Nobody}
 use Rattle.tray_record.specs.Tray.{emptyTray, packOf, trayKindOf, slotIn, trayReach, trayTold, trayEvent, ofTray, trayDid}
 use Rattle.demands.specs.Call.{Call, Within, Stopped}
 use Rattle.demands.specs.History.{Happening, imaged, lived, Imageless, hearsOf, Pack, ofGauge, slotHears, ofSlot}
-use Rattle.demands.specs.History.{eventHappens, heardBy, heardIn, heardAfter, heardSince, leftBy, HistoryHolds}
+use Rattle.demands.specs.History.{eventHappens, heardBy, heardIn, heardAfter, heardSince, lifeIn, leftBy, HistoryHolds}
 use Rattle.demands.specs.Books.{sumOver, countIn, BooksClose}
 use Rattle.demands.specs.Stored.{eepromIn, storedLast, EepromHolds}
 use Rattle.demands.proofs.Choice.{contrary}
@@ -69,6 +69,21 @@ pub record Follows {S : Type 0} (did : S → ℕ → Rec → Did S) (start : S) 
   pub comes : (σ : S) (room : ℕ) (r : Rec) → Holds σ → pack .there σ ≡ false → Brings (pack .there (did σ room r .state)) (heardIn pack σ room r)
   pub stays : (σ : S) (room : ℕ) (r : Rec) → Holds σ → pack .there σ ≡ true →
       (pack .there (did σ room r .state) ≡ true) × Imageless (heardIn pack σ room r)
+
+-- The life of a pack that is there begins with its image, and leaves the gauge that it has
+
+pub record Born {S : Type 0} (did : S → ℕ → Rec → Did S) (start : S) (pack : Pack S) (c : Call S) : Type 0 where
+  pub profile : Profile
+  pub image : List ℕ
+  pub later : List Happening
+  pub life : lifeIn did start pack c ≡ imaged profile image ∷ later
+  pub once : Imageless later
+  pub gauge : leftBy pack c ≡ lived (imageOf profile image) later
+
+-- what is known of the history of a pack
+pub record Known {S : Type 0} (did : S → ℕ → Rec → Did S) (start : S) (pack : Pack S) : Type 0 where
+  pub since : HistoryHolds did start pack
+  pub born : (c : Call S) → Within did start c → pack .there (c .ran .state) ≡ true → Born did start pack c
 
 module _ {S : Type 0} {did : S → ℕ → Rec → Did S} {start : S} {pack : Pack S} {Holds : S → Type 0} (f : Follows did start pack Holds) where
   end-holds : (rs : List Rec) (σ : S) (room : ℕ) → Holds σ → Holds (endAfter did σ room rs)
@@ -151,6 +166,26 @@ module _ {S : Type 0} {did : S → ℕ → Rec → Did S} {start : S} {pack : Pa
     pub since-imageless : pack .there (a .ran .state) ≡ true → Imageless (heardSince pack did n a b)
     since-imageless t = end-imageless rest (a .ran .state) (length (a .room) - a .ran .replied) holds t
 
+  born-of : (c : Call S) → Within did start c → pack .there (c .ran .state) ≡ true → Born did start pack c
+  born-of c w there =
+      let rs = recsOf (c .bytes) in
+      let state = running did start w .state in
+      let b = end-begins rs start (length (c .room)) (f .starts) (f .nowhere) (ap (pack .there) (sym state) ∙ there) in
+      record {
+        profile = b .profile;
+        image = b .image;
+        later = b .later;
+        life = b .life;
+        once = b .once;
+        gauge =
+            ap (pack .gauge) state
+            ∙ end-lived rs start (length (c .room)) (f .starts)
+            ∙ ap (λ (hs : List Happening). lived (pack .gauge start) hs) (b .life);
+      }
+
+  pub known-of : Known did start pack
+  known-of = record { since = since-lived; born = born-of }
+
   -- THE BOOKS CLOSE
   pub books-of : BooksClose did start pack
   books-of n a b w s k =
@@ -166,9 +201,7 @@ module _ {S : Type 0} {did : S → ℕ → Rec → Did S} {start : S} {pack : Pa
         subst (λ (f : Gauge). eepromIn m f ≡ eepromIn m g) (sym (since-lived n a b w s))
         (locked-lasts m (eepromIn m g) (heardSince pack did n a b) g (since-imageless n a b w s there) (lock, refl) .1);
     stored = λ m c w there.
-        let rs = recsOf (c .bytes) in
-        let state = running did start w .state in
-        let b = end-begins rs start (length (c .room)) (f .starts) (f .nowhere) (ap (pack .there) (sym state) ∙ there) in
+        let b = born-of c w there in
         record {
           profile = b .profile;
           image = b .image;
@@ -176,9 +209,7 @@ module _ {S : Type 0} {did : S → ℕ → Rec → Did S} {start : S} {pack : Pa
           life = b .life;
           once = b .once;
           bytes =
-              ap (λ (σ : S). eepromIn m (pack .gauge σ)) state
-              ∙ ap (eepromIn m) (end-lived rs start (length (c .room)) (f .starts))
-              ∙ ap (λ (hs : List Happening). eepromIn m (lived (pack .gauge start) hs)) (b .life)
+              ap (eepromIn m) (b .gauge)
               ∙ stored-last m (b .later) (imageOf (b .profile) (b .image))
               ∙ ap (λ (bytes : List ℕ). storedLast m (imageOf (b .profile) (b .image)) bytes (b .later)) (stored-image m (b .profile) (b .image));
         };
@@ -241,6 +272,9 @@ session-follows = record {
   comes = λ σ room r h none. session-comes σ room r none;
   stays = λ σ room r h there. session-stays σ room r there;
 }
+
+pub session-known : Known didOf emptyOf ofGauge
+session-known = known-of session-follows
 
 pub session-history : HistoryHolds didOf emptyOf ofGauge
 session-history = since-lived session-follows
@@ -339,6 +373,9 @@ slot-follows j = record {
   comes = λ τ room r h none. slot-comes τ h j room r none;
   stays = λ τ room r h there. slot-stays τ h j room r there;
 }
+
+pub slot-known : (j : ℕ) → Known trayDid emptyTray (ofSlot j)
+slot-known j = known-of (slot-follows j)
 
 pub slot-history : (j : ℕ) → HistoryHolds trayDid emptyTray (ofSlot j)
 slot-history j = since-lived (slot-follows j)

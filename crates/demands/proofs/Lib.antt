@@ -42,9 +42,9 @@ pub mod Booked
 pub mod Blind
 pub mod Stored
 pub mod History
+pub mod Lives
 pub mod BooksExample
 pub mod Mending
-pub mod Hundred
 pub mod HexExample
 pub mod Functions
 pub mod Edges

@@ -1,6 +1,7 @@
 -- All theorems, as one value.
 use mathlib.Core.Path.{sym, _∙_}
 use Rattle.reading.proofs.Product.{product-lines}
+use Rattle.reading.proofs.Hundred.{hundred-holds}
 use Rattle.gauge.proofs.Profiles.{only-two}
 use Rattle.gauge.proofs.ImageAging.{pack-aging}
 use Rattle.gauge.proofs.ImageProfiles.{images-share}
@@ -21,7 +22,6 @@ use Rattle.demands.proofs.TrayExample.{tray-demand-3-met, isolation-met
 use Rattle.demands.proofs.Alone.{alone}
 use Rattle.demands.proofs.Slots.{slots-as-old}
 use Rattle.demands.proofs.Isolation.{isolation, isolated-throughout}
-use Rattle.demands.proofs.Hundred.{hundred}
 use Rattle.demands.proofs.Slow.{slow}
 use Rattle.demands.proofs.Longer.{longer, longer-met}
 use Rattle.demands.proofs.Programming.{bench, bench-done}
@@ -62,7 +62,7 @@ both-engines meter raw n a b plain quick = plain .0 ∙ sym (quick .0)
 
 gauges : OfGauges
 gauges = record {
-  hundred = hundred;
+  hundred = hundred-holds;
   product = product-lines;
   engines = both-engines;
   slow = slow;

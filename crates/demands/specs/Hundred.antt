@@ -1,53 +1,84 @@
--- A FULL PACK SAYS 100, request [1] of document 02.
+-- A FULL PACK SAYS 100, over a run: request [1] of document 02.
 --
--- "A full pack should say 100. .. Where D is above 0, a very small Full40 no longer drops CHGTF at once." With D at 0 or below RARC is 0 and CHGTF drops.
+-- "Operators see 99 on a pack the charger has just finished. .. It is to be rounded up, so that case gives ACR 9194 and RARC 100. Where D is above 0, a
+-- very small Full40 no longer drops CHGTF at once."
+--
+-- Of one conversion and one reading `Hundred` of `reading` says it. Stated here of any run and of any pack that it holds, from what finds full on, with
+-- any events between it and the readings, as long as each reading comes as `AfterFull` says.
 use mathlib.Core.Path.{_≡_}
 use mathlib.Core.Bool.{Bool, true, false}
+use mathlib.Core.List.{List, [], _∷_}
 use Prim.Native.Nat.{ℕ, _<_}
-use Rattle.params.specs.declared.Capacity.{Capacity}
-use Rattle.params.specs.Params.{limitsOf, capacityOf, curvesOf}
-use Rattle.state.specs.declared.Charge.{Charge}
-use Rattle.state.specs.State.{acrOf}
-use Rattle.conversion.specs.Conversion.{agedFullOf, convertOf, correctsFull}
-use Rattle.reading.specs.declared.Seen.{Seen}
-use Rattle.reading.specs.Reading.{usableOf, seenOf, drainedOf, readOf}
-use Rattle.state.specs.declared.Meter.{Meter}
+use Rattle.numbers.specs.Choice.{either}
+use Rattle.state.specs.State.{elapsedOf}
+use Rattle.conversion.specs.Conversion.{correctsFull}
+use Rattle.reading.specs.Hundred.{FullLeft, leftAtFull, usableIn, AfterFull}
+use Rattle.samples.specs.Samples.{sampledOf}
+use Rattle.gauge.specs.declared.Gauge.{Gauge}
+use Rattle.record.specs.declared.Change.the-variants.{Reading, Conversion, Sample, PowerOn}
+use Rattle.runs.specs.Record.{Rec}
+use Rattle.runs.specs.Run.{Did}
+use Rattle.runs.specs.SessionRecord.{didOf}
+use Rattle.session_run.specs.SessionRun.{emptyOf}
+use Rattle.tray_record.specs.Tray.{emptyTray, trayDid}
+use Rattle.demands.specs.Call.{Call, Within, Stopped}
+use Rattle.demands.specs.History.{Happening, imaged, changed, transacted, happened, Pack, ofGauge, ofSlot, heardSince, leftBy}
 
--- a reading of v and t, by the meter that it finds
-module _ (meter : Meter) (v t : ℕ) where
-  abbrev pub capacityAt : Capacity
-  capacityAt = capacityOf (meter .cells .block .shadow)
+-- ---- full is found by a conversion, or by one of a sample's, and leaves so much
 
-  abbrev pub seenAt : Seen
-  seenAt = seenOf (limitsOf (meter .cells .block .shadow)) (curvesOf (meter .cells .block .shadow)) v t
+pub data FindsFull (g : Gauge) : Happening → FullLeft → Type 0 where
+  by-conversion : (raw : ℕ) → correctsFull (g .meter) raw ≡ true → FindsFull g (changed (Conversion raw)) (leftAtFull (g .meter) raw)
+  by-sample : (raw tick i : ℕ) → i < elapsedOf (g .meter .flow .tick) tick → correctsFull (sampledOf (g .meter) raw i) raw ≡ true
+      → FindsFull g (changed (Sample raw tick)) (leftAtFull (sampledOf (g .meter) raw i) raw)
 
-  -- the charge that step 3 leaves
-  abbrev pub chargeLeft : Charge
-  chargeLeft = drainedOf meter (limitsOf (meter .cells .block .shadow)) (capacityAt .full40) seenAt
+-- ---- since then there is no power-on, and each reading comes with ACR, AS and Full40 as full left them, sees the same FULL, and has D above 0
 
-  -- D
-  abbrev pub usableAt : ℕ
-  usableAt = usableOf (agedFullOf (seenAt .lines .full) (chargeLeft .aging)) (seenAt .lines .ae) (capacityAt .full40)
+abbrev pub KeepsFull : FullLeft → Gauge → Happening → Type 0
+KeepsFull f gauge (imaged k p) = ⊥
+KeepsFull f gauge (changed (Reading volt temp)) = AfterFull f (gauge .meter) volt temp
+KeepsFull f gauge (changed (Conversion raw)) = Unit
+KeepsFull f gauge (changed (Sample raw tick)) = Unit
+KeepsFull f gauge (changed PowerOn) = ⊥
+KeepsFull f gauge (transacted t master) = Unit
 
-  -- what it then says
-  pub record SaysPercent (rarc : ℕ) (chgtf : Bool) : Type 0 where
-    pub percent : readOf meter v t .shown .results .rarc ≡ rarc
-    pub flag : readOf meter v t .shown .flags .chgtf ≡ chgtf
+abbrev pub FullKept : FullLeft → Gauge → List Happening → Type 0
+FullKept f gauge [] = Unit
+FullKept f gauge (h ∷ hs) = KeepsFull f gauge h × FullKept f (happened gauge h) hs
 
--- full is found in a conversion of k, and the reading finds ACR, AS, FULL and Full40 as it left them
-pub record FullBefore (k : Meter) (raw : ℕ) (meter : Meter) (v t : ℕ) : Type 0 where
-  pub full : correctsFull k raw ≡ true
-  pub acr : acrOf (chargeLeft meter v t .count) ≡ acrOf (convertOf k raw .charge .count)
-  pub aging : chargeLeft meter v t .aging ≡ convertOf k raw .charge .aging
-  pub line : seenAt meter v t .lines .full ≡ k .shown .model .full
-  pub full40 : capacityAt meter v t .full40 ≡ capacityOf (k .cells .block .shadow) .full40
+abbrev pub isReading : Happening → Bool
+isReading (imaged f p) = false
+isReading (changed (Reading volt temp)) = true
+isReading (changed (Conversion raw)) = false
+isReading (changed (Sample raw tick)) = false
+isReading (changed PowerOn) = false
+isReading (transacted t master) = false
 
-pub record Hundred : Type 0 where
-  -- a reading that comes any time later
-  pub stays : (k : Meter) (raw : ℕ) (meter : Meter) (v t : ℕ) → FullBefore k raw meter v t → 0 < usableAt meter v t
-      → SaysPercent meter v t 100 (meter .shown .flags .chgtf)
-  -- the next one
-  pub next : (k : Meter) (raw v t : ℕ) → FullBefore k raw (convertOf k raw) v t → 0 < usableAt (convertOf k raw) v t
-      → SaysPercent (convertOf k raw) v t 100 true
-  -- D ≤ 0
-  pub none : (meter : Meter) (v t : ℕ) → usableAt meter v t ≡ 0 → SaysPercent meter v t 0 false
+abbrev pub readsIn : List Happening → Bool
+readsIn [] = false
+readsIn (h ∷ hs) = either (isReading h) (readsIn hs)
+
+-- ---- the theorem, of the run b, stopped earlier, as a, after n records
+
+-- what RARC and CHGTF are
+abbrev pub percentIn : Gauge → ℕ
+percentIn gauge = gauge .meter .shown .results .rarc
+
+abbrev pub chargedIn : Gauge → Bool
+chargedIn gauge = gauge .meter .shown .flags .chgtf
+
+module _ {S : Type 0} (did : S → ℕ → Rec → Did S) (start : S) (pack : Pack S) where
+  pub record HundredHolds : Type 0 where
+    -- CHGTF stays set, and from the first reading on RARC is 100
+    pub full : (n : ℕ) (a b : Call S) → Within did start b → Stopped did start n b a
+        → (h : Happening) (later : List Happening) → heardSince pack did n a b ≡ h ∷ later
+        → (f : FullLeft) → FindsFull (leftBy pack a) h f → FullKept f (happened (leftBy pack a) h) later
+        → (chargedIn (leftBy pack b) ≡ true) × (readsIn later ≡ true → percentIn (leftBy pack b) ≡ 100)
+    -- with D ≤ 0 a reading drops both
+    pub none : (n : ℕ) (a b : Call S) → Within did start b → Stopped did start n b a
+        → (volt temp : ℕ) → heardSince pack did n a b ≡ changed (Reading volt temp) ∷ [] → usableIn (leftBy pack a .meter) volt temp ≡ 0
+        → (chargedIn (leftBy pack b) ≡ false) × (percentIn (leftBy pack b) ≡ 0)
+
+-- of the gauge of a session, and of each slot of a tray
+pub record FullPack : Type 0 where
+  pub session : HundredHolds didOf emptyOf ofGauge
+  pub slots : (j : ℕ) → HundredHolds trayDid emptyTray (ofSlot j)

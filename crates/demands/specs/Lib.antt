@@ -14,6 +14,9 @@ pub mod History
 pub mod Books
 pub mod Stored
 pub mod Numbers
+pub mod Saved
+pub mod Aging
+pub mod Hundred
 pub mod Programming
 pub mod Slow
 pub mod Mending

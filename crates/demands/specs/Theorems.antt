@@ -9,6 +9,7 @@ use Rattle.state.specs.declared.Meter.{Meter}
 use Rattle.state.specs.declared.Profile.{Profile}
 use Rattle.reading.specs.Reading.{modelLines}
 use Rattle.reading.specs.Product.{productOf}
+use Rattle.reading.specs.Hundred.{Hundred}
 use Rattle.samples.proofs.Engines.{plainly, quickly}
 use Rattle.gauge.specs.Profiles.{OnlyTwo}
 use Rattle.gauge.specs.ImageAging.{PackAging}
@@ -30,7 +31,6 @@ use Rattle.demands.specs.Alone.{Alone}
 use Rattle.demands.specs.Isolation.{Isolation, IsolationThroughout, IsolationMet}
 use Rattle.demands.specs.Longer.{Longer, LongerMet}
 use Rattle.demands.specs.Slow.{Slow}
-use Rattle.demands.specs.Hundred.{Hundred}
 use Rattle.demands.specs.Programming.{BenchTheorem, DoneTheorem}
 use Rattle.demands.specs.Mending.{MendedTheorem}
 use Rattle.demands.specs.RoundTrip.{RoundTripMet}

@@ -1,2 +1,3 @@
 pub mod Product
 pub mod Reading
+pub mod Hundred
