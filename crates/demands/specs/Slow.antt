@@ -1,19 +1,21 @@
 -- Slow sampling, in sessions. "A sample of n ticks means n conversions of that reading, averages, ageing and full detection along the way":
--- the same currents as samples, kind 6, and as conversions, kind 3, one by one for each tick, end in the same state, but for the tick that is
--- remembered.
+-- the same currents as samples, kind 6, and as conversions, kind 3, one by one for each tick, with any other records between them, end in the same
+-- state, but for the tick that is remembered; and the other records get the same answers and replies.
 use mathlib.Core.Path.{_≡_}
-use mathlib.Core.Bool.{true}
+use mathlib.Core.Bool.{Bool, false}
 use mathlib.Core.List.{List, [], _∷_, _++_, map}
 use Prim.Native.Nat.{ℕ, _+_, _*_}
-use lib.ListN.{replicate}
+use lib.Dec.{leb, eqb}
+use lib.ListN.{length, replicate}
+use Rattle.numbers.specs.Choice.{pick, both}
 use Rattle.state.specs.declared.Tick.{Tick}
-use Rattle.state.specs.State.{noTick, tickOf, elapsedOf, timelyOf}
+use Rattle.state.specs.State.{noTick, tickOf, elapsedOf}
 use Rattle.conversion.specs.Conversion.{withFlow}
 use Rattle.samples.specs.Samples.{withTick}
 use Rattle.gauge.specs.declared.Gauge.{Gauge}
 use Rattle.gauge.specs.Gauge.{withMeter}
-use Rattle.runs.specs.Record.{Rec, whole}
-use Rattle.runs.specs.Run.{endAfter}
+use Rattle.runs.specs.Record.{Rec, whole, cut, kindIn}
+use Rattle.runs.specs.Run.{Line, linesAfter, endAfter}
 use Rattle.runs.specs.declared.Session.{Session}
 use Rattle.runs.specs.SessionRecord.{loadedWith, didOf}
 
@@ -35,15 +37,57 @@ sampling s = whole 6 (s .c0 ∷ s .c1 ∷ s .c2 ∷ s .c3 ∷ s .low ∷ s .high
 abbrev pub converting : Sample → Rec
 converting s = whole 3 (s .c0 ∷ s .c1 ∷ s .c2 ∷ s .c3 ∷ [])
 
--- each comes 1 to 64 ticks after the one before it, so that none is refused
-abbrev pub Timely : Tick → List Sample → Type 0
-Timely last [] = Unit
-Timely last (s ∷ ss) = (timelyOf last (tickIn s) ≡ true) × Timely (tickOf (tickIn s)) ss
+-- ---- samples with other records between them
 
--- each as so many conversions
-abbrev pub oneByOne : Tick → List Sample → List Rec
+pub data Slowly : Type 0 where
+  sample : Sample → Slowly
+  other : Rec → Slowly
+
+-- the others are of any kind but 6
+abbrev pub NoSamples : List Slowly → Type 0
+NoSamples [] = Unit
+NoSamples (sample s ∷ xs) = NoSamples xs
+NoSamples (other r ∷ xs) = (eqb (kindIn r) 6 ≡ false) × NoSamples xs
+
+abbrev pub slowRecord : Slowly → Rec
+slowRecord (sample s) = sampling s
+slowRecord (other r) = r
+
+-- ---- the same as conversions
+
+-- it comes 1 to 64 ticks after the last one: its conversions fit
+abbrev pub sampleFits : Tick → Sample → Bool
+sampleFits last s = both (leb 1 (elapsedOf last (tickIn s))) (leb (elapsedOf last (tickIn s)) 64)
+
+-- of the conversions of a sample that is not taken there are none
+abbrev pub eachTick : {A : Type 0} → Tick → Sample → A → List A
+eachTick last s x = pick (sampleFits last s) (replicate (elapsedOf last (tickIn s)) x) []
+
+abbrev pub isPowerOn : Rec → Bool
+isPowerOn (whole kind p) = both (eqb kind 5) (eqb (length p) 0)
+isPowerOn cut = false
+
+-- the tick that is remembered: a sample that is refused leaves it, and a power-on forgets it
+abbrev pub tickSince : Tick → Slowly → Tick
+tickSince last (sample s) = pick (sampleFits last s) (tickOf (tickIn s)) last
+tickSince last (other r) = pick (isPowerOn r) noTick last
+
+abbrev pub oneByOne : Tick → List Slowly → List Rec
 oneByOne last [] = []
-oneByOne last (s ∷ ss) = replicate (elapsedOf last (tickIn s)) (converting s) ++ oneByOne (tickOf (tickIn s)) ss
+oneByOne last (sample s ∷ xs) = eachTick last s (converting s) ++ oneByOne (tickSince last (sample s)) xs
+oneByOne last (other r ∷ xs) = r ∷ oneByOne (tickSince last (other r)) xs
+
+-- and their lines: that of each other record, and for each conversion one that says that it is done
+abbrev pub doneLine : Line
+doneLine = record { kind = 3; answer = 0; reply = [] }
+
+abbrev pub oneByOneLines : Tick → List Slowly → List Line → List Line
+oneByOneLines last [] ls = []
+oneByOneLines last (x ∷ xs) [] = []
+oneByOneLines last (sample s ∷ xs) (l ∷ ls) = eachTick last s doneLine ++ oneByOneLines (tickSince last (sample s)) xs ls
+oneByOneLines last (other r ∷ xs) (l ∷ ls) = l ∷ oneByOneLines (tickSince last (other r)) xs ls
+
+-- ---- the theorem, from any gauge on
 
 -- a state but for its tick
 abbrev pub untickedGauge : Gauge → Gauge
@@ -52,6 +96,19 @@ untickedGauge gauge = withMeter gauge (withFlow (gauge .meter) (withTick (gauge 
 abbrev pub unticked : Session → Session
 unticked session = record { loaded = session .loaded; gauge = untickedGauge (session .gauge) }
 
-abbrev pub Slow : Type 0
-Slow = (g : Gauge) (room : ℕ) (ss : List Sample) → Timely (g .meter .flow .tick) ss
-    → unticked (endAfter didOf (loadedWith g) room (map sampling ss)) ≡ unticked (endAfter didOf (loadedWith g) room (oneByOne (g .meter .flow .tick) ss))
+module _ (g : Gauge) (room : ℕ) where
+  abbrev pub lastOf : Tick
+  lastOf = g .meter .flow .tick
+
+  -- a sample is answered 0 exactly where its conversions fit, and else 11
+  abbrev pub SampleAnswered : Sample → Type 0
+  SampleAnswered s = didOf (loadedWith g) room (sampling s) .answer ≡ pick (sampleFits lastOf s) 0 11
+
+  pub record AsConversions (xs : List Slowly) : Type 0 where
+    pub state : unticked (endAfter didOf (loadedWith g) room (map slowRecord xs)) ≡ unticked (endAfter didOf (loadedWith g) room (oneByOne lastOf xs))
+    pub lines : linesAfter didOf (loadedWith g) room (oneByOne lastOf xs)
+        ≡ oneByOneLines lastOf xs (linesAfter didOf (loadedWith g) room (map slowRecord xs))
+
+pub record Slow : Type 0 where
+  pub answers : (g : Gauge) (room : ℕ) (s : Sample) → SampleAnswered g room s
+  pub conversions : (g : Gauge) (room : ℕ) (xs : List Slowly) → NoSamples xs → AsConversions g room xs
