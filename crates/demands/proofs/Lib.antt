@@ -37,13 +37,14 @@ pub mod Cases
 pub mod Called
 pub mod Example
 pub mod TrayExample
-pub mod Slow
 pub mod Booked
 pub mod Blind
 pub mod Stored
 pub mod History
 pub mod Lives
+pub mod Slow
 pub mod BooksExample
+pub mod HundredExample
 pub mod Mending
 pub mod HexExample
 pub mod Functions

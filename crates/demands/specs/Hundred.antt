@@ -78,6 +78,21 @@ module _ {S : Type 0} (did : S → ℕ → Rec → Did S) (start : S) (pack : Pa
         → (volt temp : ℕ) → heardSince pack did n a b ≡ changed (Reading volt temp) ∷ [] → usableIn (leftBy pack a .meter) volt temp ≡ 0
         → (chargedIn (leftBy pack b) ≡ false) × (percentIn (leftBy pack b) ≡ 0)
 
+  -- and it speaks of something: full is found, and a reading comes so
+  pub record HundredMet : Type 0 where
+    pub taken : ℕ
+    pub first : Call S
+    pub second : Call S
+    pub run : Within did start second
+    pub stopped : Stopped did start taken second first
+    pub finds : Happening
+    pub later : List Happening
+    pub since : heardSince pack did taken first second ≡ finds ∷ later
+    pub left : FullLeft
+    pub full : FindsFull (leftBy pack first) finds left
+    pub kept : FullKept left (happened (leftBy pack first) finds) later
+    pub reads : readsIn later ≡ true
+
 -- of the gauge of a session, and of each slot of a tray
 pub record FullPack : Type 0 where
   pub session : HundredHolds didOf emptyOf ofGauge

@@ -21,6 +21,5 @@ pub mod Programming
 pub mod Slow
 pub mod Mending
 pub mod Contracts
-pub mod Hundred
 pub mod RoundTrip
 pub mod Theorems
