@@ -45,7 +45,7 @@ use Rattle.demands.proofs.Stored.{stored-image, stored-last, locked-las
 
 -- One history, then another
 
-lived-append : (hs ks : List Happening) (g : Gauge) → lived g (hs ++ ks) ≡ lived (lived g hs) ks
+pub lived-append : (hs ks : List Happening) (g : Gauge) → lived g (hs ++ ks) ≡ lived (lived g hs) ks
 lived-append [] ks g = refl
 lived-append (h ∷ hs) ks g = lived-append hs ks _
 

@@ -47,6 +47,12 @@ use Rattle.runs.specs.declared.Session.{Session}
 use Rattle.runs.specs.SessionRecord.{loadedWith, ofSession, didOf}
 use Rattle.demands.specs.Slow.{Sample, tickIn, sampling, converting, Slowly, sample, other, NoSamples, slowRecord, sampleFits, isPowerOn}
 use Rattle.demands.specs.Slow.{oneByOne, doneLine, oneByOneLines, untickedGauge, unticked, lastOf, Slow}
+use Rattle.session_run.specs.SessionRun.{emptyOf}
+use Rattle.tray_record.specs.Tray.{emptyTray, trayDid}
+use Rattle.gauge.specs.Image.{imageOf}
+use Rattle.demands.specs.Slow.{unsampledBy, tickHeard, unsampled, SlowPack}
+use Rattle.demands.specs.History.{Happening, imaged, changed, transacted, happened, lived, Pack, ofGauge, ofSlot, heardSince, leftBy}
+use Rattle.demands.proofs.History.{lived-append, Known, session-known, slot-known}
 use Rattle.demands.proofs.Choice.{contrary, Each, NoneOf, among}
 
 -- One record
@@ -403,8 +409,53 @@ samples-end (other r ∷ xs) g h room e n =
     let a = other-alike g h e room r (n .0) in
     other-ends g h room r xs a (samples-end xs (a .one) (a .another) (room - length (didOf (loadedWith g) room r .reply)) (a .same) (n .1))
 
+-- What a pack goes through
+
+lived-sampled : (g : Gauge) (raw n : ℕ) → lived g (replicate n (changed (change.Conversion raw))) ≡ sampledGauge g raw n
+unfolding sampledOf conversionOf
+lived-sampled g raw zero = refl
+lived-sampled g raw (suc n) = lived-sampled (conversionOf g raw) raw n ∙ ap (withMeter g) (sampled-first (g .meter) raw n)
+
+module _ (g h : Gauge) (e : untickedGauge g ≡ untickedGauge h) where
+  -- one thing in both
+  happened-same : (x : Happening) → untickedGauge (happened g x) ≡ untickedGauge (lived h (unsampledBy (g .meter .flow .tick) x))
+  unfolding readingOf readOf drainedOf resultsShown conversionOf convertOf flowedOf powerOnOf poweredOf samplingOf sampleOf
+  happened-same (imaged f p) = refl
+  happened-same (changed (change.Reading volt temp)) = ap (λ (f : Gauge). readingOf f volt temp) e
+  happened-same (changed (change.Conversion raw)) = ap (λ (f : Gauge). conversionOf f raw) e
+  happened-same (changed (change.Sample raw tick)) =
+      let n = elapsedOf (g .meter .flow .tick) tick in
+      sampled-same g h raw n e ∙ ap untickedGauge (sym (lived-sampled h raw n))
+  happened-same (changed change.PowerOn) = ap powerOnOf e
+  happened-same (transacted t master) =
+      acted-unticked g t master ∙ ap (λ (f : Gauge). actOf f t master) e ∙ sym (acted-unticked h t master)
+
+happened-tick : (g : Gauge) (x : Happening) → happened g x .meter .flow .tick ≡ tickHeard (g .meter .flow .tick) x
+unfolding imageOf readingOf readOf resultsShown conversionOf convertOf flowedOf powerOnOf poweredOf samplingOf sampleOf
+happened-tick g (imaged f p) = refl
+happened-tick g (changed (change.Reading volt temp)) = refl
+happened-tick g (changed (change.Conversion raw)) = refl
+happened-tick g (changed (change.Sample raw tick)) = refl
+happened-tick g (changed change.PowerOn) = refl
+happened-tick g (transacted t master) = acted-tick g t master
+
+lived-same : (hs : List Happening) (g h : Gauge) → untickedGauge g ≡ untickedGauge h
+    → untickedGauge (lived g hs) ≡ untickedGauge (lived h (unsampled (g .meter .flow .tick) hs))
+lived-same [] g h e = e
+lived-same (x ∷ hs) g h e =
+    let last = g .meter .flow .tick in
+    lived-same hs (happened g x) (lived h (unsampledBy last x)) (happened-same g h e x)
+    ∙ ap untickedGauge
+    ((λ i. lived (lived h (unsampledBy last x)) (unsampled (happened-tick g x i) hs)) ∙ sym (lived-append (unsampledBy last x) _ h))
+
+slow-pack : {S : Type 0} (did : S → ℕ → Rec → Did S) (start : S) (pack : Pack S) → Known did start pack → SlowPack did start pack
+slow-pack did start pack k n a b w s =
+    ap untickedGauge (k .since n a b w s) ∙ lived-same (heardSince pack did n a b) (leftBy pack a) (leftBy pack a) refl
+
 pub slow : Slow
 slow = record {
   answers = λ g room s. ap (λ (d : Did Session). d .answer) (did-sample g room s) ∙ through (λ (d : Did Session). d .answer) (sampleFits (lastOf g room) s) _ _;
   conversions = λ g room xs n. let z = samples-end xs g g room refl n in record { state = z .state; lines = z .lines };
+  session = slow-pack didOf emptyOf ofGauge session-known;
+  slots = λ j. slow-pack trayDid emptyTray (ofSlot j) (slot-known j);
 }

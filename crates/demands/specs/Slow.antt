@@ -1,6 +1,7 @@
 -- Slow sampling, in sessions. "A sample of n ticks means n conversions of that reading, averages, ageing and full detection along the way":
 -- the same currents as samples, kind 6, and as conversions, kind 3, one by one for each tick, with any other records between them, end in the same
--- state, but for the tick that is remembered; and the other records get the same answers and replies.
+-- state, but for the tick that is remembered; and the other records get the same answers and replies. Of a pack of any run, a slot of a tray too, the same
+-- is said of what it went through.
 use mathlib.Core.Path.{_≡_}
 use mathlib.Core.Bool.{Bool, false}
 use mathlib.Core.List.{List, [], _∷_, _++_, map}
@@ -15,9 +16,14 @@ use Rattle.samples.specs.Samples.{withTick}
 use Rattle.gauge.specs.declared.Gauge.{Gauge}
 use Rattle.gauge.specs.Gauge.{withMeter}
 use Rattle.runs.specs.Record.{Rec, whole, cut, kindIn}
-use Rattle.runs.specs.Run.{Line, linesAfter, endAfter}
+use Rattle.runs.specs.Run.{Did, Line, linesAfter, endAfter}
 use Rattle.runs.specs.declared.Session.{Session}
 use Rattle.runs.specs.SessionRecord.{loadedWith, didOf}
+use Rattle.session_run.specs.SessionRun.{emptyOf}
+use Rattle.tray_record.specs.Tray.{emptyTray, trayDid}
+use Rattle.record.specs.declared.Change.the-variants as change
+use Rattle.demands.specs.Call.{Call, Within, Stopped}
+use Rattle.demands.specs.History.{Happening, imaged, changed, transacted, lived, Pack, ofGauge, ofSlot, heardSince, leftBy}
 
 -- the bytes of a raw current and of a tick, as a record has them
 pub record Sample : Type 0 where
@@ -109,6 +115,37 @@ module _ (g : Gauge) (room : ℕ) where
     pub lines : linesAfter didOf (loadedWith g) room (oneByOne lastOf xs)
         ≡ oneByOneLines lastOf xs (linesAfter didOf (loadedWith g) room (map slowRecord xs))
 
+-- ---- of a pack of any run: the same history with conversions in the place of each sample, from the tick that is remembered on
+
+abbrev pub unsampledBy : Tick → Happening → List Happening
+unsampledBy last (imaged f p) = imaged f p ∷ []
+unsampledBy last (changed (change.Reading volt temp)) = changed (change.Reading volt temp) ∷ []
+unsampledBy last (changed (change.Conversion raw)) = changed (change.Conversion raw) ∷ []
+unsampledBy last (changed (change.Sample raw tick)) = replicate (elapsedOf last tick) (changed (change.Conversion raw))
+unsampledBy last (changed change.PowerOn) = changed change.PowerOn ∷ []
+unsampledBy last (transacted t master) = transacted t master ∷ []
+
+abbrev pub tickHeard : Tick → Happening → Tick
+tickHeard last (imaged f p) = noTick
+tickHeard last (changed (change.Reading volt temp)) = last
+tickHeard last (changed (change.Conversion raw)) = last
+tickHeard last (changed (change.Sample raw tick)) = tickOf tick
+tickHeard last (changed change.PowerOn) = noTick
+tickHeard last (transacted t master) = last
+
+abbrev pub unsampled : Tick → List Happening → List Happening
+unsampled last [] = []
+unsampled last (h ∷ hs) = unsampledBy last h ++ unsampled (tickHeard last h) hs
+
+-- of the run b, stopped earlier, as a, after n records
+abbrev pub SlowPack : {S : Type 0} → (S → ℕ → Rec → Did S) → S → Pack S → Type 0
+SlowPack {S} did start pack =
+    (n : ℕ) (a b : Call S) → Within did start b → Stopped did start n b a
+    → untickedGauge (leftBy pack b)
+    ≡ untickedGauge (lived (leftBy pack a) (unsampled (leftBy pack a .meter .flow .tick) (heardSince pack did n a b)))
+
 pub record Slow : Type 0 where
   pub answers : (g : Gauge) (room : ℕ) (s : Sample) → SampleAnswered g room s
   pub conversions : (g : Gauge) (room : ℕ) (xs : List Slowly) → NoSamples xs → AsConversions g room xs
+  pub session : SlowPack didOf emptyOf ofGauge
+  pub slots : (j : ℕ) → SlowPack trayDid emptyTray (ofSlot j)
