@@ -17,8 +17,8 @@ pub mod Single
 pub mod Others
 pub mod Isolation
 pub mod Demand1
-pub mod Numbers
 pub mod Demand2
+pub mod Numbers
 pub mod Mix
 pub mod Touched
 pub mod Address

@@ -2,7 +2,7 @@
 use mathlib.Core.Path.{_≡_, refl, sym, ap, _∙_}
 use mathlib.Core.Bool.{Bool, true, false, not}
 use mathlib.Core.List.{List, [], _∷_}
-use Prim.Native.Nat.{ℕ, zero, suc, _+_, _*_, _<_, zero-le}
+use Prim.Native.Nat.{ℕ, zero, suc, _+_, _-_, _*_, _<_, zero-le}
 use native.Mathlib.Omega.{arith}
 use borrow.Author.Tests.{ltb-true, ltb-false, eqb-true, eqb-false, le-ltb, le-leb, lt-leb, eq-eqb, ne-eqb, not-true}
 use lib.Dec.{ltb, leb, eqb}
@@ -36,7 +36,7 @@ use Rattle.record.specs.Image.{imageAddress, imageBreaks}
 use Rattle.record.specs.Record.{refusalNumber, takenNumber, kindOf, headOf, limitOf, readCount, addressedOf, lockableOf, orderedOf, judgedAmong, countAt}
 use Rattle.record.specs.Record.{transactionIn, transactionOf, sizedOf, takenOf, changeTimely, eventTimely, timedOf, asksOf, fittedOf}
 use Rattle.runs.specs.Record.{Rec, whole, cut, wholeOf, recOf}
-use Rattle.runs.specs.Run.{outcomeNumber}
+use Rattle.runs.specs.Run.{Line, outcomeNumber}
 use Rattle.runs.specs.AnyRecord.{Steps, answeredBy}
 use Rattle.runs.specs.declared.Session.{Session}
 use Rattle.runs.specs.SessionRecord.{lastTick, ofSession, didOf}
@@ -51,6 +51,7 @@ use Rattle.demands.specs.Numbers.{Case, OnlyWhen, runsShort, misaddresse
 use Rattle.demands.specs.Numbers.{trayCases, frontCases, Numbers, EachNumber}
 use Rattle.demands.proofs.Choice.{either-none, Each, NoneOf, among}
 use Rattle.demands.proofs.Demand1.{demand-1, tray-demand-1}
+use Rattle.demands.proofs.Demand2.{demand-2, tray-demand-2}
 
 -- The first case that applies
 
@@ -446,6 +447,12 @@ session-numbers = record {
   records = λ σ room s.
       only-when (frontCases didOf emptyOf sessionCases σ room s) refl (didOf σ room (recOf s) .answer)
       (front-number s (λ r. didOf σ room r .answer) refl _ (session-number σ room (part (pairAt s 0) s 4) (pairAt s 2)));
+  lines = λ c w kind p l a b t.
+      let σ = a .ran .state in
+      let room = length (a .room) - a .ran .replied in
+      only-when (sessionCases σ room kind p) refl (l .answer)
+      (ap (λ (x : Line). x .answer) (demand-2 .events .events c w (whole kind p) l a b t .line) ∙ session-number σ room p kind);
+  cuts = λ c w l a b t. ap (λ (x : Line). x .answer) (demand-2 .events .events c w cut l a b t .line);
 }
 
 tray-numbers : Numbers trayDid emptyTray trayCases
@@ -456,6 +463,12 @@ tray-numbers = record {
   records = λ τ room s.
       only-when (frontCases trayDid emptyTray trayCases τ room s) refl (trayDid τ room (recOf s) .answer)
       (front-number s (λ r. trayDid τ room r .answer) refl _ (tray-number τ room (part (pairAt s 0) s 4) (pairAt s 2)));
+  lines = λ c w kind p l a b t.
+      let τ = a .ran .state in
+      let room = length (a .room) - a .ran .replied in
+      only-when (trayCases τ room kind p) refl (l .answer)
+      (ap (λ (x : Line). x .answer) (tray-demand-2 .events .events c w (whole kind p) l a b t .line) ∙ tray-number τ room p kind);
+  cuts = λ c w l a b t. ap (λ (x : Line). x .answer) (tray-demand-2 .events .events c w cut l a b t .line);
 }
 
 pub each-number-holds : EachNumber

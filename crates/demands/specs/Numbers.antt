@@ -9,7 +9,7 @@
 use mathlib.Core.Path.{_≡_}
 use mathlib.Core.Bool.{Bool, true, false, not}
 use mathlib.Core.List.{List, [], _∷_}
-use Prim.Native.Nat.{ℕ, zero, suc, _+_, _<_}
+use Prim.Native.Nat.{ℕ, zero, suc, _+_, _-_, _<_}
 use lib.Dec.{ltb, leb, eqb}
 use lib.IntN.{ℤ, pos}
 use lib.ListN.{length, getD, take}
@@ -21,14 +21,14 @@ use Rattle.crc.specs.Crc.{crcOf}
 use Rattle.state.specs.declared.Tick.{Tick}
 use Rattle.state.specs.State.{elapsedOf}
 use Rattle.bus.specs.Ask.{sameBytes}
-use Rattle.runs.specs.Record.{Rec, recOf}
-use Rattle.runs.specs.Run.{Did, outcomeNumber}
+use Rattle.runs.specs.Record.{Rec, whole, cut, recOf}
+use Rattle.runs.specs.Run.{Did, Line, outcomeNumber}
 use Rattle.runs.specs.declared.Session.{Session}
 use Rattle.runs.specs.SessionRecord.{lastTick, didOf}
 use Rattle.session_run.specs.SessionRun.{emptyOf}
 use Rattle.tray_record.specs.declared.Tray.{Tray}
 use Rattle.tray_record.specs.Tray.{emptyTray, packOf, slotIn, trayDid}
-use Rattle.demands.specs.Call.{Call, Allowed, Within}
+use Rattle.demands.specs.Call.{Call, Allowed, Within, Taking}
 use Rattle.demands.specs.Images.{isImage}
 use Rattle.demands.specs.Alone.{slotEvent}
 
@@ -182,6 +182,10 @@ module _ {S : Type 0} (did : S → ℕ → Rec → Did S) (start : S) (cases : S
     pub within : (c : Call S) → Within did start c → outcomeNumber (c .ran .outcome) ≡ 0
     -- in any state, with any room left
     pub records : (σ : S) (room : ℕ) (s : List ℕ) → OnlyWhen (did σ room (recOf s) .answer) (frontCases σ room s)
+    -- and so of each line of a run, by the state and the room that the records before it leave
+    pub lines : (c : Call S) → Within did start c → (kind : ℕ) (p : List ℕ) (l : Line) (a b : Call S) → Taking did start c (whole kind p) l a b
+        → OnlyWhen (l .answer) (cases (a .ran .state) (length (a .room) - a .ran .replied) kind p)
+    pub cuts : (c : Call S) → Within did start c → (l : Line) (a b : Call S) → Taking did start c cut l a b → l .answer ≡ 2
 
 -- of sessions and of trays
 pub record EachNumber : Type 0 where
