@@ -157,7 +157,7 @@ steppedOf charge next = record { charge = next; fall = fallOf (charge .count) (n
 
 -- ---- the cycle counter of the DS2775: it "advances by one for each twice Full40 that ACR has fallen, counted as ageing counts it"
 
--- "as many steps as fit", of what ACR fell since the last step; with Full40 = 0 none
+-- "as many steps as fit", of what ACR fell since the last step; with Full40 = 0 none, since a quotient by 0 is 0
 abbrev pub stepsOf : ℕ → ℕ → ℕ
 stepsOf full40 fallen = fallen / (2 * full40)
 
@@ -238,7 +238,7 @@ foundOf average since limits c = both (taperingOf average (limits .imin) c) (abo
 abbrev pub filledFlags : Flags → Bool → Flags
 filledFlags flags found = record { porf = flags .porf; chgtf = either found (flags .chgtf); aef = flags .aef; sef = flags .sef }
 
--- AS = ACR × 2^21 / (FULL × Full40), rounded down, moved into 63..128
+-- AS = ACR × 2^21 / (FULL × Full40), rounded down, moved into 63..128. It is asked with Full40 > 0 alone; a quotient by 0 would be 0
 unfoldable pub learntOf : ℕ → ℕ → ℕ → ℕ
 learntOf acr full full40 = movedInto 63 128 (acr * 2 ^ 21 / (full * full40))
 

@@ -168,7 +168,8 @@ usableOf agedFull empty full40 = (agedFull - empty) * full40
 abbrev pub usableZ : ℕ → ℕ → ℕ → ℤ
 usableZ agedFull empty full40 = (pos agedFull -ℤ pos empty) *ℤ pos full40
 
--- RARC = 100 × N / D rounded down, at most 100; 0 if N ≤ 0 or D ≤ 0
+-- RARC = 100 × N / D rounded down, at most 100; 0 if N ≤ 0 or D ≤ 0. N and D are kept as 0 where they are below 0, and a quotient by 0 is 0, so both
+-- cases are in it; `percentZ` has them apart
 unfoldable pub percentOf : ℕ → ℕ → ℕ
 percentOf n d = min (100 * n / d) 100
 

@@ -12,4 +12,4 @@ abbrev pub quickly : Engine
 quickly m raw n r = quick.Reads.Learnt _ (m, (raw, (n, tt))) r (atExit quick.ended _ (m, (raw, (n, tt))) _)
 
 pub engines-equal : Equal plainly quickly
-engines-equal m raw n w low high a b h h′ = h .0 ∙ sym (h′ .0)
+engines-equal m raw n w a b h h′ = h .0 ∙ sym (h′ .0)

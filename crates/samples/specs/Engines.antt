@@ -1,7 +1,7 @@
 -- "Two engines, the plain repetition and a quick one that works out whole stretches at once, are proved equal for every state and every n
--- from 1 to 64."
+-- from 1 to 64." They are for every n.
 use mathlib.Core.Path.{_≡_}
-use Prim.Native.Nat.{ℕ, _≤_}
+use Prim.Native.Nat.{ℕ}
 use Rattle.state.specs.declared.Meter.{Meter}
 use Rattle.state.specs.State.{MeterWF}
 
@@ -11,4 +11,4 @@ Engine = Meter → ℕ → ℕ → Meter → Type 0
 
 abbrev pub Equal : Engine → Engine → Type 0
 Equal one other =
-    (m : Meter) (raw n : ℕ) → MeterWF m → 1 ≤ n → n ≤ 64 → (a b : Meter) → one m raw n a → other m raw n b → a ≡ b
+    (m : Meter) (raw n : ℕ) → MeterWF m → (a b : Meter) → one m raw n a → other m raw n b → a ≡ b
