@@ -14,13 +14,18 @@ use Rattle.demands.specs.Theorems.{OfSessions, OfTrays, EnginesEqual, Of
 use Rattle.demands.proofs.Functions.{contracts}
 use Rattle.demands.proofs.Called.{within-or-over, runs-exist}
 use Rattle.demands.proofs.Demand1.{demand-1, tray-demand-1}
+use Rattle.demands.proofs.Numbers.{each-number-holds}
 use Rattle.demands.proofs.Demand2.{demand-2, tray-demand-2}
 use Rattle.demands.proofs.Demand3.{demand-3}
 use Rattle.demands.proofs.TrayDemand3.{tray-demand-3}
 use Rattle.demands.proofs.Example.{demand-3-met}
-use Rattle.demands.proofs.TrayExample.{tray-demand-3-met, isolation-met}
+use Rattle.demands.proofs.WholeTrays.{whole-tray-demand-3}
+use Rattle.demands.proofs.EveryOpening.{every-tray-opens}
+use Rattle.demands.proofs.TrayExample.{tray-demand-3-met, whole-tray-demand-3-met, isolation-met, single-met}
 use Rattle.demands.proofs.Alone.{alone}
 use Rattle.demands.proofs.Slots.{slots-as-old}
+use Rattle.demands.proofs.EachPack.{transactions-as-plain}
+use Rattle.demands.proofs.Single.{single-as-plain}
 use Rattle.demands.proofs.Isolation.{isolation, isolated-throughout}
 use Rattle.demands.proofs.Slow.{slow}
 use Rattle.demands.proofs.Longer.{longer, longer-met}
@@ -30,6 +35,8 @@ use Rattle.demands.proofs.HexExample.{round-trip-met}
 use Rattle.demands.proofs.Blind.{from-events}
 use Rattle.demands.proofs.Booked.{no-wider}
 use Rattle.demands.proofs.History.{session-history, session-books, session-eeprom, slot-history, slot-books, slot-eeprom}
+use Rattle.demands.proofs.Lives.{saved-cells-hold, own-as-holds, full-pack-holds}
+use Rattle.demands.proofs.HundredExample.{hundred-met}
 use Rattle.demands.proofs.BooksExample.{books-met, books-over-1024th, slot-books-met, eeprom-met, slot-eeprom-met}
 
 sessions : OfSessions
@@ -37,6 +44,7 @@ sessions = record {
   bounded = within-or-over didOf emptyOf;
   exist = runs-exist didOf emptyOf;
   demand-1 = demand-1;
+  numbers = each-number-holds;
   demand-2 = demand-2;
   demand-3 = demand-3;
   demand-3-met = demand-3-met;
@@ -50,7 +58,13 @@ trays = record {
   demand-2 = tray-demand-2;
   demand-3 = tray-demand-3;
   demand-3-met = tray-demand-3-met;
+  whole-demand-3 = whole-tray-demand-3;
+  whole-demand-3-met = whole-tray-demand-3-met;
+  opens = every-tray-opens;
   slots = slots-as-old;
+  transactions = transactions-as-plain;
+  single = single-as-plain;
+  single-met = single-met;
   alone = alone;
   isolation = isolation;
   throughout = isolated-throughout;
@@ -63,6 +77,8 @@ both-engines meter raw n a b plain quick = plain .0 ∙ sym (quick .0)
 gauges : OfGauges
 gauges = record {
   hundred = hundred-holds;
+  full-pack = full-pack-holds;
+  full-pack-met = hundred-met;
   product = product-lines;
   engines = both-engines;
   slow = slow;
@@ -71,6 +87,7 @@ gauges = record {
   profiles = only-two;
   images = images-share;
   aging = pack-aging;
+  own-as = own-as-holds;
 }
 
 at-bench : OfBench
@@ -93,6 +110,7 @@ at-bench = record {
 
 books : OfBooks
 books = record {
+  saved = saved-cells-hold;
   from-events = from-events;
   no-wider = no-wider;
   session = record { history = session-history; books = session-books; eeprom = session-eeprom };

@@ -25,12 +25,17 @@ use Rattle.demands.specs.Contracts.{Contracts}
 use Rattle.demands.specs.Call.{WithinOrOver, RunsExist}
 use Rattle.demands.specs.Demand1.{sessionMost, trayMost, Demand1}
 use Rattle.demands.specs.Demand2.{Demand2, TrayDemand2}
-use Rattle.demands.specs.Demand3.{Demand3, Demand3Met, TrayDemand3, TrayDemand3Met}
-use Rattle.demands.specs.Slots.{SlotsAsOld}
+use Rattle.demands.specs.Numbers.{EachNumber}
+use Rattle.demands.specs.Demand3.{Demand3, Demand3Met, TrayDemand3, TrayDemand3Met, WholeTrayDemand3, WholeTrayDemand3Met, EveryTrayOpens}
+use Rattle.demands.specs.Slots.{SlotsAsOld, TransactionsAsPlain}
+use Rattle.demands.specs.Single.{SingleAsPlain, SingleMet}
 use Rattle.demands.specs.Alone.{Alone}
 use Rattle.demands.specs.Isolation.{Isolation, IsolationThroughout, IsolationMet}
 use Rattle.demands.specs.Longer.{Longer, LongerMet}
 use Rattle.demands.specs.Slow.{Slow}
+use Rattle.demands.specs.Hundred.{FullPack, HundredMet}
+use Rattle.demands.specs.Aging.{OwnAs}
+use Rattle.demands.specs.Saved.{SavedCells}
 use Rattle.demands.specs.Programming.{BenchTheorem, DoneTheorem}
 use Rattle.demands.specs.Mending.{MendedTheorem}
 use Rattle.demands.specs.RoundTrip.{RoundTripMet}
@@ -47,6 +52,8 @@ pub record OfSessions : Type 0 where
   -- "No input can make it misbehave. Every session, however malformed, gets one numbered answer per record, as document 01 fixes it. A refused
   -- record changes neither the gauge nor the reply room."
   pub demand-1 : Demand1 sessionMost didOf emptyOf
+  -- the answer numbers "when, and only when"; of trays too
+  pub numbers : EachNumber
   -- "From an accepted pack image, every reply byte, register, flag and EEPROM byte after each event is what the DS2781 sheet, as condensed in
   -- document 01, works out. The image taken out at any moment, read into a fresh gauge, gives the state that a power-on would have given there."
   pub demand-2 : Demand2
@@ -64,8 +71,17 @@ pub record OfTrays : Type 0 where
   pub demand-2 : TrayDemand2
   pub demand-3 : TrayDemand3
   pub demand-3-met : TrayDemand3Met
+  -- the third of whole sessions, in the paper's words; and every tray session has an opening
+  pub whole-demand-3 : WholeTrayDemand3
+  pub whole-demand-3-met : WholeTrayDemand3Met
+  pub opens : EveryTrayOpens
   -- a slot's pack does what a gauge by itself does
   pub slots : SlotsAsOld
+  -- "Skip and net address reads go to every pack, and each reply byte is the bitwise AND of theirs."
+  pub transactions : TransactionsAsPlain
+  -- a tray of one pack answers a session as a plain gauge does
+  pub single : SingleAsPlain
+  pub single-met : SingleMet
   -- "A slot's event, or a matched transaction, changes no other pack."
   pub alone : Alone
   -- "Change one pack's image and slot events at will, its address and the acceptance of each record kept: replies to transactions matched to the
@@ -83,6 +99,8 @@ EnginesEqual = (meter : Meter) (raw n : ℕ) (a b : Meter) → plainly meter raw
 pub record OfGauges : Type 0 where
   -- [1]: "A full pack should say 100."
   pub hundred : Hundred
+  pub full-pack : FullPack
+  pub full-pack-met : HundredMet didOf emptyOf ofGauge
   -- [4]: "Work the three lines out by the number of degrees in each segment and a product. Nothing anyone can see changes, crossed breakpoints written
   -- over the bus included."
   pub product : (curves : Curves) (t : ℕ) → productOf curves t ≡ modelLines curves t
@@ -99,6 +117,7 @@ pub record OfGauges : Type 0 where
   pub images : ImagesShare
   -- [13]: "A write at 14h is from now on dropped ..; later results follow the gauge's own AS. Saved AS is honoured at power-on as before."
   pub aging : PackAging
+  pub own-as : OwnAs
 
 -- ---- document 02, at the bench: requests [2], [9] and [10]
 
@@ -134,6 +153,8 @@ pub record OfPack {S : Type 0} (did : S → ℕ → Rec → Did S) (start : S) (
   pub eeprom : EepromHolds did start pack
 
 pub record OfBooks : Type 0 where
+  -- 01: "if RARC divided by 4, rounded down, has changed, ACR and AS go to the saved cells"; [12]: the cycle counter is "saved together with" them
+  pub saved : SavedCells
   -- "The sum is defined from events and shadow bytes, not from the count." And the conditions are no wider than they have to be
   pub from-events : FromEvents
   pub no-wider : NoWider
