@@ -45,7 +45,7 @@ usage() {
     listed "${programs[@]}"
     for file in "$top"/desk/*; do ! is_desk "${file##*/}" || desk+=("${file##*/}"); done
     if [ ${#desk[@]} -gt 0 ]; then
-        echo "Plain programs, which are not proved:"
+        echo "The desk: plain programs, which are not proved:"
         listed "${desk[@]}"
     fi
     echo "Besides: $self NAME --help (its page), help (the manual), version, package DIR (a folder for machines without the kit)."

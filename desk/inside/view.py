@@ -1,0 +1,71 @@
+"""A record as a person reads it: what it says, what it was answered, what the pack shows then, and what changed."""
+from typing import Iterator, NamedTuple
+
+from . import gauge, records, registers
+from .gauge import Line, Told
+from .meanings import meaning
+from .records import Piece, Record
+from .speak import Speaker
+
+
+class Seen(NamedTuple):
+    """What a pack shows, as texts by name, and its flags."""
+    values: "dict[str, str]"
+    flags: "list[str]"
+    label: str
+
+
+class Explained(NamedTuple):
+    """A record, explained."""
+    number: int
+    words: str
+    answer: int
+    meaning: str
+    reply: bytes
+    spelt: "list[str]"
+    seen: "dict[int, Seen]"
+    changed: "dict[int, list[str]]"
+    told: Told
+
+
+def seen(data: bytes, kind: int) -> Seen:
+    values = {value.name: value.text() for value in registers.shown(data, kind)}
+    return Seen(values, registers.flags(data), "".join(chr(b) if 32 <= b <= 126 else "." for b in data[0x20:0x30]).rstrip())
+
+
+def changes(before: Seen, after: Seen) -> "list[str]":
+    """What is not as it was."""
+    told = [f"{text} (was {before.values.get(name, '-').replace(name + ' ', '')})" for name, text in after.values.items() if before.values.get(name) != text]
+    told += [f"{flag} set" for flag in after.flags if flag not in before.flags]
+    told += [f"{flag} cleared" for flag in before.flags if flag not in after.flags]
+    return told + ([f'label "{after.label}"'] if before.label != after.label else [])
+
+
+def read_from(piece: Piece) -> int:
+    """The address that a transaction reads from, or -1."""
+    if not isinstance(piece, Record) or piece.kind not in records.HEAD:
+        return -1
+    master = piece.payload[records.HEAD[piece.kind]:]
+    at = {records.SKIP: 1, records.MATCH: 9}.get(master[0] if master else -1)
+    if at is None or master[at:at + 1] != bytes([records.READ]) or len(master) < at + 2:
+        return -1
+    return master[at + 1]
+
+
+def shape(told: Told, kinds: "list[int]") -> "tuple[int, int]":
+    """The sense resistor and the kind that a reply is told by: those of the first pack."""
+    return (told.maps[0][registers.RSNSP], kinds[0]) if told.maps else (0, records.IMAGE)
+
+
+def explained(pieces: Iterator[Piece], tray: bool) -> Iterator[Explained]:
+    """Each record of a session, explained."""
+    line, speaker = Line(tray), Speaker()
+    last: "dict[int, Seen]" = {}
+    for number, told in enumerate(gauge.told(pieces, line), 1):
+        piece = told.piece
+        now = {slot: seen(data, line.kinds[slot]) for slot, data in told.maps.items()}
+        changed = {slot: changes(last[slot], pack) for slot, pack in now.items() if slot in last and last[slot] != pack}
+        at = read_from(piece)
+        spelt = registers.spelt(at, told.answer.reply, registers.Units(*shape(told, line.kinds))) if at >= 0 else []
+        yield Explained(number, speaker.say(piece), told.answer.number, meaning(piece, told.answer.number, tray), told.answer.reply, spelt, now, changed, told)
+        last = now
