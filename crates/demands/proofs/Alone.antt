@@ -20,9 +20,7 @@ use Rattle.record.specs.declared.Taken.the-variants.{Run, Refused}
 use Rattle.record.specs.Record.{kindOf, transactionIn, masterOf}
 use Rattle.runs.specs.AnyRecord.{answeredBy}
 use Rattle.tray_record.specs.declared.Tray.{Tray}
-use Rattle.tray_record.specs.declared.Reach.{Reach}
-use Rattle.tray_record.specs.declared.Reach.the-variants.{One}
-use Rattle.tray_record.specs.Tray.{packOf, trayKindOf, aheadOf, slotIn, trayReach, trayActed, trayTold, ofTray, trayDid}
+use Rattle.tray_record.specs.Tray.{packOf, trayKindOf, aheadOf, slotIn, Reach, one, trayReach, trayActed, trayTold, ofTray, trayDid}
 use Rattle.demands.specs.Longer.{formKind}
 use Rattle.demands.specs.Alone.{slotEvent, reachIn, slotted, matched, Alone}
 use Rattle.demands.proofs.Choice.{contrary}
@@ -86,10 +84,10 @@ module _ (τ : Tray) (i j : ℕ) (other : j ≡ i → ⊥) (p : List ℕ) where
   slot-stays k ahead slot (Run (Transact t)) a = let z : _≡_ {A = ℕ} 1 0 = sym ahead ∙ ap aheadOf (a .kind) in absurd (omega arith)
   slot-stays k ahead slot (Refused r) a = refl
 
-  acted-stays : (t : Transaction) (reach : Reach) → reach ≡ One i → packOf (trayActed t (masterOf t p) reach τ) j ≡ packOf τ j
+  acted-stays : (t : Transaction) (reach : Reach) → reach ≡ one i → packOf (trayActed t (masterOf t p) reach τ) j ≡ packOf τ j
   acted-stays t reach e = rw e (stored-other τ i j (actOf (packOf τ i) t (masterOf t p)) other)
 
-  matched-stays : (f : Form) (k : Kind) → k ≡ kind.Transaction f → reachIn τ f p ≡ One i → (t : Taken) → Asks τ k p t → Stays t
+  matched-stays : (f : Form) (k : Kind) → k ≡ kind.Transaction f → reachIn τ f p ≡ one i → (t : Taken) → Asks τ k p t → Stays t
   matched-stays f k is reach (Run (Image g)) a = let z = sym (a .kind) ∙ is in contrary cc
   matched-stays f k is reach (Run (Change c)) a = let z : _≡_ {A = ℕ} 1 0 = sym (a .ahead) ∙ ap aheadOf is in absurd (omega arith)
   matched-stays f k is reach (Run (Transact t)) a =

@@ -26,11 +26,9 @@ use Rattle.record.specs.Image.{imageAddress}
 use Rattle.runs.specs.Record.{Rec}
 use Rattle.runs.specs.Run.{endAfter}
 use Rattle.tray_record.specs.declared.Tray.{Tray}
-use Rattle.tray_record.specs.declared.Reach.{Reach}
-use Rattle.tray_record.specs.declared.Reach.the-variants.{One, Every, Nobody}
 use Rattle.tray_record.specs.declared.Found.{Found}
 use Rattle.tray_record.specs.declared.Found.the-variants.{At, Nowhere}
-use Rattle.tray_record.specs.Tray.{emptyTray, noGauge, packOf, searchOf, isFound, againOf, reachFound, matchedOf, reachBy, trayReach}
+use Rattle.tray_record.specs.Tray.{emptyTray, noGauge, packOf, searchOf, isFound, againOf, Reach, one, every, nobody, reachFound, matchedOf, reachBy, trayReach}
 use Rattle.tray_record.specs.Tray.{trayEvent, trayDid}
 use Rattle.demands.proofs.Choice.{contrary}
 use Rattle.demands.proofs.Packs.{Eight, search-none}
@@ -112,9 +110,9 @@ module _ (t : Transaction) (master : List ℕ) (τ : Tray) where
   Quiet = (rnaop : Bool) → netSourceOf (t .rom) rnaop ≡ Idle
 
   pub data Whom : Reach → Type 0 where
-    alone : (j : ℕ) → j < τ .count → Quiet → ((i : ℕ) → i < τ .count → (i ≡ j → ⊥) → selects i ≡ false) → Whom (One j)
-    all : Whom Every
-    none : Quiet → ((i : ℕ) → i < τ .count → selects i ≡ false) → Whom Nobody
+    alone : (j : ℕ) → j < τ .count → Quiet → ((i : ℕ) → i < τ .count → (i ≡ j → ⊥) → selects i ≡ false) → Whom (one j)
+    all : Whom every
+    none : Quiet → ((i : ℕ) → i < τ .count → selects i ≡ false) → Whom nobody
 
   match-quiet : t .rom ≡ rom.Match → Quiet
   match-quiet m rnaop = rw m refl

@@ -33,10 +33,8 @@ use Rattle.runs.specs.AnyRecord.{answeredBy}
 use Rattle.runs.specs.SessionRecord.{loadedWith, takenDid, didOf}
 use Rattle.tray_record.proofs.Hearing.{wired-length, tray-reply-length}
 use Rattle.tray_record.specs.declared.Tray.{Tray}
-use Rattle.tray_record.specs.declared.Reach.{Reach}
-use Rattle.tray_record.specs.declared.Reach.the-variants.{One, Every}
 use Rattle.tray_record.specs.Wire.{andBytes}
-use Rattle.tray_record.specs.Tray.{emptyTray, packOf, wiredFirst, trayReach, trayActed, trayReply, trayTold, ofTray, trayDid}
+use Rattle.tray_record.specs.Tray.{emptyTray, packOf, wiredFirst, Reach, one, every, nobody, trayReach, trayActed, trayReply, trayTold, ofTray, trayDid}
 use Rattle.demands.specs.Longer.{formKind}
 use Rattle.demands.specs.Slots.{andOver, EachAsPlain, TransactionsAsPlain}
 use Rattle.demands.proofs.Choice.{contrary}
@@ -84,7 +82,7 @@ and-at (x ∷ xs) [] k low same = absurd (omega arith)
 and-at (x ∷ xs) (y ∷ ys) zero low same = refl
 and-at (x ∷ xs) (y ∷ ys) (suc k) low same = and-at xs ys k (omega arith) (omega arith)
 
--- One transaction
+-- one transaction
 
 module _ (t : Transaction) (master : List ℕ) (τ : Tray) (h : Eight τ) where
   -- a pack that is not selected stays, and replies FFh
@@ -101,12 +99,12 @@ module _ (t : Transaction) (master : List ℕ) (τ : Tray) (h : Eight τ) where
       rw (other, quiet (rnaopOf (packOf τ i .meter .cells .block .shadow))) (listed-at (λ n. 0xff) 0 (t .count) k low)
 
   pub each-acts : (r : Reach) → Whom t master τ r → (i : ℕ) → i < τ .count → packOf (trayActed t master r τ) i ≡ actOf (packOf τ i) t master
-  each-acts r (alone j low quiet others) i here = acted-pack t master τ h (One j) low i ∙ go (eqb i j) refl
+  each-acts r (alone j low quiet others) i here = acted-pack t master τ h (one j) low i ∙ go (eqb i j) refl
     where
       go : (s : Bool) → eqb i j ≡ s → pick s (actOf (packOf τ i) t master) (packOf τ i) ≡ actOf (packOf τ i) t master
       go true e = refl
       go false e = sym (idle-acts i (others i here (eqb-false i j e)))
-  each-acts r all i here = acted-pack t master τ h Every tt i ∙ rw (lt-ltb i (τ .count) here) refl
+  each-acts r all i here = acted-pack t master τ h every tt i ∙ rw (lt-ltb i (τ .count) here) refl
   each-acts r (none quiet others) i here = sym (idle-acts i (others i here))
 
   wired-byte : (n k : ℕ) → k < t .count → getD (wiredFirst t master τ n) k 0 ≡ andOver n (byteOf k)
@@ -138,7 +136,7 @@ single-reply t master τ h single bytes =
     first : (k i : ℕ) → i < τ .count → getD (replyOf (packOf τ i) t master) k 0 < 256
     first k i low = let z : i ≡ 0 = omega arith in rw z (bytes k)
 
--- One record, refused or not
+-- one record, refused or not
 
 and-same : (n : ℕ) (f g : ℕ → ℕ) → ((i : ℕ) → i < n → f i ≡ g i) → andOver n f ≡ andOver n g
 and-same zero f g e = refl

@@ -26,9 +26,7 @@ use Rattle.runs.specs.AnyRecord.{answeredBy}
 use Rattle.runs.specs.SessionRecord.{lastTick, ofSession, didOf}
 use Rattle.session_run.specs.SessionRun.{emptyOf}
 use Rattle.tray_record.specs.declared.Tray.{Tray}
-use Rattle.tray_record.specs.declared.Reach.{Reach}
-use Rattle.tray_record.specs.declared.Reach.the-variants.{One, Every, Nobody}
-use Rattle.tray_record.specs.Tray.{emptyTray, packOf, trayKindOf, slotIn, trayReach, trayTold, trayEvent, ofTray, trayDid}
+use Rattle.tray_record.specs.Tray.{emptyTray, packOf, trayKindOf, slotIn, Reach, one, every, nobody, trayReach, trayTold, trayEvent, ofTray, trayDid}
 use Rattle.demands.specs.Call.{Call, Within, Stopped}
 use Rattle.demands.specs.History.{Happening, imaged, lived, Imageless, hearsOf, Pack, ofGauge, slotHears, ofSlot}
 use Rattle.demands.specs.History.{eventHappens, heardBy, heardIn, heardAfter, heardSince, lifeIn, leftBy, HistoryHolds}
@@ -350,9 +348,9 @@ module _ (τ : Tray) (eight : Eight τ) (j : ℕ) where
 
       -- no transaction reaches it
       deaf : (reach : Reach) → There reach (τ .count) → hearsOf reach (τ .count) j ≡ false
-      deaf (One i) low = ne-eqb j i (λ e. omega (arith, high))
-      deaf Every low = none
-      deaf Nobody low = refl
+      deaf (one i) low = ne-eqb j i (λ e. omega (arith, high))
+      deaf every low = none
+      deaf nobody low = refl
 
       by : (t : Taken) → Asks τ (trayKindOf n) p t → Comes t
       by (Run (Image f)) a = joins f (eqb j (τ .count)) refl

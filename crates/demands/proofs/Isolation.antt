@@ -20,8 +20,7 @@ use Rattle.runs.specs.Record.{Rec, whole, recsOf}
 use Rattle.runs.specs.Run.{Line, lineOf, linesAfter, endAfter}
 use Rattle.runs.specs.AnyRecord.{answeredBy}
 use Rattle.tray_record.specs.declared.Tray.{Tray}
-use Rattle.tray_record.specs.declared.Reach.the-variants.{One}
-use Rattle.tray_record.specs.Tray.{emptyTray, trayKindOf, againOf, slotTick, trayTold, trayReach, trayReply, ofTray, trayDid}
+use Rattle.tray_record.specs.Tray.{emptyTray, trayKindOf, againOf, slotTick, trayTold, one, trayReach, trayReply, ofTray, trayDid}
 use Rattle.demands.specs.Call.{Call, Within, gotOf, Stopped}
 use Rattle.demands.specs.Longer.{formKind}
 use Rattle.demands.specs.Alone.{reachIn}
@@ -134,14 +133,14 @@ told-others {k} {τ} {σ} h f p =
     ∙ rw (h .count) refl
     ∙ transaction-timely (slotTick σ p) (againOf σ p) (ltb 0 (σ .count)) p f))
 
-module _ {k : ℕ} {τ σ : Tray} (h : Others k τ σ) (j : ℕ) (away : j ≡ k → ⊥) (f : Form) (p : List ℕ) (reach : reachIn τ f p ≡ One j) where
+module _ {k : ℕ} {τ σ : Tray} (h : Others k τ σ) (j : ℕ) (away : j ≡ k → ⊥) (f : Form) (p : List ℕ) (reach : reachIn τ f p ≡ one j) where
   abbrev n : ℕ
   n = formKind f
 
   abbrev Same : Taken → Type 0
   Same t = lineOf (whole n p) (answeredBy ofTray τ p t) ≡ lineOf (whole n p) (answeredBy ofTray σ p t)
 
-  replied : (t : Transaction) → trayReach τ t (masterOf t p) ≡ One j
+  replied : (t : Transaction) → trayReach τ t (masterOf t p) ≡ one j
       → trayReply t (masterOf t p) (trayReach τ t (masterOf t p)) τ ≡ trayReply t (masterOf t p) (trayReach σ t (masterOf t p)) σ
   replied t e = rw (← (reach-others h t (masterOf t p)), e) (ap (λ (g : Gauge). replyOf g t (masterOf t p)) (h .packs j away))
 

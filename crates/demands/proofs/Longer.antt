@@ -34,9 +34,7 @@ use Rattle.runs.specs.declared.Session.{Session}
 use Rattle.runs.specs.AnyRecord.{Steps, answeredBy, recordBy}
 use Rattle.runs.specs.SessionRecord.{loadedWith, lastTick, ofSession, didOf}
 use Rattle.tray_record.specs.declared.Tray.{Tray}
-use Rattle.tray_record.specs.declared.Reach.{Reach}
-use Rattle.tray_record.specs.declared.Reach.the-variants.{One, Every, Nobody}
-use Rattle.tray_record.specs.Tray.{packOf, storedOf, closedOf, againOf, slotTick, trayReach}
+use Rattle.tray_record.specs.Tray.{packOf, storedOf, closedOf, againOf, slotTick, Reach, one, every, nobody, trayReach}
 use Rattle.tray_record.specs.Tray.{actedFirst, wiredFirst, trayActed, trayReply, ofTray, trayDid}
 use Rattle.tray_record.specs.Wire.{andBytes}
 use Rattle.demands.specs.Class.{Selects, touchedOf, takenClass, classBy, sessionAsked, classOf, trayAsked, someSelected, trayClass}
@@ -200,15 +198,15 @@ module _ (t : Transaction) (s : ℕ) (master : List ℕ) (τ : Tray) where
 
   tray-acted : (reach : Reach) → trayActed t master reach τ ≡ trayActed (startedAt s t) master reach τ
   unfolding actOf ranOf selectedOf
-  tray-acted (One i) = refl
-  tray-acted Every = acted-first (τ .count)
-  tray-acted Nobody = refl
+  tray-acted (one i) = refl
+  tray-acted every = acted-first (τ .count)
+  tray-acted nobody = refl
 
   tray-replied : (reach : Reach) → trayReply t master reach τ ≡ trayReply (startedAt s t) master reach τ
   unfolding replyOf selectedOf
-  tray-replied (One i) = refl
-  tray-replied Every = wired-first (τ .count)
-  tray-replied Nobody = refl
+  tray-replied (one i) = refl
+  tray-replied every = wired-first (τ .count)
+  tray-replied nobody = refl
 
 tray-hears : Hears ofTray
 tray-hears = record {

@@ -18,9 +18,7 @@ use Rattle.tray_record.specs.declared.Tray.{Tray}
 use Rattle.tray_record.proofs.Laws.{stored-other}
 use Rattle.tray_record.specs.declared.Found.the-variants.{At, Nowhere}
 use Rattle.tray_record.specs.Wire.{andBytes}
-use Rattle.tray_record.specs.declared.Reach.{Reach}
-use Rattle.tray_record.specs.declared.Reach.the-variants.{One, Every, Nobody}
-use Rattle.tray_record.specs.Tray.{noGauge, packOf, storedOf, searchFrom, actedFirst, wiredFirst, trayActed}
+use Rattle.tray_record.specs.Tray.{noGauge, packOf, storedOf, searchFrom, Reach, one, every, nobody, actedFirst, wiredFirst, trayActed}
 use Rattle.demands.specs.History.{hearsOf}
 use Rattle.demands.proofs.Choice.{contrary}
 
@@ -74,9 +72,9 @@ same-tray τ σ h k count closed packs =
 
 -- whom it reaches is there
 abbrev pub There : Reach → ℕ → Type 0
-There (One i) count = i < count
-There Every count = Unit
-There Nobody count = Unit
+There (one i) count = i < count
+There every count = Unit
+There nobody count = Unit
 
 module _ (t : Transaction) (master : List ℕ) (τ : Tray) (h : Eight τ) where
   acted-first-eight : (n : ℕ) → Eight (actedFirst t master τ n)
@@ -98,27 +96,27 @@ module _ (t : Transaction) (master : List ℕ) (τ : Tray) (h : Eight τ) where
       go false false e f = rw (le-ltb j (suc n) (omega (arith, ltb-false j n f, eqb-false j n e))) refl
 
   pub acted-eight : (reach : Reach) → Eight (trayActed t master reach τ)
-  acted-eight (One i) = stored-eight τ i (actOf (packOf τ i) t master) h
-  acted-eight Every = acted-first-eight (τ .count)
-  acted-eight Nobody = h
+  acted-eight (one i) = stored-eight τ i (actOf (packOf τ i) t master) h
+  acted-eight every = acted-first-eight (τ .count)
+  acted-eight nobody = h
 
   -- each pack that hears it carries it out by itself
   pub acted-pack : (reach : Reach) → There reach (τ .count) → (j : ℕ)
       → packOf (trayActed t master reach τ) j ≡ pick (hearsOf reach (τ .count) j) (actOf (packOf τ j) t master) (packOf τ j)
-  acted-pack (One i) low j =
+  acted-pack (one i) low j =
       stored-pack τ i j (actOf (packOf τ i) t master) h (omega (arith, h .few)) ∙ go (eqb j i) refl
     where
       go : (s : Bool) → eqb j i ≡ s → pick s (actOf (packOf τ i) t master) (packOf τ j) ≡ pick s (actOf (packOf τ j) t master) (packOf τ j)
       go true e = ap (λ (k : ℕ). actOf (packOf τ k) t master) (sym (eqb-true j i e))
       go false e = refl
-  acted-pack Every low j = acted-first (τ .count) j (h .few)
-  acted-pack Nobody low j = refl
+  acted-pack every low j = acted-first (τ .count) j (h .few)
+  acted-pack nobody low j = refl
 
 -- it adds no pack, and leaves the opening to the event
 pub acted-count : (t : Transaction) (master : List ℕ) (τ : Tray) (reach : Reach) → trayActed t master reach τ .count ≡ τ .count
-acted-count t master τ (One i) = refl
-acted-count t master τ Nobody = refl
-acted-count t master τ Every = first (τ .count)
+acted-count t master τ (one i) = refl
+acted-count t master τ nobody = refl
+acted-count t master τ every = first (τ .count)
   where
     first : (n : ℕ) → actedFirst t master τ n .count ≡ τ .count
     first zero = refl

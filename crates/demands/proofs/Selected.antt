@@ -16,8 +16,7 @@ use Rattle.replies.specs.Reply.{selectedBy, selectedOf}
 use Rattle.tray_record.specs.declared.Tray.{Tray}
 use Rattle.tray_record.specs.declared.Found.{Found}
 use Rattle.tray_record.specs.declared.Found.the-variants.{At, Nowhere}
-use Rattle.tray_record.specs.declared.Reach.the-variants.{Nobody}
-use Rattle.tray_record.specs.Tray.{noGauge, packOf, searchOf, reachFound, matchedOf, reachBy, trayReach}
+use Rattle.tray_record.specs.Tray.{noGauge, packOf, searchOf, reachFound, matchedOf, nobody, reachBy, trayReach}
 use Rattle.demands.specs.Class.{someSelected}
 use Rattle.demands.specs.History.{hearsOf}
 use Rattle.demands.proofs.Choice.{contrary}
@@ -93,15 +92,15 @@ module _ (addresses : List (List ℕ)) (τ : Tray) (h : Owns addresses τ) (t : 
     matched-chosen Nowhere e j hear = contrary cc
 
   -- where it reaches nobody, no pack is selected
-  pub nobody-chosen : trayReach τ t master ≡ Nobody → (j : ℕ) → j < τ .count → chosen j ≡ false
+  pub nobody-chosen : trayReach τ t master ≡ nobody → (j : ℕ) → j < τ .count → chosen j ≡ false
   nobody-chosen = by (t .rom) refl
     where
-      unfound : t .rom ≡ rom.Match → (found : Found) → matchedOf (τ .commons) (τ .count) master ≡ found → reachFound found ≡ Nobody
+      unfound : t .rom ≡ rom.Match → (found : Found) → matchedOf (τ .commons) (τ .count) master ≡ found → reachFound found ≡ nobody
           → (j : ℕ) → j < τ .count → chosen j ≡ false
       unfound r (At i) e n j low = contrary cc
       unfound r Nowhere e n j low = none-matched r e j low
 
-      by : (r : Rom) → t .rom ≡ r → reachBy r (matchedOf (τ .commons) (τ .count) master) ≡ Nobody → (j : ℕ) → j < τ .count → chosen j ≡ false
+      by : (r : Rom) → t .rom ≡ r → reachBy r (matchedOf (τ .commons) (τ .count) master) ≡ nobody → (j : ℕ) → j < τ .count → chosen j ≡ false
       by rom.Skip e n j low = contrary cc
       by rom.Match e n j low = unfound e (matchedOf (τ .commons) (τ .count) master) refl n j low
       by rom.Net33 e n j low = contrary cc

@@ -31,9 +31,7 @@ use Rattle.runs.specs.declared.Session.{Session}
 use Rattle.runs.specs.AnyRecord.{answeredBy}
 use Rattle.runs.specs.SessionRecord.{loadedWith, takenDid}
 use Rattle.tray_record.specs.declared.Tray.{Tray}
-use Rattle.tray_record.specs.declared.Reach.{Reach}
-use Rattle.tray_record.specs.declared.Reach.the-variants.{One, Every, Nobody}
-use Rattle.tray_record.specs.Tray.{noGauge, packOf, slotIn, slotTick, matchedOf}
+use Rattle.tray_record.specs.Tray.{noGauge, packOf, slotIn, slotTick, Reach, one, every, nobody, matchedOf}
 use Rattle.tray_record.specs.Tray.{reachBy, trayReach, trayTold, wiredFirst, trayReply}
 use Rattle.demands.specs.Sections.{Class, labelling, gauging, fence}
 use Rattle.demands.specs.Class.{touchedOf, takenClass, classBy, trayAsked, someSelected}
@@ -241,9 +239,9 @@ module _ {A B : Type 0} (make : Common → A → B → Gauge) (own : Gauge → A
       replied : (r : Reach) → ((j : ℕ) → hearsOf r (τ .count) j ≡ true →
           replyOf (packOf σ j) t (masterOf t p) ≡ replyOf (packOf τ j) t (masterOf t p))
           → trayReply t (masterOf t p) r σ ≡ trayReply t (masterOf t p) r τ
-      replied (One i) h = h i (eq-eqb i i refl)
-      replied Nobody h = refl
-      replied Every h =
+      replied (one i) h = h i (eq-eqb i i refl)
+      replied nobody h = refl
+      replied every h =
           ap (wiredFirst t (masterOf t p) σ) (alike .count)
           ∙ wired-same t (masterOf t p) σ τ (τ .count) (λ j low. h j (lt-ltb j (τ .count) low))
 

@@ -22,10 +22,8 @@ use Rattle.runs.specs.Record.{whole, recsOf}
 use Rattle.runs.specs.AnyRecord.{answeredBy}
 use Rattle.runs.specs.SessionRecord.{loadedWith, lastTick, takenDid, didOf}
 use Rattle.tray_record.specs.declared.Tray.{Tray}
-use Rattle.tray_record.specs.declared.Reach.{Reach}
-use Rattle.tray_record.specs.declared.Reach.the-variants.{One}
-use Rattle.tray_record.specs.Tray.{emptyTray, packOf, trayKindOf, aheadOf, againOf, slotTick, trayTold}
-use Rattle.tray_record.specs.Tray.{trayReach, trayActed, trayReply, ofTray, trayDid}
+use Rattle.tray_record.specs.Tray.{emptyTray, packOf, trayKindOf, aheadOf, againOf, slotTick, trayTold, Reach}
+use Rattle.tray_record.specs.Tray.{one, trayReach, trayActed, trayReply, ofTray, trayDid}
 use Rattle.demands.specs.Call.{Call, Within}
 use Rattle.demands.specs.Longer.{formKind}
 use Rattle.demands.specs.Alone.{reachIn}
@@ -87,7 +85,7 @@ module _ (τ : Tray) (i : ℕ) (low : i < τ .count) (f : Form) (p : List ℕ) w
 
 -- A transaction that is matched to a slot
 
-module _ (τ : Tray) (h : Eight τ) (i : ℕ) (f : Form) (p : List ℕ) (reach : reachIn τ f p ≡ One i) where
+module _ (τ : Tray) (h : Eight τ) (i : ℕ) (f : Form) (p : List ℕ) (reach : reachIn τ f p ≡ one i) where
   there : i < τ .count
   there = subst (λ (r : Reach). There r (τ .count)) reach (reach-there τ (transactionIn f p) (masterOf (transactionIn f p) p))
 
@@ -100,7 +98,7 @@ module _ (τ : Tray) (h : Eight τ) (i : ℕ) (f : Form) (p : List ℕ) (reach :
   abbrev Matched : Taken → Type 0
   Matched t = AsOld i (answeredBy ofTray τ p t) (takenDid (loadedWith (packOf τ i)) p t)
 
-  acted-old : (t : Transaction) (r : Reach) → r ≡ One i
+  acted-old : (t : Transaction) (r : Reach) → r ≡ one i
       → (trayReply t (masterOf t p) r τ ≡ replyOf (packOf τ i) t (masterOf t p))
       × (packOf (trayActed t (masterOf t p) r τ) i ≡ actOf (packOf τ i) t (masterOf t p))
   acted-old t r e = rw e (refl, stored-here τ i (actOf (packOf τ i) t (masterOf t p)) h (omega (arith, there, h .few)))

@@ -9,9 +9,7 @@ use Rattle.record.specs.declared.Form.{Form}
 use Rattle.record.specs.Record.{transactionIn, masterOf}
 use Rattle.runs.specs.Record.{Rec, whole}
 use Rattle.tray_record.specs.declared.Tray.{Tray}
-use Rattle.tray_record.specs.declared.Reach.{Reach}
-use Rattle.tray_record.specs.declared.Reach.the-variants.{One}
-use Rattle.tray_record.specs.Tray.{packOf, slotIn, trayReach, trayDid}
+use Rattle.tray_record.specs.Tray.{packOf, slotIn, Reach, one, trayReach, trayDid}
 use Rattle.demands.specs.Longer.{formKind}
 
 -- "Readings, conversions, kind 6 samples and power-ons come as kinds 18, 19, 22 and 21"
@@ -25,7 +23,7 @@ reachIn tray form p = trayReach tray (transactionIn form p) (masterOf (transacti
 -- a record of the slot i: its event, or a transaction that the search matches to it
 pub data Goes (τ : Tray) (i : ℕ) : Rec → Type 0 where
   slotted : {n : ℕ} {p : List ℕ} → slotEvent n ≡ true → slotIn p ≡ i → Goes τ i (whole n p)
-  matched : (f : Form) {p : List ℕ} → reachIn τ f p ≡ One i → Goes τ i (whole (formKind f) p)
+  matched : (f : Form) {p : List ℕ} → reachIn τ f p ≡ one i → Goes τ i (whole (formKind f) p)
 
 -- of any tray and any room that is left
 abbrev pub Alone : Type 0

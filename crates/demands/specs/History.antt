@@ -24,9 +24,7 @@ use Rattle.runs.specs.declared.Session.{Session}
 use Rattle.runs.specs.AnyRecord.{Steps}
 use Rattle.runs.specs.SessionRecord.{ofSession}
 use Rattle.tray_record.specs.declared.Tray.{Tray}
-use Rattle.tray_record.specs.declared.Reach.{Reach}
-use Rattle.tray_record.specs.declared.Reach.the-variants.{One, Every, Nobody}
-use Rattle.tray_record.specs.Tray.{packOf, slotIn, trayReach, ofTray}
+use Rattle.tray_record.specs.Tray.{packOf, slotIn, Reach, one, every, nobody, trayReach, ofTray}
 use Rattle.demands.specs.Call.{Call, Within, Stopped}
 
 -- ---- what a pack goes through
@@ -73,9 +71,9 @@ ofGauge = record { steps = ofSession; gauge = λ σ. σ .gauge; there = λ σ. �
 
 -- of so many packs on the line those that hear a transaction
 abbrev pub hearsOf : Reach → ℕ → ℕ → Bool
-hearsOf (One i) count j = eqb j i
-hearsOf Every count j = ltb j count
-hearsOf Nobody count j = false
+hearsOf (one i) count j = eqb j i
+hearsOf every count j = ltb j count
+hearsOf nobody count j = false
 
 -- the next image is that of the first slot without a pack; a slot's event names its slot
 abbrev pub slotHears : ℕ → Tray → List ℕ → Event → Bool

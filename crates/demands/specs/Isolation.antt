@@ -14,8 +14,7 @@ use Rattle.record.specs.Image.{imageAddress}
 use Rattle.runs.specs.Record.{Rec, whole, kindIn}
 use Rattle.runs.specs.Run.{Line}
 use Rattle.tray_record.specs.declared.Tray.{Tray}
-use Rattle.tray_record.specs.declared.Reach.the-variants.{One}
-use Rattle.tray_record.specs.Tray.{emptyTray, packOf, slotIn, trayDid}
+use Rattle.tray_record.specs.Tray.{emptyTray, packOf, slotIn, one, trayDid}
 use Rattle.demands.specs.Call.{Call, Within, gotOf, Stopped, Taking}
 use Rattle.demands.specs.Longer.{formKind}
 use Rattle.demands.specs.Alone.{slotEvent, reachIn}
@@ -91,7 +90,7 @@ pub record Isolation : Type 0 where
   pub replies : (k j : ℕ) (c d : Call Tray) → Within trayDid emptyTray c → Within trayDid emptyTray d
       → (x : Form) (p : List ℕ) (l m : Line) (a b e f : Call Tray)
       → Taking trayDid emptyTray c (whole (formKind x) p) l a b → Taking trayDid emptyTray d (whole (formKind x) p) m e f
-      → Twins k a e → reachIn (a .ran .state) x p ≡ One j → (j ≡ k → ⊥) → l ≡ m
+      → Twins k a e → reachIn (a .ran .state) x p ≡ one j → (j ≡ k → ⊥) → l ≡ m
 
 -- at a place in both sessions, by the runs a and e that stop there: "the others' states stay the same", and of a transaction that both hold next and
 -- that is matched to another slot, answer and reply
@@ -129,6 +128,6 @@ pub record IsolationMet : Type 0 where
   pub other-taking : Taking trayDid emptyTray second (whole (formKind form) payload) other-line other-before other-after
   pub twins : Twins slot before other-before
   pub differ : packOf (before .ran .state) slot ≡ packOf (other-before .ran .state) slot → ⊥
-  pub reached : reachIn (before .ran .state) form payload ≡ One matched
+  pub reached : reachIn (before .ran .state) form payload ≡ one matched
   pub away : matched ≡ slot → ⊥
   pub done : line .answer ≡ 0

@@ -13,8 +13,7 @@ use Rattle.runs.specs.Run.{Did}
 use Rattle.runs.specs.declared.Session.{Session}
 use Rattle.runs.specs.SessionRecord.{loadedWith, didOf}
 use Rattle.tray_record.specs.declared.Tray.{Tray}
-use Rattle.tray_record.specs.declared.Reach.the-variants.{One}
-use Rattle.tray_record.specs.Tray.{emptyTray, packOf, trayDid}
+use Rattle.tray_record.specs.Tray.{emptyTray, packOf, one, trayDid}
 use Rattle.demands.specs.Call.{Call, Within}
 use Rattle.demands.specs.Longer.{formKind}
 use Rattle.demands.specs.Alone.{reachIn}
@@ -37,7 +36,7 @@ pub record SlotsAsOld : Type 0 where
   pub events : (c : Call Tray) → Within trayDid emptyTray c → (i : ℕ) → i < c .ran .state .count → (n m : ℕ) → Stands n m →
       (room : ℕ) (p : List ℕ)
       → AsOld i (trayDid (c .ran .state) room (whole n (i ∷ p))) (didOf (loadedWith (packOf (c .ran .state) i)) room (whole m p))
-  pub matched : (c : Call Tray) → Within trayDid emptyTray c → (i room : ℕ) (f : Form) (p : List ℕ) → reachIn (c .ran .state) f p ≡ One i
+  pub matched : (c : Call Tray) → Within trayDid emptyTray c → (i room : ℕ) (f : Form) (p : List ℕ) → reachIn (c .ran .state) f p ≡ one i
       → AsOld i (trayDid (c .ran .state) room (whole (formKind f) p)) (didOf (loadedWith (packOf (c .ran .state) i)) room (whole (formKind f) p))
 
 -- ---- every pack, with any transaction, whomever it addresses: "Skip and net address reads go to every pack, and each reply byte is the bitwise AND of

@@ -20,10 +20,8 @@ use Rattle.record.specs.declared.Event.the-variants.{Image, Change, Transact}
 use Rattle.record.specs.Record.{masterOf, asksOf}
 use Rattle.runs.proofs.AnyRecord.{Replying, reply-length}
 use Rattle.tray_record.specs.declared.Tray.{Tray}
-use Rattle.tray_record.specs.declared.Reach.{Reach}
-use Rattle.tray_record.specs.declared.Reach.the-variants.{One, Every, Nobody}
 use Rattle.tray_record.specs.Wire.{andBytes}
-use Rattle.tray_record.specs.Tray.{packOf, storedOf, actedFirst, wiredFirst, trayReach, trayReply, trayEvent, ofTray, TrayWF}
+use Rattle.tray_record.specs.Tray.{packOf, storedOf, actedFirst, wiredFirst, Reach, one, every, nobody, trayReach, trayReply, trayEvent, ofTray, TrayWF}
 use Rattle.tray_record.proofs.Anded.{and-front, and-length}
 use Rattle.tray_record.proofs.Laws.{pack-is, stored-wf, stored-other}
 
@@ -90,17 +88,15 @@ module _ (t : Transaction) (master : List ℕ) where
     hearing-length = ap length (s .wired) ∙ length-append (wiredFirst t master τ₀ i) rest ∙ ap (λ (n : ℕ). n + length rest) (wired-length τ₀ i)
 
   -- all have heard it
-  pub hearing-end : {τ₀ : Tray} {rest : List ℕ} {τ : Tray} {room : List ℕ} {i : ℕ} → Hearing τ₀ rest τ room i → τ₀ .count ≤ i
-      → (τ ≡ actedFirst t master τ₀ (τ₀ .count)) × (room ≡ wiredFirst t master τ₀ (τ₀ .count) ++ rest)
-  hearing-end {τ₀} {i = i} s h =
-      let e : i ≡ τ₀ .count = omega (arith, s .few) in
-      (rw e at (s .tray), rw e at (s .wired))
+  pub hearing-end : {τ₀ : Tray} {rest : List ℕ} {τ : Tray} {room : List ℕ} {i n : ℕ} → Hearing τ₀ rest τ room i → i ≡ n
+      → (τ ≡ actedFirst t master τ₀ n) × (room ≡ wiredFirst t master τ₀ n ++ rest)
+  hearing-end s e = (rw e at (s .tray), rw e at (s .wired))
 
 -- each event is answered 0, and its reply has the bytes that it asks
 pub tray-reply-length : (t : Transaction) (master : List ℕ) (τ : Tray) (reach : Reach) → length (trayReply t master reach τ) ≡ t .count
-tray-reply-length t master τ (One i) = reply-length (packOf τ i) t master
-tray-reply-length t master τ Every = wired-length t master τ (τ .count)
-tray-reply-length t master τ Nobody = listed-length _ 0 (t .count)
+tray-reply-length t master τ (one i) = reply-length (packOf τ i) t master
+tray-reply-length t master τ every = wired-length t master τ (τ .count)
+tray-reply-length t master τ nobody = listed-length _ 0 (t .count)
 
 pub tray-replying : Replying ofTray
 tray-replying = record { answer = answers; reply = replies }

@@ -30,9 +30,8 @@ use Rattle.record.specs.Record.{takenBy, timedOf, fittedOf}
 use Rattle.tray_record.specs.declared.Tray.{Tray}
 use Rattle.tray_record.specs.declared.Found.{Found}
 use Rattle.tray_record.specs.declared.Found.the-variants.{At, Nowhere}
-use Rattle.tray_record.specs.declared.Reach.{Reach}
-use Rattle.tray_record.specs.declared.Reach.the-variants.{One, Every, Nobody}
-use Rattle.tray_record.specs.Tray.{searchFrom, searchOf, matchedOf, reachFound, reachBy, noGauge, emptyTray, packOf, storedOf}
+use Rattle.tray_record.specs.Tray.{searchFrom, searchOf, matchedOf, aimedBy, hearersOf, noGauge, emptyTray, packOf, storedOf}
+use Rattle.tray_record.specs.Tray.{Reach, one, reachFound, reachBy, trayReach, actedFirst, wiredFirst, trayActed, trayReply}
 use Rattle.tray_record.specs.Tray.{actedAt, TrayWF, trayKindOf, aheadOf, acceptedFor, trayAskedAt}
 
 -- ---- before the first record every place has the same
@@ -159,24 +158,35 @@ matched-below commons count master =
     picked (Below count) (ltb (length master) 9) Nowhere _ (λ short. tt)
     (λ long. let e : 0 + count ≡ count = omega arith in rw e at (search-below commons (noGauge .common) (take 8 (drop 1 master)) 0 count))
 
--- whom a transaction reaches alone is one of the packs
-
-abbrev Inside : ℕ → Reach → Type 0
-Inside n (One i) = i < n
-Inside n Every = Unit
-Inside n Nobody = Unit
-
-pub reach-below : (rom : Rom) (commons : List Common) (count : ℕ) (master : List ℕ) {i : ℕ} →
-    reachBy rom (matchedOf commons count master) ≡ One i → i < count
-reach-below said commons count master e = subst (Inside count) e (by said)
+pub aimed-below : (said : Rom) (commons : List Common) (count : ℕ) (master : List ℕ) {i : ℕ} →
+    aimedBy said (matchedOf commons count master) ≡ At i → i < count
+aimed-below said commons count master e = subst (Below count) e (by said)
   where
-    found : (f : Found) → Below count f → Inside count (reachFound f)
-    found (At i) low = low
-    found Nowhere low = tt
-
-    by : (r : Rom) → Inside count (reachBy r (matchedOf commons count master))
+    by : (r : Rom) → Below count (aimedBy r (matchedOf commons count master))
     by rom.Skip = tt
-    by rom.Match = found (matchedOf commons count master) (matched-below commons count master)
+    by rom.Match = matched-below commons count master
     by rom.Net33 = tt
     by rom.Net39 = tt
     by rom.Quiet = tt
+
+-- ---- a transaction goes to the slot that is aimed at, or is heard by the first packs: by all, or by nobody
+
+module _ (t : Transaction) (master : List ℕ) (τ : Tray) where
+  abbrev Goes : Found → Reach → Type 0
+  Goes (At i) reach = reach ≡ one i
+  Goes Nowhere reach = (trayActed t master reach τ ≡ actedFirst t master τ (hearersOf (t .rom) (τ .count)))
+      × (trayReply t master reach τ ≡ wiredFirst t master τ (hearersOf (t .rom) (τ .count)))
+
+  pub goes : (found : Found) → aimedBy (t .rom) (matchedOf (τ .commons) (τ .count) master) ≡ found → Goes found (trayReach τ t master)
+  goes found e = subst (λ (f : Found). Goes f (trayReach τ t master)) e (by (t .rom) refl)
+    where
+      matched : t .rom ≡ rom.Match → (f : Found) → Goes f (reachFound f)
+      matched r (At i) = refl
+      matched r Nowhere = rw r (refl, refl)
+
+      by : (r : Rom) → t .rom ≡ r → Goes (aimedBy r (matchedOf (τ .commons) (τ .count) master)) (reachBy r (matchedOf (τ .commons) (τ .count) master))
+      by rom.Skip r = rw r (refl, refl)
+      by rom.Match r = matched r (matchedOf (τ .commons) (τ .count) master)
+      by rom.Net33 r = rw r (refl, refl)
+      by rom.Net39 r = rw r (refl, refl)
+      by rom.Quiet r = rw r (refl, refl)

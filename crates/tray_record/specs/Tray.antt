@@ -36,8 +36,6 @@ use Rattle.runs.specs.AnyRecord.{Steps, recordBy}
 use Rattle.tray_record.specs.declared.Tray.{Tray}
 use Rattle.tray_record.specs.declared.Found.{Found}
 use Rattle.tray_record.specs.declared.Found.the-variants.{At, Nowhere}
-use Rattle.tray_record.specs.declared.Reach.{Reach}
-use Rattle.tray_record.specs.declared.Reach.the-variants.{One, Every, Nobody}
 use Rattle.tray_record.specs.Wire.{andBytes}
 
 -- ---- the state: how many packs there are, whether the opening is closed, and each pack by its parts
@@ -167,18 +165,24 @@ trayTold tray n p = trayAskedAt (tray .count) (tray .closed) (againOf tray p) (s
 unfoldable pub matchedOf : List Common → ℕ → List ℕ → Found
 matchedOf commons count master = pick (ltb (length master) 9) Nowhere (searchOf commons count (take 8 (drop 1 master)))
 
+-- whom a transaction reaches: the pack in a slot alone, every pack, or nobody
+pub data Reach : Type 0 where
+  one : ℕ → Reach
+  every : Reach
+  nobody : Reach
+
 -- whom a Match reaches: "For Match, the search over the tray stops at the slot whose address matches"; where no pack has the address, nobody
 abbrev pub reachFound : Found → Reach
-reachFound (At i) = One i
-reachFound Nowhere = Nobody
+reachFound (At i) = one i
+reachFound Nowhere = nobody
 
 -- CCh, 33h and 39h go to every pack, any other first byte and none to nobody
 abbrev pub reachBy : Rom → Found → Reach
-reachBy rom.Skip found = Every
+reachBy rom.Skip found = every
 reachBy rom.Match found = reachFound found
-reachBy rom.Net33 found = Every
-reachBy rom.Net39 found = Every
-reachBy rom.Quiet found = Nobody
+reachBy rom.Net33 found = every
+reachBy rom.Net39 found = every
+reachBy rom.Quiet found = nobody
 
 abbrev pub trayReach : Tray → Transaction → List ℕ → Reach
 trayReach tray transaction master = reachBy (transaction .rom) (matchedOf (tray .commons) (tray .count) master)
@@ -200,14 +204,14 @@ module _ (t : Transaction) (master : List ℕ) where
 
   -- where it reaches nobody nothing happens, and every reply byte is FFh
   abbrev pub trayActed : Reach → Tray → Tray
-  trayActed (One i) tray = actedAt tray i tray
-  trayActed Every tray = actedFirst tray (tray .count)
-  trayActed Nobody tray = tray
+  trayActed (one i) tray = actedAt tray i tray
+  trayActed every tray = actedFirst tray (tray .count)
+  trayActed nobody tray = tray
 
   abbrev pub trayReply : Reach → Tray → List ℕ
-  trayReply (One i) tray = replyOf (packOf tray i) t master
-  trayReply Every tray = wiredFirst tray (tray .count)
-  trayReply Nobody tray = listed (λ i. 0xff) 0 (t .count)
+  trayReply (one i) tray = replyOf (packOf tray i) t master
+  trayReply every tray = wiredFirst tray (tray .count)
+  trayReply nobody tray = listed (λ i. 0xff) 0 (t .count)
 
 -- ---- what an event does
 
@@ -235,6 +239,21 @@ namedSlot l = pick (ltb 4 (length l)) (pick (ltb (getD l 4 0) 8) (getD l 4 0) 0)
 -- whether it is an image, long enough for its address
 unfoldable pub imageAt : List ℕ → Bool
 imageAt l = pick (ltb (length l) (4 + imageSize)) false (either (eqb (pairAt l 2) 1) (eqb (pairAt l 2) 8))
+
+-- the slot that a transaction goes to alone, and how many of the packs hear it else
+abbrev pub aimedBy : Rom → Found → Found
+aimedBy rom.Skip found = Nowhere
+aimedBy rom.Match found = found
+aimedBy rom.Net33 found = Nowhere
+aimedBy rom.Net39 found = Nowhere
+aimedBy rom.Quiet found = Nowhere
+
+abbrev pub hearersOf : Rom → ℕ → ℕ
+hearersOf rom.Skip count = count
+hearersOf rom.Match count = 0
+hearersOf rom.Net33 count = count
+hearersOf rom.Net39 count = count
+hearersOf rom.Quiet count = 0
 
 -- ---- what holds of every tray: eight places, of which the first are packs, each well-formed
 

@@ -22,8 +22,8 @@ ghost use Rattle.gauge.specs.Act.{actOf, replyOf};
 ghost use Rattle.record.specs.Record.{fittedOf};
 ghost use Rattle.runs.specs.AnyRecord.{frontBy};
 ghost use Rattle.tray_record.specs.Wire.{andBytes};
-ghost use Rattle.tray_record.specs.Tray.{emptyTray, TrayWF, searchOf, trayKindOf, aheadOf, acceptedFor, trayAskedAt, isFound, matchedOf, reachFound};
-ghost use Rattle.tray_record.specs.Tray.{reachBy, trayReach, packOf, actedAt, actedFirst, wiredFirst, trayActed, trayReply, namedSlot, imageAt};
+ghost use Rattle.tray_record.specs.Tray.{emptyTray, TrayWF, searchOf, trayKindOf, aheadOf, acceptedFor, trayAskedAt, isFound, matchedOf, aimedBy};
+ghost use Rattle.tray_record.specs.Tray.{hearersOf, trayReach, packOf, actedAt, actedFirst, wiredFirst, trayActed, trayReply, namedSlot, imageAt};
 
 // The packs on one line, each by its parts; how many there are; and whether the opening is closed.
 pub struct Tray {
@@ -38,13 +38,6 @@ pub struct Tray {
 pub enum Found {
     At(u8),
     Nowhere,
-}
-
-// Whom a transaction reaches: the pack in a slot alone, every pack, or nobody.
-pub enum Reach {
-    One(u8),
-    Every,
-    Nobody,
 }
 
 // Before the first record.
@@ -260,18 +253,24 @@ fn heard(gauge: Gauge, transaction: Transaction, master: &[u8], room: &mut [u8])
     after
 }
 
-// Each pack carries the transaction out by itself; their replies go to the front of the room as one.
-fn every(mut tray: Tray, transaction: Transaction, master: &[u8], room: &mut [u8]) -> Tray
-    requires { ⌜ TrayWF tray ⌝ }
+// Each of the first so many packs carries the transaction out by itself; their replies go to the front of the room as one, FFh where there are none.
+fn first(
+    mut tray: Tray,
+    hearing: u8,
+    transaction: Transaction,
+    master: &[u8],
+    room: &mut [u8],
+) -> Tray
+    requires { ⌜ TrayWF tray × (hearing ≤ tray .count) ⌝ }
     requires { ⌜ transaction .count ≤ 256 ⌝ }
     requires { ⌜ transaction .count ≤ length (now room) ⌝ }
-    ensures { λ r. ⌜ r ≡ actedFirst transaction (now (master .entry)) tray (tray .count) ⌝ }
+    ensures { λ r. ⌜ r ≡ actedFirst transaction (now (master .entry)) tray hearing ⌝ }
     ensures replied { λ r. ⌜ now (room .exit)
-        ≡ wiredFirst transaction (now (master .entry)) tray (tray .count) ++ drop (transaction .count) (now (room .entry)) ⌝ }
+        ≡ wiredFirst transaction (now (master .entry)) tray hearing ++ drop (transaction .count) (now (room .entry)) ⌝ }
     ensures kept { λ r. ⌜ TrayWF r ⌝ }
 {
     let n = transaction.count as usize;
-    let count = slices::wide(tray.count);
+    let count = slices::wide(hearing);
     replies::fill_ones(&mut room[..n]);
     let mut i = 0;
     while i < count {
@@ -297,28 +296,31 @@ fn every(mut tray: Tray, transaction: Transaction, master: &[u8], room: &mut [u8
 
 // ---- a transaction
 
-// Whom a Match reaches.
-fn match_reach(commons: [Common; 8], count: u8, master: &[u8]) -> Reach
+// The slot that a transaction goes to alone, where a Match finds one.
+fn aimed(rom: Rom, commons: [Common; 8], count: u8, master: &[u8]) -> Found
     requires { ⌜ count ≤ 8 ⌝ }
-    ensures { λ r. ⌜ r ≡ reachFound (matchedOf commons count (now (master .entry))) ⌝ }
+    ensures { λ r. ⌜ r ≡ aimedBy rom (matchedOf commons count (now (master .entry))) ⌝ }
 {
-    match matched(commons, count, master) {
-        Found::At(i) => Reach::One(i),
-        Found::Nowhere => Reach::Nobody,
+    match rom {
+        Rom::Match => matched(commons, count, master),
+        Rom::Net33 => Found::Nowhere,
+        Rom::Net39 => Found::Nowhere,
+        Rom::Skip => Found::Nowhere,
+        Rom::Quiet => Found::Nowhere,
     }
 }
 
-// Whom a transaction reaches.
-fn reached(rom: Rom, commons: [Common; 8], count: u8, master: &[u8]) -> Reach
-    requires { ⌜ count ≤ 8 ⌝ }
-    ensures { λ r. ⌜ r ≡ reachBy rom (matchedOf commons count (now (master .entry))) ⌝ }
+// How many of the packs hear it else: all, or nobody.
+fn hearers(rom: Rom, count: u8) -> u8
+    ensures { λ r. ⌜ r ≡ hearersOf rom count ⌝ }
+    ensures few { λ r. ⌜ r ≤ count ⌝ }
 {
     match rom {
-        Rom::Match => match_reach(commons, count, master),
-        Rom::Net33 => Reach::Every,
-        Rom::Net39 => Reach::Every,
-        Rom::Skip => Reach::Every,
-        Rom::Quiet => Reach::Nobody,
+        Rom::Match => 0,
+        Rom::Net33 => count,
+        Rom::Net39 => count,
+        Rom::Skip => count,
+        Rom::Quiet => 0,
     }
 }
 
@@ -361,16 +363,14 @@ pub fn transacted(tray: Tray, transaction: Transaction, master: &[u8], room: &mu
         tray ++ drop (transaction .count) (now (room .entry)) ⌝ }
     ensures kept { λ r. ⌜ TrayWF r ⌝ }
 {
-    let n = transaction.count as usize;
     let rom = transaction.rom;
     let commons = tray.commons;
-    let reach = reached(rom, commons, tray.count, master);
-    match reach {
-        Reach::One(i) => one(tray, i, transaction, master, room),
-        Reach::Every => every(tray, transaction, master, room),
-        Reach::Nobody => {
-            replies::fill_ones(&mut room[..n]);
-            tray
+    let found = aimed(rom, commons, tray.count, master);
+    match found {
+        Found::At(i) => one(tray, i, transaction, master, room),
+        Found::Nowhere => {
+            let hearing = hearers(rom, tray.count);
+            first(tray, hearing, transaction, master, room)
         }
     }
 }

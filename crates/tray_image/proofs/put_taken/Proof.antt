@@ -68,7 +68,6 @@ put-unrun-arg→enum-told2 c = c .before
 abbrev slice-known3→enum-told2 : tie.After-slice-known3 → tie.After-enum-told2
 slice-known3→enum-told2 c = put-unrun-arg→enum-told2 (c .before .before .before)
 
-
 returns : tie.Need-returns
 unfolding trayImageSpeech trayAtEnd
 returns c =

@@ -3,55 +3,56 @@ use native.Mathlib.Omega.{arith}
 use mathlib.Core.List.{List, _++_}
 use Prim.Native.Nat.{ℕ}
 use lib.ListN.{drop}
-use lib.Seq.{length-take-le}
 use denote.Ref.{now}
-use Rattle.replies.specs.Reply.{listed}
-use Rattle.tray_record.specs.declared.Reach.{Reach}
-use Rattle.tray_record.specs.Tray.{trayActed, trayReply}
-use Rattle.tray_record.proofs.Laws.{reach-below}
+use Rattle.tray_record.specs.declared.Found.the-variants.{At, Nowhere}
+use Rattle.tray_record.specs.Tray.{Reach, actedFirst, wiredFirst, trayActed, trayReply}
+use Rattle.tray_record.proofs.Laws.{aimed-below, goes}
 use borrow.Author.Needs.{needs}
 use Rattle.tray_record.proofs.transacted.Statement.{statement}
 use Rattle.tray_record.proofs.transacted.Tie as tie
 
 -- places: `a→b` leads from the record of the place a back to that of the place b
 abbrev commons→start : tie.After-commons → tie.Start
-commons→start c = c .before .before .before .before
+commons→start c = c .before .before .before
 
-abbrev reached→start : tie.After-reached → tie.Start
-reached→start c = commons→start (c .before)
+abbrev aimed→start : tie.After-aimed → tie.Start
+aimed→start c = commons→start (c .before)
 
-abbrev reach→reached : tie.After-reach → tie.After-reached
-reach→reached c = c .before .before
+abbrev found→aimed : tie.After-found → tie.After-aimed
+found→aimed c = c .before .before
 
-abbrev one-arg→reach : tie.After-one-arg → tie.After-reach
-one-arg→reach c = c .before .before
+abbrev one-arg→found : tie.After-one-arg → tie.After-found
+one-arg→found c = c .before .before
 
-abbrev one-arg→reached : tie.After-one-arg → tie.After-reached
-one-arg→reached c = reach→reached (one-arg→reach c)
+abbrev one-arg→aimed : tie.After-one-arg → tie.After-aimed
+one-arg→aimed c = found→aimed (one-arg→found c)
 
 abbrev one-arg→start : tie.After-one-arg → tie.Start
-one-arg→start c = reached→start (one-arg→reached c)
+one-arg→start c = aimed→start (one-arg→aimed c)
 
-abbrev slice-known3→every : tie.After-slice-known3 → tie.After-every
-slice-known3→every c = c .before .before
+abbrev hearers→aimed : tie.After-hearers → tie.After-aimed
+hearers→aimed c = c .before .before .before
 
-abbrev slice-known3→enum-told : tie.After-slice-known3 → tie.After-enum-told
-slice-known3→enum-told c = slice-known3→every c .before .before
+abbrev hearers→start : tie.After-hearers → tie.Start
+hearers→start c = aimed→start (hearers→aimed c)
 
-abbrev slice-known3→reached : tie.After-slice-known3 → tie.After-reached
-slice-known3→reached c = slice-known3→enum-told c .before .before
+abbrev slice-known3→first : tie.After-slice-known3 → tie.After-first
+slice-known3→first c = c .before .before
+
+abbrev slice-known3→hearers : tie.After-slice-known3 → tie.After-hearers
+slice-known3→hearers c = slice-known3→first c .before .before
 
 abbrev slice-known3→start : tie.After-slice-known3 → tie.Start
-slice-known3→start c = reached→start (slice-known3→reached c)
+slice-known3→start c = hearers→start (slice-known3→hearers c)
 
-abbrev slice-known2→reach : tie.After-slice-known2 → tie.After-reach
-slice-known2→reach c = one-arg→reach (c .before .before .before)
+abbrev slice-known2→found : tie.After-slice-known2 → tie.After-found
+slice-known2→found c = one-arg→found (c .before .before .before)
 
-abbrev slice-known2→reached : tie.After-slice-known2 → tie.After-reached
-slice-known2→reached c = reach→reached (slice-known2→reach c)
+abbrev slice-known2→aimed : tie.After-slice-known2 → tie.After-aimed
+slice-known2→aimed c = found→aimed (slice-known2→found c)
 
 abbrev slice-known2→start : tie.After-slice-known2 → tie.Start
-slice-known2→start c = reached→start (slice-known2→reached c)
+slice-known2→start c = aimed→start (slice-known2→aimed c)
 
 one-requires : tie.Need-one-requires
 one-requires c κs =
@@ -62,17 +63,22 @@ one-requires c κs =
         omega (
           arith,
           start .pre .0 .few,
-          reach-below (a .transaction .rom) (a .tray .commons) (a .tray .count) (now (a .master))
-              (sym (one-arg→reached c .reached .ensures) ∙ one-arg→reach c .reach .given .1),
+          aimed-below (a .transaction .rom) (a .tray .commons) (a .tray .count) (now (a .master))
+              (sym (one-arg→aimed c .aimed .ensures) ∙ one-arg→found c .found .given .1),
         ),
         start .pre .1 .1,
       ),
     )
 
+first-requires : tie.Need-first-requires
+first-requires c κs =
+    let start = hearers→start (c .before) in
+    ((start .pre .0, c .before .hearers .ensures .1), start .pre .1)
+
 returns : tie.Need-returns
 returns c =
     let a = slice-known2→start c .args in
-    let e = (sym (slice-known2→reach c .reach .given .1) ∙ slice-known2→reached c .reached .ensures) in
+    let e = sym (goes (a .transaction) (now (a .master)) (a .tray) _ (sym (slice-known2→aimed c .aimed .ensures) ∙ slice-known2→found c .found .given .1)) in
     let x = c .before .before .one .ensures in (
       x .0 ∙ ap (λ (r : Reach). trayActed (a .transaction) (now (a .master)) r (a .tray)) e,
       (x .1 .0 ∙ ap (λ (r : Reach). trayReply (a .transaction) (now (a .master)) r (a .tray) ++ drop (a .transaction .count) (now (a .room))) e, x .1 .1),
@@ -81,39 +87,17 @@ returns c =
 returns-2 : tie.Need-returns-2
 returns-2 c =
     let a = slice-known3→start c .args in
-    let e = (sym (slice-known3→enum-told c .enum-told .given .1) ∙ slice-known3→reached c .reached .ensures) in
-    let x = slice-known3→every c .every .ensures in (
-      x .0 ∙ ap (λ (r : Reach). trayActed (a .transaction) (now (a .master)) r (a .tray)) e,
-      (x .1 .0 ∙ ap (λ (r : Reach). trayReply (a .transaction) (now (a .master)) r (a .tray) ++ drop (a .transaction .count) (now (a .room))) e, x .1 .1),
-    )
-
-abbrev enum-told2→reached : tie.After-enum-told2 → tie.After-reached
-enum-told2→reached c = c .before .before
-
-abbrev enum-told2→start : tie.After-enum-told2 → tie.Start
-enum-told2→start c = reached→start (enum-told2→reached c)
-
-slice-aggregate-fill-ones : tie.Need-slice-aggregate-fill-ones
-slice-aggregate-fill-ones c =
-    let start = enum-told2→start (c .before) in
-    sym (length-take-le (start .args .transaction .count) (now (start .args .room)) (start .pre .1 .1))
-
-abbrev slice-known4→enum-told2 : tie.After-slice-known4 → tie.After-enum-told2
-slice-known4→enum-told2 c = c .before .before .before .before
-
-returns-3 : tie.Need-returns-3
-returns-3 c =
-    let told = slice-known4→enum-told2 c in
-    let start = enum-told2→start told in
-    let a = start .args in
-    let e = (sym (told .enum-told2 .given .1) ∙ enum-told2→reached told .reached .ensures) in
-    let n = length-take-le (a .transaction .count) (now (a .room)) (start .pre .1 .1) in (
-      ap (λ (r : Reach). trayActed (a .transaction) (now (a .master)) r (a .tray)) e,
+    let heard = slice-known3→hearers c in
+    let e = goes (a .transaction) (now (a .master)) (a .tray) Nowhere
+    (sym (hearers→aimed heard .aimed .ensures) ∙ heard .before .enum-told .given .1) in
+    let n = heard .hearers .ensures .0 in
+    let x = slice-known3→first c .first .ensures in (
+      x .0 ∙ ap (actedFirst (a .transaction) (now (a .master)) (a .tray)) n ∙ sym (e .0),
       (
-        ap (λ (l : List ℕ). l ++ drop (a .transaction .count) (now (a .room)))
-            (c .before .before .fill-ones .ensures ∙ ap (listed (λ i. 0xff) 0) n)
-            ∙ ap (λ (r : Reach). trayReply (a .transaction) (now (a .master)) r (a .tray) ++ drop (a .transaction .count) (now (a .room))) e,
-        start .pre .0,
+        x .1 .0
+            ∙ ap (λ (l : List ℕ). l ++ drop (a .transaction .count) (now (a .room)))
+            (ap (wiredFirst (a .transaction) (now (a .master)) (a .tray)) n ∙ sym (e .1)),
+        x .1 .1,
       ),
     )
 
@@ -121,19 +105,13 @@ pub transacted-spec : {M : Type 1} → statement M
 transacted-spec =
     tie.close
     (tie.spec
-    (λ c. search needs)
     (λ c κs. search needs)
     (λ c. search needs)
     one-requires
     (λ c. search needs)
     (λ c κs. search needs)
-    (λ c. search needs)
-    (λ c. search needs)
-    slice-aggregate-fill-ones
-    (λ c κs. search needs)
+    first-requires
     (λ c. search needs)
     returns
     (λ c. search needs)
-    returns-2
-    (λ c. search needs)
-    returns-3)
+    returns-2)

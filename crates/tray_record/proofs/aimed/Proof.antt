@@ -1,18 +1,18 @@
 use mathlib.Core.Path.{sym, ap, _∙_}
 use denote.Ref.{now}
 use Rattle.bus.specs.declared.Rom.{Rom}
-use Rattle.tray_record.specs.Tray.{reachBy, matchedOf}
+use Rattle.tray_record.specs.Tray.{aimedBy, matchedOf}
 use borrow.Author.Needs.{needs}
-use Rattle.tray_record.proofs.reached.Statement.{statement}
-use Rattle.tray_record.proofs.reached.Tie as tie
+use Rattle.tray_record.proofs.aimed.Statement.{statement}
+use Rattle.tray_record.proofs.aimed.Tie as tie
 
 returns : tie.Need-returns
 returns c =
     let a = c .before .before .before .before .args in
-    c .match-reach .ensures ∙ ap (λ (r : Rom). reachBy r (matchedOf (a .commons) (a .count) (now (a .master)))) (sym (c .before .enum-told .given .1))
+    c .matched .ensures ∙ ap (λ (r : Rom). aimedBy r (matchedOf (a .commons) (a .count) (now (a .master)))) (sym (c .before .enum-told .given .1))
 
-pub reached-spec : {M : Type 1} → statement M
-reached-spec =
+pub aimed-spec : {M : Type 1} → statement M
+aimed-spec =
     tie.close
     (tie.spec
     (λ c. search needs)

@@ -9,14 +9,14 @@ use Rattle.tray_record.specs.Tray.{wiredFirst}
 use Rattle.tray_record.proofs.Laws.{pack-wf}
 use Rattle.tray_record.proofs.Hearing.{Hearing, hearing-rest, hearing-start, hearing-pack, hearing-more, hearing-length, hearing-end}
 use borrow.Author.Needs.{needs}
-use Rattle.tray_record.proofs.every.Statement.{statement}
-use Rattle.tray_record.proofs.every.Tie as tie
+use Rattle.tray_record.proofs.first.Statement.{statement}
+use Rattle.tray_record.proofs.first.Tie as tie
 
 abbrev Inv-loop : tie.InvT-loop
-Inv-loop t master room₀ tray₀ n count i₀ room tray i = (i ≤ 8) × (count ≡ tray₀ .count) × Hearing t master tray₀ (drop n room₀) tray room i
+Inv-loop heard t master room₀ tray₀ n count i₀ room tray i = (i ≤ heard) × (count ≡ heard) × Hearing t master tray₀ (drop n room₀) tray room i
 
 abbrev μ-loop : tie.MeasureT-loop
-μ-loop t master room₀ tray₀ n count i₀ room tray i = count - i
+μ-loop heard t master room₀ tray₀ n count i₀ room tray i = count - i
 
 -- places: `a→b` leads from the record of the place a back to that of the place b
 abbrev struct-known→start : tie.After-struct-known Inv-loop μ-loop → tie.Start Inv-loop μ-loop
@@ -85,19 +85,21 @@ loop-holds c =
       omega arith,
       slice-known2→fill-ones c .before .before .wide .ensures .0,
       hearing-start (a .transaction) (now (a .master)) (now (a .room)) (slice-known2→fill-ones c .fill-ones .last .0) (start .pre .1 .1)
-          (slice-known2→fill-ones c .fill-ones .ensures) (a .t1) (start .pre .0),
+          (slice-known2→fill-ones c .fill-ones .ensures) (a .t1) (start .pre .0 .0),
     )
 
 -- the next slot is one of eight
 inside : (c : tie.After-meter Inv-loop μ-loop) → meter→loop c .loop .i < 8
-inside c = omega (arith, meter→loop c .loop .inv .1, meter→start c .pre .0 .few, meter→in-loop c .loop-test .taken)
+inside c =
+    let start = meter→start c in
+    omega (arith, meter→loop c .loop .inv .1, start .pre .0 .0 .few, start .pre .0 .1, meter→in-loop c .loop-test .taken)
 
 heard-requires : tie.Need-heard-requires Inv-loop μ-loop
 heard-requires c κs =
     let l = heard-arg→loop c .loop in
     let start = heard-arg→start c in
     let w = l .inv .2 .wf in (
-      pack-wf (l .tray) (l .i) _ _ _ w (omega (arith, l .inv .1, start .pre .0 .few, heard-arg→in-loop c .loop-test .taken)),
+      pack-wf (l .tray) (l .i) _ _ _ w (omega (arith, l .inv .1, start .pre .0 .0 .few, start .pre .0 .1, heard-arg→in-loop c .loop-test .taken)),
       (start .pre .1 .0, omega (arith, hearing-length (start .args .transaction) (now (start .args .master)) (l .inv .2))),
     )
 
@@ -125,9 +127,10 @@ loop-again c =
     let a = meter→start c .args in
     let x = meter→heard c .heard .ensures in
     let i = inside c in (
-      omega arith,
+      omega (arith, l .inv .1, meter→in-loop c .loop-test .taken),
       l .inv .1,
-      hearing-more (a .transaction) (now (a .master)) (l .inv .2) (omega (arith, l .inv .1, meter→in-loop c .loop-test .taken))
+      hearing-more (a .transaction) (now (a .master)) (l .inv .2)
+          (omega (arith, l .inv .1, meter→in-loop c .loop-test .taken, meter→start c .pre .0 .1))
           (hearing-pack (a .transaction) (now (a .master)) (l .inv .2) _ _ _ i)
           (x .0) (x .1 .1) (x .1 .0),
     )
@@ -151,17 +154,18 @@ returns c =
     let a = start .args in
     let high = after-loop→fill-ones c .fill-ones in
     let s = c .before .loop .inv .2 in
-    let e = hearing-end (a .transaction) (now (a .master)) s (omega (arith, c .before .loop .inv .1)) in (
+    let all : c .before .loop .i ≡ a .hearing = omega (arith, c .before .loop .inv .0, c .before .loop .inv .1, c .loop-test .left) in
+    let e = hearing-end (a .transaction) (now (a .master)) s all in (
       e .0,
       (
-        e .1 ∙ ap (λ (l : List ℕ). wiredFirst (a .transaction) (now (a .master)) (a .t1) (a .t1 .count) ++ l)
+        e .1 ∙ ap (λ (l : List ℕ). wiredFirst (a .transaction) (now (a .master)) (a .t1) (a .hearing) ++ l)
             (hearing-rest (a .transaction) (now (a .master)) (now (a .room)) (high .last .0) (start .pre .1 .1) (high .ensures)),
         s .wf,
       ),
     )
 
-pub every-spec : {M : Type 1} → statement M
-every-spec =
+pub first-spec : {M : Type 1} → statement M
+first-spec =
     tie.close
     (tie.spec
     Inv-loop
