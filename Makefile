@@ -5,28 +5,30 @@ PREFIX ?= /usr/local
 DESTDIR ?=
 root = $(DESTDIR)$(PREFIX)
 home = $(root)/lib/trovimbe
-man = $(root)/share/man/man1
-completions = $(root)/share/bash-completion/completions
 package = $(if $(wildcard PACKAGE.txt),.,target/package)
+
+# The links that install makes below PREFIX, each with what it holds; and a loop over them, in which the link is $at and what it holds $to.
+links = bin/trovimbe=../lib/trovimbe/trovimbe share/man/man1/trovimbe.1=../../../lib/trovimbe/docs/trovimbe.1 \
+	share/bash-completion/completions/trovimbe=../../../lib/trovimbe/completion/trovimbe.bash
+each = for link in $(links); do at="$(root)/$${link%%=*}" to="$${link\#*=}";
+ours = [ "$$(readlink "$$at")" = "$$to" ]
 
 .PHONY: package install uninstall
 
 package:
 	[ -f PACKAGE.txt ] || { rm -rf target/package && ./trovimbe package target/package; }
 
-# What is there and is no Trovimbe is left alone.
+# What is there and is no Trovimbe is left alone. Everybody may read what is installed, whatever the umask is, here or where the folder came from.
 install: package
 	[ ! -e "$(home)" ] || [ -f "$(home)/PACKAGE.txt" ] || { echo "$(home) is there, and is no package of Trovimbe" >&2; exit 1; }
+	$(each) $(ours) || { [ ! -e "$$at" ] && [ ! -L "$$at" ]; } || { echo "$$at is there, and is no link of Trovimbe" >&2; exit 1; }; done
 	rm -rf "$(home).new"
-	mkdir -p "$(home).new" "$(root)/bin" "$(man)" "$(completions)"
-	cp -R "$(package)/." "$(home).new"
+	umask 022 && mkdir -p "$(home).new" && cp -R "$(package)/." "$(home).new" && chmod -R u+w,a+rX "$(home).new"
 	rm -rf "$(home)"
 	mv "$(home).new" "$(home)"
-	ln -sf ../lib/trovimbe/trovimbe "$(root)/bin/trovimbe"
-	ln -sf ../../../lib/trovimbe/docs/trovimbe.1 "$(man)/trovimbe.1"
-	ln -sf ../../../lib/trovimbe/completion/trovimbe.bash "$(completions)/trovimbe"
+	umask 022; $(each) mkdir -p "$${at%/*}" && ln -sfn "$$to" "$$at" || exit; done
 
 uninstall:
 	[ -f "$(home)/PACKAGE.txt" ] || { echo "$(home) is no package of Trovimbe" >&2; exit 1; }
-	rm -f "$(root)/bin/trovimbe" "$(man)/trovimbe.1" "$(completions)/trovimbe"
+	$(each) ! $(ours) || rm -f "$$at" || exit; done
 	rm -rf "$(home)"

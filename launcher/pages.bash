@@ -24,6 +24,13 @@ is_program() { # NAME
 # A plain program, which nobody proves: an executable file of the folder desk.
 is_desk() { [[ $1 =~ ^[a-z][a-z0-9_]*$ ]] && [ -f "$top/desk/$1" ] && [ -x "$top/desk/$1" ]; }
 
+# Leaves the names of the plain programs in `desk`.
+find_desk() {
+    local file
+    desk=()
+    for file in "$top"/desk/*; do ! is_desk "${file##*/}" || desk+=("${file##*/}"); done
+}
+
 # Leaves the name with the words that it takes in `call`, and what it does in `does`.
 about() { # NAME
     call=$1 does='(it has no page)'
@@ -39,11 +46,11 @@ listed() { # NAME..
 }
 
 usage() {
-    local file desk=()
+    local desk
     echo "usage: $self NAME [WORD ..]"
     echo "Runs a proved program on a file or on standard input; it is proved and built first where its sources changed."
     listed "${programs[@]}"
-    for file in "$top"/desk/*; do ! is_desk "${file##*/}" || desk+=("${file##*/}"); done
+    find_desk
     if [ ${#desk[@]} -gt 0 ]; then
         echo "The desk: plain programs, which are not proved:"
         listed "${desk[@]}"

@@ -1,4 +1,5 @@
 """Words to records: the language of docs/WORDS.md, one statement after the other."""
+import itertools
 import re
 from dataclasses import dataclass, field
 from fractions import Fraction
@@ -12,7 +13,7 @@ from .slips import Place, Slip, nearest
 
 Value = TypeVar("Value")
 
-AMOUNT = re.compile(r"([+-]?\d+(?:\.\d+)?)([A-Za-zµμΩ°%]*)$")
+AMOUNT = re.compile(r"([+-]?[0-9]{1,15}(?:\.[0-9]{1,15})?)([A-Za-zµμΩ°%]*)$")
 BYTE = re.compile(r"[0-9A-Fa-f]{2}$")
 HEX = re.compile(r"([0-9A-Fa-f]{1,4})h$")
 NAME = re.compile(r"[A-Za-z][A-Za-z0-9_-]*$")
@@ -22,6 +23,7 @@ EVENTS = ("reading", "conversion", "sample", "power-on")
 COMMANDS = {"copy": records.COPY, "recall": records.RECALL, "lock": records.LOCK}
 MOST_TICKS = 64  # that a sample covers
 MOST_REPEATED = 1 << 20  # records of one statement
+MOST_WORDS = 100000  # of one statement, names spelt out
 
 
 class Reader:
@@ -33,6 +35,8 @@ class Reader:
         for word in words:
             known = names.get(word.word) if word.text is None else None
             self.words += [w._replace(place=word.place) for w in known] if known else [word]
+            if len(self.words) > MOST_WORDS:
+                raise Slip(word.place, f"with its names spelt out this statement has over {MOST_WORDS:,} words", "let a name stand for less")
         self.at = 0
         last = words[-1]
         self.end = last.place._replace(column=last.place.column + len(last.word))
@@ -77,7 +81,7 @@ class Reader:
     def whole(self, expected: str, low: int, high: int) -> int:
         """A whole number in low..high, in decimal or as hex with an h behind it."""
         found = HEX.match(self.peek())
-        if found is None and not re.match(r"[+-]?\d+$", self.peek()):
+        if found is None and not re.match(r"[+-]?[0-9]{1,15}$", self.peek()):
             self.fail(f"{expected}, {low} to {high}")
         number = int(found.group(1), 16) if found else int(self.peek())
         if not low <= number <= high:
@@ -194,7 +198,10 @@ class Writer:
             raise Slip(words.place(), "include what?", 'expected one file name in quotes, as include "packs.txt"')
         if depth >= lexer.MOST_INCLUDED:
             raise Slip(statement[0].place, f"files include each other {depth} deep", "a file may not include itself, by way of another one either")
-        path = lexer.beside(statement[0].place.file, statement[1].text.decode())
+        name = statement[1].text.decode("utf-8", "replace")
+        if not name or not name.isprintable():
+            raise Slip(statement[1].place, "no file has such a name", 'expected one file name in quotes, as include "packs.txt"')
+        path = lexer.beside(statement[0].place.file, name)
         yield from self.pieces(path, self.opened(statement[1], path), depth + 1)
 
     def statement(self, words: "list[Word]") -> Iterator[Piece]:
@@ -264,9 +271,10 @@ class Writer:
     @staticmethod
     def converted(raw: int, reader: Reader) -> Iterator[Record]:
         """One conversion, or one for each tick of a time, or a number of times."""
-        times = 1
+        times, place = 1, reader.place()
         if reader.took("for"):
             times = reader.ticks("how long, as 30 min")
+            few(place, times)
         elif reader.left():
             times = reader.whole("how often, as 8 times", 1, MOST_REPEATED)
             reader.choice("`times`", ["times"])
@@ -282,17 +290,19 @@ class Writer:
             pack.tick, pack.sampled = tick, True
             yield records.sample(raw, tick)
             return
+        place = reader.place()
         length = reader.ticks("how long, as 3 h")
         step = 1
         if reader.took("every"):
-            place = reader.place()
+            often = reader.place()
             step = reader.ticks("how often, as 10 ticks")
             if step > MOST_TICKS:
-                raise Slip(place, f"that is {step} ticks", f"a sample covers at most {MOST_TICKS} ticks, 3.75 min; after a longer gap the pack powers on")
+                raise Slip(often, f"that is {step} ticks", f"a sample covers at most {MOST_TICKS} ticks, 3.75 min; after a longer gap the pack powers on")
+        few(place, length // step)
         if not pack.sampled:
             pack.sampled = True
             yield records.sample(raw, pack.tick)
-        for at in [*range(step, length, step), length]:
+        for at in itertools.chain(range(step, length, step), [length]):
             yield records.sample(raw, (pack.tick + at) % 65536)
         pack.tick = (pack.tick + length) % 65536
 
@@ -344,7 +354,8 @@ class Writer:
         settings = self.settings(reader)
         kind = image.FAMILY.get(address[0])
         if "profile" in settings:
-            kind = records.IMAGE if settings.pop("profile")[0].word == "ds2781" else records.CAMERA
+            named = one(settings.pop("profile"), lambda reader: reader.choice("ds2781 or ds2775", image.PROFILE.values()))
+            kind = next(kind for kind, name in image.PROFILE.items() if name == named)
         if kind is None:
             raise Slip(place, f"the family {address[0]:02X}h is neither 3Dh (a DS2781) nor 32h (a DS2775)", "say which, as profile ds2781")
         made = bytearray(image.SIZE[kind])
@@ -471,6 +482,11 @@ class Writer:
             reader.done()
         for at, value in zip(row.at, values):
             made[at] = value % 256
+
+
+def few(place: Place, count: int) -> None:
+    if count > MOST_REPEATED:
+        raise Slip(place, f"that is {count:,} records", f"a statement says at most {MOST_REPEATED:,}: say it in parts")
 
 
 def one(words: "list[Word]", taken: Callable[[Reader], Value]) -> Value:

@@ -15,6 +15,8 @@ NAMES = {"time": ("time", "timestamp", "date", "datetime", "t", "tick", "ticks")
          "temperature": ("temperature", "temp")}
 USUAL = {"time": "s", "current": "mA", "voltage": "V", "temperature": "C"}
 MOST_TICKS = 64
+NUMBER = re.compile(r"[+-]?[0-9]{1,15}(\.[0-9]{1,15})?([eE][+-]?[0-9]{1,2})?$")
+UNITS = {"A": "A, mA or uA", "V": "V or mV", "C": "C"}
 
 
 class Column(NamedTuple):
@@ -80,6 +82,7 @@ class Logger:
                 if not any(cell.strip() for cell in cells):
                     continue
                 if found is None:
+                    cells[0] = cells[0].lstrip("\ufeff")  # as some spreadsheets write it
                     found = columns(cells, place, self.wanted)
                 else:
                     yield self.row(cells, place, found)
@@ -93,26 +96,33 @@ class Logger:
 
         if not cell("time") or not cell("current"):
             raise Slip(place, "this row has no time, or no current", f"expected a value under {found['time'].name} and under {found['current'].name}")
-        volt, temp = (units.rounded(self.amount(cell(measure), found[measure], place) / weight) if cell(measure) else None
-                      for measure, weight in (("voltage", units.VOLTAGE[self.pack.kind]), ("temperature", units.TEMPERATURE)))
+        volt, temp = (self.counts(self.amount(cell(measure), found[measure], place, base) / weight, place) if cell(measure) else None
+                      for measure, base, weight in (("voltage", "V", units.VOLTAGE[self.pack.kind]), ("temperature", "C", units.TEMPERATURE)))
         if not self.pack.rsnsp:
             raise Slip(place, "the pack states no sense resistor, so no current can be turned into counts", "give the pack one, as rsns 20 mOhm")
-        raw = self.amount(cell("current"), found["current"], place) / (units.CURRENT * self.pack.rsnsp)
+        raw = self.amount(cell("current"), found["current"], place, "A") / (units.CURRENT * self.pack.rsnsp)
+        self.counts(raw, place)
         return Row(place, self.tick(cell("time"), found["time"], place), raw, volt, temp)
 
     @staticmethod
-    def amount(cell: str, column: Column, place: Place) -> Fraction:
+    def amount(cell: str, column: Column, place: Place, base: str) -> Fraction:
         """A cell in its base unit: A, V or C."""
-        try:
-            number = Fraction(cell)
-        except (ValueError, ZeroDivisionError):
-            raise Slip(place, f"{cell} is no number", f"expected one under {column.name}, with a point for decimals") from None
-        if column.unit in ("C", "°C"):
+        if not NUMBER.match(cell):
+            raise Slip(place, f"{cell} is no number", f"expected one under {column.name}, with a point for decimals")
+        number = Fraction(cell)
+        if base == "C" and column.unit in ("C", "°C"):
             return number
         parts = units.split_unit(column.unit)
-        if parts is None:
-            raise Slip(place, f"{column.unit} is no unit of {column.name}", "expected A, mA, uA, V, mV or C")
+        if parts is None or parts[1] != base:
+            raise Slip(place, f"{column.unit} is no unit of {column.name}", f"expected {UNITS[base]}")
         return number * parts[0]
+
+    @staticmethod
+    def counts(exact: Fraction, place: Place) -> int:
+        number = units.rounded(exact)
+        if not -(1 << 31) <= number < 1 << 31:
+            raise Slip(place, f"that is {number} counts", "a record holds 32 bits: see whether the unit in the head is right")
+        return number
 
     def tick(self, cell: str, column: Column, place: Place) -> int:
         """The tick of a time, from the start of the file: a number in the column's unit, or a date."""
@@ -121,8 +131,10 @@ class Logger:
                 when = datetime.datetime.fromisoformat(cell.replace("Z", "+00:00"))
                 self.began = self.began or when
                 return units.rounded(Fraction((when - self.began) / datetime.timedelta(microseconds=1)) * Fraction(units.TICKS_AN_HOUR, 3600 * 10**6))
+            if not NUMBER.match(cell):
+                raise ValueError(cell)
             number = Fraction(cell)
-        except (ValueError, TypeError, ZeroDivisionError):
+        except (ValueError, TypeError):
             raise Slip(place, f"{cell} is no time", f"expected a number of {column.unit}, or a date as 2024-03-01T12:00:00, all with a time zone or all without") from None
         if column.unit == "ticks":
             return units.rounded(number)

@@ -1,6 +1,8 @@
 """Records as bytes: how they are made, and how they are read off a stream, cut ones too."""
 from typing import BinaryIO, Iterator, NamedTuple, Union
 
+from .slips import Unfit
+
 IMAGE, READING, CONVERSION, TRANSACTION, POWER_ON, SAMPLE, LONG, CAMERA = range(1, 9)
 SLOTTED = {READING: 18, CONVERSION: 19, POWER_ON: 21, SAMPLE: 22}
 UNSLOTTED = {tray: plain for plain, tray in SLOTTED.items()}
@@ -35,7 +37,10 @@ def exactly(stream: BinaryIO, size: int) -> bytes:
     """So many bytes of a stream, or fewer where it ends."""
     parts = b""
     while len(parts) < size:
-        more = stream.read(size - len(parts))
+        try:
+            more = stream.read(size - len(parts))
+        except OSError as fault:
+            raise Unfit(f"the records cannot be read: {fault.strerror}; name a file, or hand one over by <") from fault
         if not more:
             break
         parts += more

@@ -8,7 +8,7 @@ Amount = Union[Fraction, int]
 FLAGS = {0x80: "CHGTF", 0x40: "AEF", 0x20: "SEF", 0x10: "LEARNF", 0x02: "PORF"}
 LOCKS = {0x40: "LOCK", 0x02: "BL1", 0x01: "BL0"}
 CONTROL = {0x80: "NBEN", 0x10: "RNAOP"}
-RSNSP, FULL40 = 0x69, 0x6A
+RSNSP, PARAMETERS = 0x69, 0x60
 
 
 class Shown(NamedTuple):

@@ -22,12 +22,17 @@ class Slip(Exception):
 
     def told(self) -> str:
         """The slip as it is shown: where and what, the line, a mark below the column, and the remedy."""
-        where = f"{self.place.file}:{self.place.line}:{self.place.column}: {self.wrong}"
-        shown = self.place.text.replace("\t", " ")
+        where = plain(f"{self.place.file}:{self.place.line}:{self.place.column}: {self.wrong}")
+        shown = plain(self.place.text.replace("\t", " "))
         lines = [where, "  " + shown, "  " + " " * (self.place.column - 1) + "^"]
         if self.remedy:
             lines.append("  " + self.remedy)
         return "\n".join(lines)
+
+
+def plain(text: str) -> str:
+    """A text without what a terminal would obey: each such character is shown as ?, so that columns stay."""
+    return "".join(letter if letter.isprintable() else "?" for letter in text)
 
 
 class Unfit(Exception):

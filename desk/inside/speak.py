@@ -54,14 +54,14 @@ class Speaker:
         for piece in pieces:
             yield self.say(piece)
 
-    def say(self, piece: Piece) -> str:
-        """A record as a statement; its lines below the first are indented."""
+    def say(self, piece: Piece, taken: bool = True) -> str:
+        """A record as a statement; its lines below the first are indented. An image that is known to be refused is no pack to measure by."""
         if isinstance(piece, Cut):
             return listed("bytes", piece.rest)
         if len(piece.payload) == image.SIZE.get(piece.kind, -1):
-            said = self.pack(piece)
-            self.packs.add(piece)
-            return said
+            if taken:
+                self.packs.add(piece)
+            return self.pack(piece)
         return self.event(piece) or self.transaction(piece) or listed(f"record {piece.kind}", piece.payload)
 
     # ---- events

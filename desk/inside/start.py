@@ -21,6 +21,8 @@ def page(name: str) -> str:
 def run(name: str, program: Callable[["list[str]"], int]) -> None:
     """Runs a program on the words of its call. `--help` prints its page; a slip, and whatever else does not fit, is said in a few lines."""
     words = sys.argv[1:]
+    if sys.stdin is None or sys.stdout is None:  # closed by whoever started it
+        sys.exit(said(f"{name}: standard input or output is closed: hand over a file, or /dev/null", WRONG))
     try:
         if "--help" in words or "-h" in words:
             sys.stdout.write("usage: ./trovimbe " + page(name))
@@ -39,11 +41,14 @@ def run(name: str, program: Callable[["list[str]"], int]) -> None:
         status = 130
     except OSError as fault:
         status = said(f"cannot write: {fault.strerror}", WRONG)
+    except (MemoryError, RecursionError):
+        status = said(f"{name}: this takes more memory than there is: try a shorter part of it", WRONG)
     sys.exit(status)
 
 
 def said(text: str, status: int) -> int:
-    print(text, file=sys.stderr)
+    if sys.stderr is not None:
+        print(text, file=sys.stderr)
     return status
 
 

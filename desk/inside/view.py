@@ -13,6 +13,8 @@ class Seen(NamedTuple):
     values: "dict[str, str]"
     flags: "list[str]"
     label: str
+    data: bytes
+    kind: int
 
 
 class Explained(NamedTuple):
@@ -30,15 +32,21 @@ class Explained(NamedTuple):
 
 def seen(data: bytes, kind: int) -> Seen:
     values = {value.name: value.text() for value in registers.shown(data, kind)}
-    return Seen(values, registers.flags(data), "".join(chr(b) if 32 <= b <= 126 else "." for b in data[0x20:0x30]).rstrip())
+    return Seen(values, registers.flags(data), "".join(chr(b) if 32 <= b <= 126 else "." for b in data[0x20:0x30]).rstrip(), data, kind)
 
 
 def changes(before: Seen, after: Seen) -> "list[str]":
-    """What is not as it was."""
+    """What is not as it was: what is shown, and by their names the registers and parameters that move nothing that is shown."""
     told = [f"{text} (was {before.values.get(name, '-').replace(name + ' ', '')})" for name, text in after.values.items() if before.values.get(name) != text]
     told += [f"{flag} set" for flag in after.flags if flag not in before.flags]
     told += [f"{flag} cleared" for flag in before.flags if flag not in after.flags]
-    return told + ([f'label "{after.label}"'] if before.label != after.label else [])
+    told += [f'label "{after.label}"'] if before.label != after.label else []
+    by = registers.Units(after.data[registers.RSNSP], after.kind)
+    for register in registers.REGISTERS:
+        old, new = (data[register.at:register.at + register.size] for data in (before.data, after.data))
+        if old != new and (register.at >= registers.PARAMETERS or not told):
+            told.append(f"{register.name} {register.said(new, by)} (was {register.said(old, by)})")
+    return told
 
 
 def read_from(piece: Piece) -> int:
@@ -52,9 +60,12 @@ def read_from(piece: Piece) -> int:
     return master[at + 1]
 
 
-def shape(told: Told, kinds: "list[int]") -> "tuple[int, int]":
-    """The sense resistor and the kind that a reply is told by: those of the first pack."""
-    return (told.maps[0][registers.RSNSP], kinds[0]) if told.maps else (0, records.IMAGE)
+def answering(piece: Piece, line: Line) -> int:
+    """The slot of the one pack that answers a read, or -1 where nobody does, or several at once, whose AND is no number of any."""
+    master = piece.payload[records.HEAD.get(piece.kind, 0):] if isinstance(piece, Record) else b""
+    if master[:1] == bytes([records.MATCH]):
+        return line.addresses.index(master[1:9]) if master[1:9] in line.addresses else -1
+    return 0 if len(line.addresses) == 1 else -1
 
 
 def explained(pieces: Iterator[Piece], tray: bool) -> Iterator[Explained]:
@@ -63,9 +74,11 @@ def explained(pieces: Iterator[Piece], tray: bool) -> Iterator[Explained]:
     last: "dict[int, Seen]" = {}
     for number, told in enumerate(gauge.told(pieces, line), 1):
         piece = told.piece
+        said = speaker.say(piece, told.answer.number == 0)
         now = {slot: seen(data, line.kinds[slot]) for slot, data in told.maps.items()}
         changed = {slot: changes(last[slot], pack) for slot, pack in now.items() if slot in last and last[slot] != pack}
         at = read_from(piece)
-        spelt = registers.spelt(at, told.answer.reply, registers.Units(*shape(told, line.kinds))) if at >= 0 else []
-        yield Explained(number, speaker.say(piece), told.answer.number, meaning(piece, told.answer.number, tray), told.answer.reply, spelt, now, changed, told)
+        slot = answering(piece, line)
+        spelt = registers.spelt(at, told.answer.reply, registers.Units(told.maps[slot][registers.RSNSP], line.kinds[slot])) if at >= 0 and slot in now else []
+        yield Explained(number, said, told.answer.number, meaning(piece, told.answer.number, tray), told.answer.reply, spelt, now, changed, told)
         last = now

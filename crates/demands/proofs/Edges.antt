@@ -5,7 +5,13 @@ use mathlib.Core.List.{List, [], _∷_}
 use Prim.Native.Nat.{ℕ, suc}
 use native.Mathlib.Omega.{arith}
 use lib.ListN.{length, take}
+use Rattle.params.specs.Params.{capacityOf}
 use Rattle.state.specs.declared.Meter.{Meter}
+use Rattle.state.specs.State.{acrOf}
+use Rattle.conversion.specs.Conversion.{correctsFull}
+use Rattle.reading.specs.Reading.{seenIn}
+use Rattle.reading.specs.Hundred.{leftAtFull, leftIn, usableIn, Says}
+use Rattle.reading.proofs.Hundred.{hundred-holds}
 use Rattle.gauge.specs.declared.Gauge.{Gauge}
 use Rattle.gauge.specs.Image.{sizeFor}
 use Rattle.record.specs.declared.Form.the-variants.{Long}
@@ -32,12 +38,10 @@ use Rattle.hex.proofs.RoundTrip.{round-trip}
 use Rattle.demands.specs.Call.{Call, Allowed, Within, linesIn}
 use Rattle.demands.specs.Slots.{Stands, AsOld}
 use Rattle.demands.specs.Longer.{reading, quarters, wholeMap}
-use Rattle.demands.specs.Hundred.{usableAt, FullBefore, SaysPercent}
 use Rattle.demands.specs.Programming.{Bench, benchLines, Answers}
 use Rattle.demands.proofs.Demand2.{demand-2, tray-demand-2}
 use Rattle.demands.proofs.Slots.{slots-as-old}
 use Rattle.demands.proofs.Longer.{longer}
-use Rattle.demands.proofs.Hundred.{hundred}
 
 -- DEMAND 2: an image taken out into a room of just its size, of a session and of the last slot that has a pack
 pub image-in-its-size : (d : Call Session) (room : List ℕ) (answer : ℕ) (after : List ℕ) → Within didOf emptyOf d → d .ran .state .loaded ≡ true
@@ -76,9 +80,11 @@ pub quarters-in-256 : (g : Gauge) → repliesOf (linesAfter didOf (loadedWith g)
 quarters-in-256 g = longer .map-quarters g 256 (omega arith)
 
 -- A FULL PACK: D is 1
-pub hundred-at-1 : (k : Meter) (raw : ℕ) (meter : Meter) (v t : ℕ) → FullBefore k raw meter v t → usableAt meter v t ≡ 1
-    → SaysPercent meter v t 100 (meter .shown .flags .chgtf)
-hundred-at-1 k raw meter v t full one = hundred .stays k raw meter v t full (omega (arith, one))
+pub hundred-at-1 : (k : Meter) (raw : ℕ) → correctsFull k raw ≡ true → (m : Meter) (v t : ℕ) → acrOf (leftIn m v t .count) ≡ leftAtFull k raw .acr
+    → leftIn m v t .aging ≡ leftAtFull k raw .aging → seenIn m v t .lines .full ≡ leftAtFull k raw .full
+    → capacityOf (m .cells .block .shadow) .full40 ≡ leftAtFull k raw .full40 → usableIn m v t ≡ 1 → Says m v t 100 (m .shown .flags .chgtf)
+hundred-at-1 k raw found m v t acr aging full full40 one =
+    hundred-holds .stays k raw found m v t (record { acr = acr; aging = aging; full = full; full40 = full40; some = omega (arith, one) })
 
 -- MENDING: an acceptable image with an AS of 63, and of 128, comes out unchanged
 module _ (image : List ℕ) (bytes : Bytes image) (accepted : Accepted image) where

@@ -14,8 +14,7 @@ ghost use Rattle.text.specs.Text.{firstCoded};
 ghost use Rattle.image.specs.Image.{imageSpeech, sessionImageSpeech, sessionImageOf};
 
 // The image of a session that was run to its end, and has so many lines.
-fn put_image(session: Session, lines: usize, answers: &[u64], room: &mut [u8]) -> Said
-    requires { ⌜ length (now answers) ≡ 8192 ⌝ }
+fn put_image(session: Session, lines: usize, answers: &[u64; 8192], room: &mut [u8]) -> Said
     requires { ⌜ length (now room) ≡ 160 ⌝ }
     ensures { λ r. ⌜ Saying (imageSpeech session (firstCoded 1 (take lines (now (answers .entry))))) (now (room .entry)) r (now (room .exit)) ⌝ }
 {

@@ -4,7 +4,7 @@ use mathlib.Core.List.{List, [], _∷_}
 use Prim.Native.Nat.{ℕ}
 use lib.ListN.{replicate}
 use Rattle.record.specs.Image.{imageSize}
-use Rattle.mending.specs.Mending.{mendedNumber, mendingAnswer}
+use Rattle.mending.specs.Mending.{mendedNumber, mendingAnswer, listedBy, listedNumber}
 
 -- an image, all zero behind its family code, and one of another family; so many bytes
 abbrev ofFamily : ℕ → ℕ → List ℕ
@@ -15,7 +15,7 @@ abbrev answers : List ℕ → ℕ → ℕ
 answers image room = mendedNumber (mendingAnswer image room)
 
 abbrev lists : List ℕ → ℕ
-lists image = mendedNumber (mendingAnswer image imageSize)
+lists image = listedNumber (listedBy (mendingAnswer image imageSize) image)
 
 -- ---- the table, a statement for each refusal
 

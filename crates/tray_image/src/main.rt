@@ -58,8 +58,7 @@ fn put_no_number(room: &mut [u8]) -> Said
 // ---- the image
 
 // The image of a slot of a session that was run to its end, and has so many lines.
-fn put_image(tray: Tray, slot: u8, lines: usize, answers: &[u64], room: &mut [u8]) -> Said
-    requires { ⌜ length (now answers) ≡ 8192 ⌝ }
+fn put_image(tray: Tray, slot: u8, lines: usize, answers: &[u64; 8192], room: &mut [u8]) -> Said
     requires { ⌜ length (now room) ≡ 160 ⌝ }
     ensures { λ r. ⌜ Saying (slotSpeech tray slot (firstCoded 1 (take lines (now (answers .entry))))) (now (room .entry)) r (now (room .exit)) ⌝ }
 {

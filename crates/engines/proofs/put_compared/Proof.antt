@@ -19,80 +19,29 @@ bounds : (c : tie.Then1) → let n = length (now (asked→start c .args .bytes))
 bounds c = sized (length (now (asked→start c .args .bytes))) (sym (c .before .and .ensures) ∙ c .if1 .taken)
 
 -- places: `a→b` leads from the record of the place a back to that of the place b
-abbrev quad→then1 : tie.After-quad → tie.Then1
-quad→then1 c = c .before
-
-abbrev run-arg→then1 : tie.After-run-arg → tie.Then1
-run-arg→then1 c = quad→then1 (c .before .before .before)
-
-abbrev run→then1 : tie.After-run → tie.Then1
-run→then1 c = run-arg→then1 (c .before .before .before)
-
-abbrev put-ended-arg→then1 : tie.After-put-ended-arg → tie.Then1
-put-ended-arg→then1 c = run→then1 (c .before .before .before)
-
-abbrev slice-known2→then1 : tie.After-slice-known2 → tie.Then1
-slice-known2→then1 c = put-ended-arg→then1 (c .before .before .before)
-
-abbrev slice-known→start : tie.After-slice-known → tie.Start
-slice-known→start c = c .before .before
-
-abbrev quad→start : tie.After-quad → tie.Start
-quad→start c = slice-known→start (c .before .before .before)
-
-abbrev run-arg→start : tie.After-run-arg → tie.Start
-run-arg→start c = quad→start (c .before .before .before)
-
-abbrev run→start : tie.After-run → tie.Start
-run→start c = run-arg→start (c .before .before .before)
-
-abbrev put-ended-arg→start : tie.After-put-ended-arg → tie.Start
-put-ended-arg→start c = run→start (c .before .before .before)
-
-abbrev slice-known2→start : tie.After-slice-known2 → tie.Start
-slice-known2→start c = put-ended-arg→start (c .before .before .before)
-
-abbrev put-ended-arg→run : tie.After-put-ended-arg → tie.After-run
-put-ended-arg→run c = c .before .before .before
-
-abbrev slice-known2→run : tie.After-slice-known2 → tie.After-run
-slice-known2→run c = put-ended-arg→run (c .before .before .before)
-
-abbrev run-arg→offset32 : tie.After-run-arg → tie.After-offset32
-run-arg→offset32 c = c .before .before
-
-abbrev run→offset32 : tie.After-run → tie.After-offset32
-run→offset32 c = run-arg→offset32 (c .before .before .before)
-
-abbrev put-ended-arg→offset32 : tie.After-put-ended-arg → tie.After-offset32
-put-ended-arg→offset32 c = run→offset32 (c .before .before .before)
-
-abbrev slice-known2→offset32 : tie.After-slice-known2 → tie.After-offset32
-slice-known2→offset32 c = put-ended-arg→offset32 (c .before .before .before)
-
-abbrev run-arg→quad : tie.After-run-arg → tie.After-quad
-run-arg→quad c = c .before .before .before
-
-abbrev run→quad : tie.After-run → tie.After-quad
-run→quad c = run-arg→quad (c .before .before .before)
-
-abbrev put-ended-arg→quad : tie.After-put-ended-arg → tie.After-quad
-put-ended-arg→quad c = run→quad (c .before .before .before)
-
-abbrev slice-known2→quad : tie.After-slice-known2 → tie.After-quad
-slice-known2→quad c = put-ended-arg→quad (c .before .before .before)
-
 abbrev run-arg→pair : tie.After-run-arg → tie.After-pair
 run-arg→pair c = c .before
 
 abbrev run→pair : tie.After-run → tie.After-pair
 run→pair c = run-arg→pair (c .before .before .before)
 
-abbrev put-ended-arg→pair : tie.After-put-ended-arg → tie.After-pair
-put-ended-arg→pair c = run→pair (c .before .before .before)
+abbrev put-ended-arg→run : tie.After-put-ended-arg → tie.After-run
+put-ended-arg→run c = c .before .before
+
+abbrev slice-known2→run : tie.After-slice-known2 → tie.After-run
+slice-known2→run c = put-ended-arg→run (c .before .before .before)
 
 abbrev slice-known2→pair : tie.After-slice-known2 → tie.After-pair
-slice-known2→pair c = put-ended-arg→pair (c .before .before .before)
+slice-known2→pair c = run→pair (slice-known2→run c)
+
+abbrev slice-known2→offset32 : tie.After-slice-known2 → tie.After-offset32
+slice-known2→offset32 c = slice-known2→pair c .before
+
+abbrev slice-known2→quad : tie.After-slice-known2 → tie.After-quad
+slice-known2→quad c = slice-known2→offset32 c .before
+
+abbrev slice-known2→then1 : tie.After-slice-known2 → tie.Then1
+slice-known2→then1 c = slice-known2→quad c .before
 
 abbrev put-refused-arg2→and : tie.After-put-refused-arg2 → tie.After-and
 put-refused-arg2→and c = c .before .before .before
@@ -120,8 +69,8 @@ part-run-start c = omega (arith, bounds (c .before .before .before) .0)
 
 returns : tie.Need-returns
 returns c =
-    let asked = (slice-known2→then1 c) in
-    let s = now (slice-known2→start c .args .bytes) in
+    let asked = slice-known2→then1 c in
+    let s = now (asked→start asked .args .bytes) in
     let run = slice-known2→run c .run in
     end-said s (sym (asked .before .and .ensures) ∙ asked .if1 .taken)
     (ended s (replicate 65536 0) (replicate 8192 0) (run .result) (run .last .1 .0) (run .last .1 .1 .0) (bounds asked .1)

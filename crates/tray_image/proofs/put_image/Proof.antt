@@ -14,7 +14,7 @@ use Rattle.tray_image.proofs.put_image.Tie as tie
 
 -- where the image was taken out, and where the room was lent for it
 abbrev lent : tie.After-take-out → tie.Start
-lent c = c .before .before .before .before
+lent c = c .before .before .before
 
 -- what was taken out
 out : (c : tie.After-take-out) → let a = lent c .args in
@@ -31,30 +31,27 @@ image-size→take-out c = room→take-out (c .before .before .before)
 abbrev slice-known2→take-out : tie.After-slice-known2 → tie.After-take-out
 slice-known2→take-out c = c .before .before
 
-abbrev put-no-image-arg2→take-out : tie.After-put-no-image-arg2 → tie.After-take-out
-put-no-image-arg2→take-out c = slice-known2→take-out (c .before .before .before)
-
-abbrev slice-known3→take-out : tie.After-slice-known3 → tie.After-take-out
-slice-known3→take-out c = put-no-image-arg2→take-out (c .before .before .before)
-
-abbrev put-no-image-arg2→else1 : tie.After-put-no-image-arg2 → tie.Else1
-put-no-image-arg2→else1 c = c .before .before
+abbrev put-no-image-arg3→else1 : tie.After-put-no-image-arg3 → tie.Else1
+put-no-image-arg3→else1 c = c .before .before .before
 
 abbrev slice-known3→else1 : tie.After-slice-known3 → tie.Else1
-slice-known3→else1 c = put-no-image-arg2→else1 (c .before .before .before)
+slice-known3→else1 c = put-no-image-arg3→else1 (c .before .before .before)
+
+abbrev slice-known3→take-out : tie.After-slice-known3 → tie.After-take-out
+slice-known3→take-out c = slice-known2→take-out (slice-known3→else1 c .before)
 
 returns : tie.Need-returns
 returns c =
     let x = (image-size→take-out c) in
     let a = lent x .args in
-    handed (out x) (omega (arith, lent x .pre .1)) (slotWords ++ firstCoded 1 (take (a .lines) (now (a .answers)))) (c .before .if1 .taken)
+    handed (out x) (omega (arith, lent x .pre)) (slotWords ++ firstCoded 1 (take (a .lines) (now (a .answers)))) (c .before .if1 .taken)
     (x .take-out .kept .1 .1 .0) (c .image-size .ensures)
 
 returns-2 : tie.Need-returns-2
 returns-2 c =
     let x = (slice-known3→take-out c) in
     let a = lent x .args in
-    refused (out x) (omega (arith, lent x .pre .1)) (slotWords ++ firstCoded 1 (take (a .lines) (now (a .answers)))) (slice-known3→else1 c .if1 .left)
+    refused (out x) (omega (arith, lent x .pre)) (slotWords ++ firstCoded 1 (take (a .lines) (now (a .answers)))) (slice-known3→else1 c .if1 .left)
     (c .before .before .put-no-image .ensures)
 
 pub put-image-spec : {M : Type 1} → statement M
