@@ -13,7 +13,7 @@ use Rattle.runs.specs.declared.Outcome.the-variants.{Done}
 use Rattle.runs.specs.Record.{Rec, recOf, sizeOf, recsOf, kindIn}
 use Rattle.runs.specs.Run.{Did, Line, lineOf, linesAfter, endAfter, repliesOf, codeOf, codesOf, Running}
 use Rattle.runs.proofs.Records.{recs-cons, sizes}
-use Rattle.runs.proofs.Lines.{Fits}
+use Rattle.runs.proofs.Lines.{Fits, lines-length}
 
 -- what one record leaves: the state and the room after the record r, where the replies before it took so many bytes, and its line's number
 pub record Turned {S : Type 0} (did : S → ℕ → Rec → Did S) (σ : S) (room : List ℕ) (used : ℕ) (r : Rec) (τ : S) (after : List ℕ)
@@ -81,6 +81,18 @@ module _ {S : Type 0} (did : S → ℕ → Rec → Did S) (start : S) where
 
     left-some : 0 < length (drop at s)
     left-some = omega (arith, length-drop at s)
+
+    -- and so there is where no more answers were lent than there are records
+    pub going-held : length (recsOf s) ≤ length answers₀ → lines < length answers
+    going-held h =
+        omega (
+          arith,
+          g .counts,
+          g .same-answers,
+          lines-length did σ (length room₀ - used) (recsOf (drop at s)),
+          lines-length did start (length room₀) (recsOf s),
+          ap length (recs-cons (drop at s) left-some),
+        )
 
     -- the next record takes some of the bytes that are left
     pub going-size : (sizeOf (drop at s) ≤ length s - at) × (0 < sizeOf (drop at s))

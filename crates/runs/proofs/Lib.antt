@@ -5,4 +5,7 @@ pub mod Ends
 pub mod Unique
 pub mod AnyRecord
 pub mod Fronts
+pub mod Steps
+pub mod OwnRoom
+pub mod Stepping
 pub mod Turns

@@ -2,3 +2,4 @@ pub mod Record
 pub mod Run
 pub mod AnyRecord
 pub mod SessionRecord
+pub mod Step

@@ -12,7 +12,9 @@ use state::Profile;
 ghost use mathlib.Core.Path.{_≡_};
 ghost use Prim.Native.Nat.{_+_, _/_, _≤_};
 ghost use lib.ListN.{length};
+ghost use Rattle.runs.specs.Record.{recsOf};
 ghost use Rattle.runs.specs.Run.{Running, Runs};
+ghost use Rattle.runs.specs.Step.{StepDone};
 ghost use Rattle.gauge.specs.Image.{sizeFor};
 ghost use Rattle.runs.specs.SessionRecord.{SessionWF, didOf};
 ghost use Rattle.session_run.specs.SessionRun.{emptyOf, resultOf, idleOf, TakenOut};
@@ -36,14 +38,16 @@ pub fn empty() -> Session
     }
 }
 
-// The match on the event stands in the loop itself, so that no state goes through a result. A record that is cut ends the loop, and is answered behind it.
-fn run_all(bytes: &[u8], room: &mut [u8], answers: &mut [u64]) -> Ran
-    requires { ⌜ length (now bytes) ≤ 32768 ⌝ }
-    requires { ⌜ (length (now bytes) + 3) / 4 ≤ length (now answers) ⌝ }
-    ensures { λ r. ⌜ Running didOf emptyOf (now (bytes .entry)) (now (room .entry)) (now (answers .entry)) (resultOf r) (now (room .exit))
+// Records, run from any state. The match on the event stands in the loop itself, so that no state goes through a result. A record that is cut ends the
+// loop, and is answered behind it.
+pub fn run_on(start: Session, bytes: &[u8], room: &mut [u8], answers: &mut [u64]) -> Ran
+    requires { ⌜ SessionWF start ⌝ }
+    requires { ⌜ length (now bytes) ≤ 131072 ⌝ }
+    requires { ⌜ length (recsOf (now bytes)) ≤ length (now answers) ⌝ }
+    ensures { λ r. ⌜ Running didOf start (now (bytes .entry)) (now (room .entry)) (now (answers .entry)) (resultOf r) (now (room .exit))
         (now (answers .exit)) ⌝ }
+    ensures kept { λ r. ⌜ SessionWF (r .session) ⌝ }
 {
-    let start = empty();
     let mut loaded = start.loaded;
     let mut gauge = start.gauge;
     let mut at = 0;
@@ -104,6 +108,48 @@ fn run_all(bytes: &[u8], room: &mut [u8], answers: &mut [u64]) -> Ran
             lines: lines,
             replied: used,
         },
+    }
+}
+
+// Records, run from the state before the first.
+fn run_all(bytes: &[u8], room: &mut [u8], answers: &mut [u64]) -> Ran
+    requires { ⌜ length (now bytes) ≤ 32768 ⌝ }
+    requires { ⌜ (length (now bytes) + 3) / 4 ≤ length (now answers) ⌝ }
+    ensures { λ r. ⌜ Running didOf emptyOf (now (bytes .entry)) (now (room .entry)) (now (answers .entry)) (resultOf r) (now (room .exit))
+        (now (answers .exit)) ⌝ }
+{
+    let start = empty();
+    run_on(start, bytes, room, answers)
+}
+
+// What one record did: the state after it, its answer, and how many bytes of reply stand at the front of the room.
+pub struct SessionStep {
+    pub session: Session,
+    pub answer: u8,
+    pub replied: usize,
+}
+
+// The record at the front of some bytes, run in any state; what stands behind it is not looked at.
+pub fn step(session: Session, bytes: &[u8], room: &mut [u8]) -> SessionStep
+    requires { ⌜ SessionWF session ⌝ }
+    ensures { λ r. ⌜ StepDone didOf session (now (bytes .entry)) (now (room .entry)) (r .session) (r .answer) (r .replied) (now (room .exit)) ⌝ }
+    ensures kept { λ r. ⌜ SessionWF (r .session) ⌝ }
+{
+    if runs::whole(bytes) {
+        let end = 4 + slices::pair(bytes, 0) as usize;
+        let mut answers = [0u64; 1];
+        let ran = run_on(session, &bytes[..end], room, &mut answers);
+        let after = ran.session;
+        return SessionStep {
+            session: after,
+            answer: (answers[0] / 65536 % 256) as u8,
+            replied: ran.ended.replied,
+        };
+    }
+    SessionStep {
+        session: session,
+        answer: 2,
+        replied: 0,
     }
 }
 

@@ -1,0 +1,5 @@
+pub mod Laws
+pub mod Undoing
+pub mod Kept
+pub mod Stepping
+pub mod Unique

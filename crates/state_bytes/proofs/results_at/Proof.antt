@@ -1,0 +1,22 @@
+use borrow.Author.Needs.{needs}
+use Rattle.state_bytes.proofs.results_at.Statement.{statement}
+use Rattle.state_bytes.proofs.results_at.Tie as tie
+
+returns : tie.Need-returns
+returns c = cc
+
+pub results-at-spec : {M : Type 1} → statement M
+results-at-spec =
+    tie.close
+    (tie.spec
+    (λ c. search needs)
+    (λ c. search needs)
+    (λ c. search needs)
+    (λ c. search needs)
+    (λ c. search needs)
+    (λ c κs. search needs)
+    (λ c. search needs)
+    (λ c. search needs)
+    (λ c. search needs)
+    (λ c κs. search needs)
+    returns)

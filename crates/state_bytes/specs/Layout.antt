@@ -1,0 +1,62 @@
+-- Layouts: how a value stands in bytes, put together from a few parts. What a layout of the state needs besides is one line for each field.
+use mathlib.Core.Bool.{Bool}
+use mathlib.Core.List.{List, [], _∷_, _++_}
+use Prim.Native.Nat.{ℕ, _+_, _/_, _%_}
+use lib.Dec.{eqb}
+use lib.ListN.{getD}
+use Rattle.numbers.specs.Choice.{pick}
+use Rattle.slices.specs.Slices.{part, pairAt, quadAt}
+
+pub record Layout (A : Type 0) : Type 0 where
+  -- how many bytes it takes
+  pub size : ℕ
+  -- the value of the bytes from an index on
+  pub at : List ℕ → ℕ → A
+  -- the bytes of a value
+  pub out : A → List ℕ
+
+-- ---- numbers of one, two and four bytes, the low byte first
+
+abbrev pub number1 : Layout ℕ
+number1 = record { size = 1; at = λ s i. getD s i 0; out = λ n. n ∷ [] }
+
+abbrev pub number2 : Layout ℕ
+number2 = record { size = 2; at = pairAt; out = λ n. n % 256 ∷ n / 256 ∷ [] }
+
+abbrev pub number4 : Layout ℕ
+number4 = record { size = 4; at = quadAt; out = λ n. n % 256 ∷ n / 256 % 256 ∷ n / 65536 % 256 ∷ n / 16777216 ∷ [] }
+
+-- ---- 0 or 1
+
+abbrev pub flagByte : Bool → ℕ
+flagByte b = pick b 1 0
+
+abbrev pub flagIn : ℕ → Bool
+flagIn n = eqb n 1
+
+abbrev pub flag : Layout Bool
+flag = record { size = 1; at = λ s i. flagIn (getD s i 0); out = λ b. flagByte b ∷ [] }
+
+-- ---- so many bytes
+
+abbrev pub bytes : ℕ → Layout (List ℕ)
+bytes n = record { size = n; at = λ s i. part n s i; out = λ l. l }
+
+-- ---- one value, and another behind it
+
+infixr 5 _then_
+abbrev pub _then_ : {A B : Type 0} → Layout A → Layout B → Layout (A × B)
+a then b = record {
+  size = a .size + b .size;
+  at = λ s i. (a .at s i, b .at s (i + a .size));
+  out = λ v. a .out (v .0) ++ b .out (v .1);
+}
+
+-- ---- a struct by its fields
+
+pub record Fields (A B : Type 0) : Type 0 where
+  pub to : A → B
+  pub from : B → A
+
+abbrev pub formed : {A B : Type 0} → Fields A B → Layout A → Layout B
+formed form l = record { size = l .size; at = λ s i. form .to (l .at s i); out = λ v. l .out (form .from v) }
