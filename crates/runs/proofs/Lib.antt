@@ -9,3 +9,4 @@ pub mod Steps
 pub mod OwnRoom
 pub mod Stepping
 pub mod Turns
+pub mod Divided

@@ -3,3 +3,4 @@ pub mod Run
 pub mod AnyRecord
 pub mod SessionRecord
 pub mod Step
+pub mod Divided
