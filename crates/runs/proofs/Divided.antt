@@ -5,15 +5,15 @@ use mathlib.Core.List.{List, [], _∷_, _++_, append-assoc, append-nil}
 use Prim.Native.Nat.{ℕ, zero, suc, _+_, _-_, _*_, _≤_, _<_}
 use native.Mathlib.Omega.{arith}
 use borrow.Author.Tests.{lt-ltb, le-ltb, le-leb, leb-true, leb-false}
-use lib.Dec.{ltb, leb}
-use lib.ListN.{length, getD, take, drop, length-append, length-drop, List·getD-append, take-append-drop}
+use lib.Dec.{leb}
+use lib.ListN.{length, take, drop, length-append, length-drop, List·getD-append, take-append-drop}
 use Rattle.numbers.specs.Choice.{pick}
 use Rattle.slices.specs.Slices.{pairAt}
 use Rattle.runs.specs.Record.{Rec, wholeOf, recOf, sizeOf, recsOf}
 use Rattle.runs.specs.Run.{Did, Line, linesAfter, endAfter}
-use Rattle.runs.specs.Step.{leftAfter, ownRoom}
+use Rattle.runs.specs.Step.{ownRoom}
 use Rattle.runs.specs.Divided.{wholesIn, leftIn, answeredIn, inputOf, Divided, CarriedOn}
-use Rattle.runs.proofs.Records.{whole-head, whole-end, size-whole, recs-whole}
+use Rattle.runs.proofs.Records.{whole-end, size-whole, recs-whole}
 use Rattle.runs.proofs.Steps.{step-by-step, own-lines, own-end}
 
 -- ---- whole records first, then what is left

@@ -1,12 +1,10 @@
 -- No record asks more than 256 bytes of reply, so that with as much of its own none is refused for the room.
-use mathlib.Core.Path.{_≡_, refl, sym, ap, subst, _∙_}
-use mathlib.Core.Bool.{true, false}
+use mathlib.Core.Path.{_≡_, refl, ap, subst}
+use mathlib.Core.Bool.{false}
 use mathlib.Core.List.{List}
-use Prim.Native.Nat.{ℕ, _+_, _≤_}
+use Prim.Native.Nat.{ℕ, _≤_}
 use native.Mathlib.Omega.{arith}
 use borrow.Author.Tests.{le-ltb}
-use lib.ListN.{length}
-use Rattle.bus.specs.declared.Transaction.{Transaction}
 use Rattle.record.specs.declared.Event.{Event}
 use Rattle.record.specs.declared.Event.the-variants.{Image, Change, Transact}
 use Rattle.record.specs.declared.Taken.{Taken}
@@ -14,7 +12,6 @@ use Rattle.record.specs.declared.Taken.the-variants as taken
 use Rattle.record.specs.Record.{asksOf, fittedOf}
 use Rattle.record.proofs.Fits.{Taking, timed-taking}
 use Rattle.runs.specs.Record.{Rec, whole, cut}
-use Rattle.runs.specs.Run.{Did}
 use Rattle.runs.specs.declared.Session.{Session}
 use Rattle.runs.specs.AnyRecord.{Steps, answeredBy, recordBy}
 use Rattle.runs.specs.SessionRecord.{lastTick, ofSession, didOf}

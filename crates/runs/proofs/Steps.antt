@@ -6,7 +6,7 @@ use native.Mathlib.Omega.{arith}
 use lib.ListN.{length, length-append}
 use Rattle.runs.specs.Record.{Rec}
 use Rattle.runs.specs.Run.{Did, Line, lineOf, linesAfter, endAfter, repliesOf}
-use Rattle.runs.specs.Step.{Standing, stepOver, stepsOver, leftAfter, ranOver, StepByStep, ownRoom}
+use Rattle.runs.specs.Step.{stepsOver, leftAfter, StepByStep, ownRoom}
 
 module _ {S : Type 0} (did : S → ℕ → Rec → Did S) where
   -- what was left, less what the rest replied

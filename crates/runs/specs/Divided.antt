@@ -6,7 +6,7 @@ use Prim.Native.Nat.{ℕ, zero, suc, _*_, _≤_}
 use lib.ListN.{length, drop}
 use Rattle.numbers.specs.Choice.{pick}
 use Rattle.runs.specs.Record.{Rec, wholeOf, recOf, sizeOf, recsOf}
-use Rattle.runs.specs.Run.{Did, Line, linesAfter, endAfter}
+use Rattle.runs.specs.Run.{Did, linesAfter, endAfter}
 use Rattle.runs.specs.Step.{ownRoom}
 
 -- the whole records at the front of some bytes, so many at most

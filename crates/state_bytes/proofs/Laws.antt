@@ -2,12 +2,12 @@
 use mathlib.Core.Path.{_≡_, refl, sym, ap, _∙_}
 use mathlib.Core.Bool.{Bool, true, false}
 use mathlib.Core.List.{List, [], _∷_, _++_}
-use Prim.Native.Nat.{ℕ, zero, suc, _+_, _-_, _*_, _/_, _%_, _≤_, _<_}
+use Prim.Native.Nat.{ℕ, zero, suc, _+_, _-_, _/_, _%_, _<_}
 use native.Mathlib.Nat.{add-zero, zero-add, suc-add}
 use native.Mathlib.Omega.{arith}
 use lib.ListN.{length, getD, take, drop, length-append}
 use lib.Seq.{take-nil, take-at, drop-at, drop-drop, getD-take, getD-drop}
-use Rattle.slices.specs.Slices.{part, put, Stored, pairAt, quadAt}
+use Rattle.slices.specs.Slices.{part, put, Stored}
 use Rattle.slices.proofs.Laws.{put-next}
 use Rattle.state_bytes.specs.Layout.{Layout, number1, number2, number4, flag, flagByte, flagIn, bytes, _then_, Fields, formed}
 

@@ -1,13 +1,13 @@
 -- Out and in undo each other, of each struct and so of the state.
-use mathlib.Core.Path.{_≡_, refl, sym, ap, _∙_}
+use mathlib.Core.Path.{_≡_, refl, ap, _∙_}
 use mathlib.Core.Bool.{Bool, true, false}
-use mathlib.Core.List.{List, [], _∷_, _++_}
-use Prim.Native.Nat.{ℕ, suc, _+_, _*_, _%_, _^_, _≤_, _<_}
+use mathlib.Core.List.{List, _∷_}
+use Prim.Native.Nat.{ℕ, suc, _+_, _*_, _^_, _≤_}
 use native.Mathlib.Omega.{arith}
 use borrow.Author.Tests.{eq-eqb, ne-eqb, eqb-true, lt-ltb, ltb-true, le-leb, leb-true}
 use lib.Dec.{eqb, leb, ltb}
-use lib.ListN.{length, getD, take, drop}
-use lib.Seq.{take-all, take-at}
+use lib.ListN.{length, getD}
+use lib.Seq.{take-all}
 use Rattle.numbers.specs.Choice.{pick, both}
 use Rattle.numbers.proofs.Bounds.{both-true}
 use Rattle.slices.specs.Slices.{part}
@@ -15,24 +15,18 @@ use Rattle.slices.proofs.Laws.{part-length}
 use Rattle.bus.specs.Ask.{sameBytes}
 use Rattle.bus.proofs.Laws.{equal-same, same-equal}
 use Rattle.state.specs.declared.Average.{Average}
-use Rattle.state.specs.declared.Block.{Block}
 use Rattle.state.specs.declared.Cells.{Cells}
 use Rattle.state.specs.declared.Charge.{Charge}
 use Rattle.state.specs.declared.Common.{Common}
-use Rattle.state.specs.declared.Cycles.{Cycles}
-use Rattle.state.specs.declared.Label.{Label}
 use Rattle.state.specs.declared.Meter.{Meter}
 use Rattle.state.specs.declared.Profile.{Profile}
 use Rattle.state.specs.declared.Profile.the-variants.{Ds2781, Ds2775}
-use Rattle.state.specs.declared.Shown.{Shown}
 use Rattle.state.specs.State.{countsCycles, LabelSized, ChargeWF, AverageWF, MeterWF, runOf}
 use Rattle.block1.specs.Block1.{BlockSized}
-use Rattle.gauge.specs.declared.Gauge.{Gauge}
-use Rattle.gauge.specs.Gauge.{GaugeWF, Sized, NoCycles, Uncounted}
+use Rattle.gauge.specs.Gauge.{Sized, NoCycles}
 use Rattle.runs.specs.declared.Session.{Session}
-use Rattle.runs.specs.SessionRecord.{SessionWF}
 use Rattle.state_bytes.specs.declared.StateIn.{StateIn}
-use Rattle.state_bytes.specs.Layout.{Layout, bytes, _then_, formed}
+use Rattle.state_bytes.specs.Layout.{_then_}
 use Rattle.state_bytes.specs.State.{savedFields, profileFields, locksFields, chargeFields, cyclesFields, traceFields, sinceFields, averageFields}
 use Rattle.state_bytes.specs.State.{tickFields, flowFields, modelFields, resultsFields, readingFields, flagsFields, shownFields, blockFields}
 use Rattle.state_bytes.specs.State.{cellsFields, meterFields, labelFields, commonFields, gaugeFields, sessionFields}

@@ -1,12 +1,12 @@
 -- The state of a session as bytes: one layout for each struct of the state, in the order of `state`; and which bytes are a state.
 use mathlib.Core.Path.{_≡_}
-use mathlib.Core.Bool.{Bool, true, false}
-use mathlib.Core.List.{List, [], _∷_, _++_}
-use Prim.Native.Nat.{ℕ, _+_, _*_, _%_, _^_, _≤_}
+use mathlib.Core.Bool.{Bool, true}
+use mathlib.Core.List.{List, _∷_, _++_}
+use Prim.Native.Nat.{ℕ, _+_, _*_, _^_}
 use lib.Dec.{eqb, leb, ltb}
-use lib.ListN.{length, getD, drop}
+use lib.ListN.{length, getD}
 use Rattle.numbers.specs.Choice.{pick, both}
-use Rattle.slices.specs.Slices.{part, put}
+use Rattle.slices.specs.Slices.{put}
 use Rattle.bus.specs.Ask.{sameBytes}
 use Rattle.state.specs.declared.Average.{Average}
 use Rattle.state.specs.declared.Block.{Block}

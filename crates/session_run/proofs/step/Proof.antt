@@ -5,7 +5,7 @@ use native.Mathlib.Omega.{arith}
 use lib.Seq.{length-take-le}
 use denote.Ref.{now}
 use Rattle.slices.specs.Slices.{pairAt}
-use Rattle.runs.specs.Record.{Rec, cut, wholeOf}
+use Rattle.runs.specs.Record.{cut, wholeOf}
 use Rattle.runs.specs.Run.{silently}
 use Rattle.runs.specs.declared.Session.{Session}
 use Rattle.runs.specs.SessionRecord.{didOf}

@@ -1,5 +1,5 @@
 use mathlib.Core.Path.{refl, ap}
-use mathlib.Core.List.{List, [], _∷_}
+use mathlib.Core.List.{[], _∷_}
 use Prim.Native.Nat.{ℕ}
 use Rattle.state_bytes.proofs.Laws.{stored-then, stored-as}
 use borrow.Author.Needs.{needs}

@@ -1,12 +1,9 @@
-use mathlib.Core.Path.{_≡_, refl, sym, ap, _∙_}
-use mathlib.Core.Bool.{Bool}
-use lib.ListN.{length}
+use mathlib.Core.Path.{_≡_, sym, ap, _∙_}
 use denote.Ref.{now}
 use Rattle.numbers.specs.Choice.{both}
 use Rattle.numbers.proofs.Bounds.{both-true}
 use Rattle.bus.specs.Ask.{sameBytes}
 use Rattle.runs.specs.declared.Session.{Session}
-use Rattle.state_bytes.specs.declared.StateIn.{StateIn}
 use Rattle.state_bytes.specs.State.{soundMeter, stateBytes}
 use Rattle.state_bytes.proofs.Undoing.{told, in-length, in-version, in-state, in-none, sound-meter}
 use borrow.Author.Needs.{needs}
