@@ -198,8 +198,8 @@ class Writer:
             raise Slip(words.place(), "include what?", 'expected one file name in quotes, as include "packs.txt"')
         if depth >= lexer.MOST_INCLUDED:
             raise Slip(statement[0].place, f"files include each other {depth} deep", "a file may not include itself, by way of another one either")
-        name = statement[1].text.decode("utf-8", "replace")
-        if not name or not name.isprintable():
+        name = statement[1].text.decode("ascii", "replace")
+        if not name or not name.isascii() or not name.isprintable():
             raise Slip(statement[1].place, "no file has such a name", 'expected one file name in quotes, as include "packs.txt"')
         path = lexer.beside(statement[0].place.file, name)
         yield from self.pieces(path, self.opened(statement[1], path), depth + 1)

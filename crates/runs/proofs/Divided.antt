@@ -12,7 +12,7 @@ use Rattle.slices.specs.Slices.{pairAt}
 use Rattle.runs.specs.Record.{Rec, wholeOf, recOf, sizeOf, recsOf}
 use Rattle.runs.specs.Run.{Did, Line, linesAfter, endAfter}
 use Rattle.runs.specs.Step.{ownRoom}
-use Rattle.runs.specs.Divided.{wholesIn, leftIn, answeredIn, inputOf, Divided, CarriedOn}
+use Rattle.runs.specs.Divided.{wholesIn, leftOver, answeredIn, inputOf, Divided, CarriedOn}
 use Rattle.runs.proofs.Records.{whole-end, size-whole, recs-whole}
 use Rattle.runs.proofs.Steps.{step-by-step, own-lines, own-end}
 
@@ -25,21 +25,21 @@ first-whole l t w =
     ∙ ap recsOf (append-assoc (take (sizeOf l) l) (drop (sizeOf l) l) t)
     ∙ recs-whole l (drop (sizeOf l) l ++ t) w
 
-taken-first : (n : ℕ) (l t : List ℕ) → recsOf (l ++ t) ≡ wholesIn n l ++ recsOf (leftIn n l ++ t)
+taken-first : (n : ℕ) (l t : List ℕ) → recsOf (l ++ t) ≡ wholesIn n l ++ recsOf (leftOver n l ++ t)
 taken-first zero l t = refl
 taken-first (suc n) l t = by (wholeOf l) refl (taken-first n (drop (sizeOf l) l) t)
   where
     by : (b : Bool) → wholeOf l ≡ b
-        → recsOf (drop (sizeOf l) l ++ t) ≡ wholesIn n (drop (sizeOf l) l) ++ recsOf (leftIn n (drop (sizeOf l) l) ++ t)
+        → recsOf (drop (sizeOf l) l ++ t) ≡ wholesIn n (drop (sizeOf l) l) ++ recsOf (leftOver n (drop (sizeOf l) l) ++ t)
         → recsOf (l ++ t)
-        ≡ pick (wholeOf l) (recOf l ∷ wholesIn n (drop (sizeOf l) l)) [] ++ recsOf (pick (wholeOf l) (leftIn n (drop (sizeOf l) l)) l ++ t)
+        ≡ pick (wholeOf l) (recOf l ∷ wholesIn n (drop (sizeOf l) l)) [] ++ recsOf (pick (wholeOf l) (leftOver n (drop (sizeOf l) l)) l ++ t)
     by true w rest = rw w (first-whole l t w ∙ ap (λ (rs : List Rec). recOf l ∷ rs) rest)
     by false w rest = rw w refl
 
 read-by-read : (most : ℕ) (left : List ℕ) (reads : List (List ℕ)) → answeredIn most left reads ≡ recsOf (left ++ inputOf reads)
 read-by-read most left [] = ap recsOf (sym (append-nil left))
 read-by-read most left (read ∷ reads) =
-    ap (λ (rs : List Rec). wholesIn most (left ++ read) ++ rs) (read-by-read most (leftIn most (left ++ read)) reads)
+    ap (λ (rs : List Rec). wholesIn most (left ++ read) ++ rs) (read-by-read most (leftOver most (left ++ read)) reads)
     ∙ sym (taken-first most (left ++ read) (inputOf reads))
     ∙ ap recsOf (append-assoc left read (inputOf reads))
 
@@ -50,12 +50,12 @@ unfolding wholeOf
 short-cut l h = rw (lt-ltb (length l) 4 h) refl
 
 -- each record takes four bytes at least
-few-left : (n : ℕ) (l : List ℕ) → length l ≤ 4 * n + 3 → wholeOf (leftIn n l) ≡ false
+few-left : (n : ℕ) (l : List ℕ) → length l ≤ 4 * n + 3 → wholeOf (leftOver n l) ≡ false
 few-left zero l h = short-cut l (omega arith)
 few-left (suc n) l h = by (wholeOf l) refl (λ k. few-left n (drop (sizeOf l) l) k)
   where
-    by : (b : Bool) → wholeOf l ≡ b → (length (drop (sizeOf l) l) ≤ 4 * n + 3 → wholeOf (leftIn n (drop (sizeOf l) l)) ≡ false)
-        → wholeOf (pick (wholeOf l) (leftIn n (drop (sizeOf l) l)) l) ≡ false
+    by : (b : Bool) → wholeOf l ≡ b → (length (drop (sizeOf l) l) ≤ 4 * n + 3 → wholeOf (leftOver n (drop (sizeOf l) l)) ≡ false)
+        → wholeOf (pick (wholeOf l) (leftOver n (drop (sizeOf l) l)) l) ≡ false
     by true w rest =
         let size = size-whole l (pairAt l 0) (pairAt l 2) w refl refl in
         rw w (rest (omega (arith, length-drop (sizeOf l) l, size)))
@@ -89,7 +89,7 @@ module _ (left read : List ℕ) (cut : wholeOf left ≡ false) (w : wholeOf (lef
           absurd (not-within four (omega (arith, size, same-length four)))
       by false e = leb-false (sizeOf joint) (length left) e
 
-completed : (most : ℕ) (left read : List ℕ) → wholeOf left ≡ false → length read ≤ 4 * most → wholeOf (leftIn most (left ++ read)) ≡ false
+completed : (most : ℕ) (left read : List ℕ) → wholeOf left ≡ false → length read ≤ 4 * most → wholeOf (leftOver most (left ++ read)) ≡ false
 completed zero left read cut h = by (wholeOf (left ++ read)) refl
   where
     by : (b : Bool) → wholeOf (left ++ read) ≡ b → wholeOf (left ++ read) ≡ false
@@ -101,7 +101,7 @@ completed zero left read cut h = by (wholeOf (left ++ read)) refl
 completed (suc n) left read cut h = by (wholeOf (left ++ read)) refl
   where
     by : (b : Bool) → wholeOf (left ++ read) ≡ b
-        → wholeOf (pick (wholeOf (left ++ read)) (leftIn n (drop (sizeOf (left ++ read)) (left ++ read))) (left ++ read)) ≡ false
+        → wholeOf (pick (wholeOf (left ++ read)) (leftOver n (drop (sizeOf (left ++ read)) (left ++ read))) (left ++ read)) ≡ false
     by true w =
         let behind = ends-behind left read cut w in
         let rest = length-drop (sizeOf (left ++ read)) (left ++ read) in

@@ -15,14 +15,14 @@ wholesIn zero l = []
 wholesIn (suc n) l = pick (wholeOf l) (recOf l ∷ wholesIn n (drop (sizeOf l) l)) []
 
 -- what is left behind them
-abbrev pub leftIn : ℕ → List ℕ → List ℕ
-leftIn zero l = l
-leftIn (suc n) l = pick (wholeOf l) (leftIn n (drop (sizeOf l) l)) l
+abbrev pub leftOver : ℕ → List ℕ → List ℕ
+leftOver zero l = l
+leftOver (suc n) l = pick (wholeOf l) (leftOver n (drop (sizeOf l) l)) l
 
 -- the records that are answered, read by read: each read joins what was left before it; at the end of input what is left is answered
 abbrev pub answeredIn : ℕ → List ℕ → List (List ℕ) → List Rec
 answeredIn most left [] = recsOf left
-answeredIn most left (read ∷ reads) = wholesIn most (left ++ read) ++ answeredIn most (leftIn most (left ++ read)) reads
+answeredIn most left (read ∷ reads) = wholesIn most (left ++ read) ++ answeredIn most (leftOver most (left ++ read)) reads
 
 -- the whole input
 abbrev pub inputOf : List (List ℕ) → List ℕ
@@ -33,7 +33,7 @@ pub record Divided : Type 0 where
   -- over any division of the input into reads, the records are those of the whole
   pub records : (most : ℕ) (reads : List (List ℕ)) → answeredIn most [] reads ≡ recsOf (inputOf reads)
   -- and each read has all whole records answered that it completes, where it has at most four bytes for each of them
-  pub completed : (most : ℕ) (left read : List ℕ) → wholeOf left ≡ false → length read ≤ 4 * most → wholeOf (leftIn most (left ++ read)) ≡ false
+  pub completed : (most : ℕ) (left read : List ℕ) → wholeOf left ≡ false → length read ≤ 4 * most → wholeOf (leftOver most (left ++ read)) ≡ false
 
 -- records with a reply room of their own, stopped anywhere and carried on: the lines and the end of one run
 pub record CarriedOn {S : Type 0} (did : S → ℕ → Rec → Did S) (own : ℕ) : Type 0 where
