@@ -6,6 +6,7 @@ use Rattle.gauge.proofs.Gauge.sample
 use Rattle.gauge.proofs.Gauge.read
 use Rattle.gauge.proofs.Gauge.power_on
 use Rattle.gauge.proofs.Gauge.transact
+use Rattle.gauge.proofs.can_change
 use Rattle.gauge.proofs.image_in
 use Rattle.gauge.proofs.image_out
 
@@ -20,6 +21,9 @@ read-once κs a r r′ w w′ p h h′ = (h .0 ∙ sym (h′ .0), refl)
 
 pub power-on-once : Once power_on.ended power_on.Reads.Pre power_on.Reads.Learnt
 power-on-once κs a r r′ w w′ p h h′ = (h .0 ∙ sym (h′ .0), refl)
+
+pub can-change-once : Once can_change.ended can_change.Reads.Pre can_change.Reads.Learnt
+can-change-once κs a r r′ w w′ p h h′ = (h ∙ sym h′, refl)
 
 pub transact-once : Once transact.ended transact.Reads.Pre transact.Reads.Learnt
 transact-once κs a r r′ w w′ p h h′ = (h .0 ∙ sym (h′ .0), λ i. (tt, (tt, (tt, ((h .1 .0 ∙ sym (h′ .1 .0)) i, tt)))))

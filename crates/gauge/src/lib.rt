@@ -85,7 +85,7 @@ impl Gauge {
 // ---- what a transaction does
 
 // Whether a command can change a gauge: where it cannot, the gauge is not handed on, which would copy it.
-fn changes(command: Command) -> bool
+pub fn can_change(command: Command) -> bool
     ensures { λ r. ⌜ r ≡ canChange command ⌝ }
 {
     match command {
@@ -192,7 +192,7 @@ impl Gauge {
             room,
         );
         let command = transaction.command;
-        if numbers::and(chosen, changes(command)) {
+        if numbers::and(chosen, can_change(command)) {
             self = self.ran(transaction, master);
         }
         self

@@ -52,6 +52,11 @@ within (x ∷ l) (suc i) d e h = within l i d e (omega arith)
 
 -- ---- a pack that is stored
 
+pub set-itself : {A : Type 0} (l : List A) (i : ℕ) (d : A) → i < length l → set l i (getD l i d) ≡ l
+set-itself [] i d h = absurd (omega arith)
+set-itself (x ∷ l) zero d h = refl
+set-itself {A} (x ∷ l) (suc i) d h = ap (λ (r : List A). x ∷ r) (set-itself l i d (omega arith))
+
 -- what holds of each and of the new one holds of each afterwards
 pub set-each : {A : Type 0} (P : A → Type 0) (d : A) (l : List A) (i : ℕ) (x : A) → P x → ((j : ℕ) → P (getD l j d)) → (j : ℕ) →
     P (getD (set l i x) j d)

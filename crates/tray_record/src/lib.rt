@@ -14,9 +14,11 @@ use state::Meter;
 use state::Profile;
 use state::Tick;
 ghost use mathlib.Core.Path.{_≡_};
+ghost use mathlib.Core.Bool.{true};
 ghost use mathlib.Core.List.{_++_};
 ghost use Prim.Native.Nat.{_≤_, _<_};
 ghost use lib.ListN.{length, drop};
+ghost use Rattle.replies.specs.Reply.{selectedOf};
 ghost use Rattle.gauge.specs.Gauge.{GaugeWF};
 ghost use Rattle.gauge.specs.Act.{actOf, replyOf};
 ghost use Rattle.record.specs.Record.{fittedOf};
@@ -324,11 +326,12 @@ fn hearers(rom: Rom, count: u8) -> u8
     }
 }
 
-// It goes to one pack alone.
+// It goes to one pack alone, which it selects. Where its command cannot change the pack, this only answers, and the tray stays as it is.
 fn one(mut tray: Tray, slot: u8, transaction: Transaction, master: &[u8], room: &mut [u8]) -> Tray
     requires { ⌜ TrayWF tray ⌝ }
     requires { ⌜ slot < 8 ⌝ }
     requires { ⌜ transaction .count ≤ length (now room) ⌝ }
+    requires { ⌜ selectedOf (packOf tray slot .common .address) transaction (now master) ≡ true ⌝ }
     ensures { λ r. ⌜ r ≡ actedAt transaction (now (master .entry)) tray slot tray ⌝ }
     ensures replied { λ r. ⌜ now (room .exit)
         ≡ replyOf (packOf tray slot) transaction (now (master .entry)) ++ drop (transaction .count) (now (room .entry)) ⌝ }
@@ -338,18 +341,23 @@ fn one(mut tray: Tray, slot: u8, transaction: Transaction, master: &[u8], room: 
     let old_common = tray.commons[i];
     let old_label = tray.labels[i];
     let old_meter = tray.meters[i];
-    let gauge = Gauge {
-        common: old_common,
-        label: old_label,
-        meter: old_meter,
-    };
-    let after = gauge.transact(transaction, master, room);
-    let common = after.common;
-    let label = after.label;
-    let meter = after.meter;
-    tray.commons[i] = common;
-    tray.labels[i] = label;
-    tray.meters[i] = meter;
+    let command = transaction.command;
+    if gauge::can_change(command) {
+        let gauge = Gauge {
+            common: old_common,
+            label: old_label,
+            meter: old_meter,
+        };
+        let after = gauge.transact(transaction, master, room);
+        let common = after.common;
+        let label = after.label;
+        let meter = after.meter;
+        tray.commons[i] = common;
+        tray.labels[i] = label;
+        tray.meters[i] = meter;
+        return tray;
+    }
+    replies::replied(old_common, old_label, old_meter, transaction, true, room);
     tray
 }
 

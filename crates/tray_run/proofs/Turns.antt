@@ -1,8 +1,8 @@
 -- What the arms of the match leave of a tray, and of the room.
 use mathlib.Core.Path.{_≡_, refl, sym, ap, subst, _∙_}
 use mathlib.Core.Bool.{true}
-use mathlib.Core.List.{List, [], _∷_, _++_}
-use Prim.Native.Nat.{ℕ, zero, suc, _+_, _-_, _≤_, _<_}
+use mathlib.Core.List.{List, _++_}
+use Prim.Native.Nat.{ℕ, _+_, _-_, _≤_, _<_}
 use native.Mathlib.Omega.{arith}
 use lib.ListN.{length, getD, set, take, drop, length-set}
 use Rattle.slices.specs.Slices.{part, pairAt}
@@ -38,7 +38,7 @@ use Rattle.runs.proofs.Turns.{master-part}
 use Rattle.tray_record.specs.declared.Tray.{Tray}
 use Rattle.tray_record.specs.Tray.{noGauge, packOf, storedOf, closedOf, packJoined, slotIn, againOf, namedSlot}
 use Rattle.tray_record.specs.Tray.{trayReach, trayActed, trayReply, ofTray, trayDid, TrayWF}
-use Rattle.tray_record.proofs.Laws.{within, set-each}
+use Rattle.tray_record.proofs.Laws.{within, set-itself, set-each}
 use Rattle.tray_record.proofs.Hearing.{tray-replying}
 use Rattle.tray_record.proofs.Fronts.{named-slot}
 use Rattle.tray_record.proofs.Taking.{TrayTaking, tray-taking}
@@ -73,11 +73,6 @@ slot-named : {τ : Tray} {room : ℕ} {l : List ℕ} {used : ℕ} {c : Changes} 
 slot-named {l = l} {used} w x e = e ∙ named-slot (used - 4) l (ran-taking x .0) (slot-inside w x)
 
 -- ---- what a slot's event leaves
-
-set-itself : {A : Type 0} (l : List A) (i : ℕ) (d : A) → i < length l → set l i (getD l i d) ≡ l
-set-itself [] i d h = absurd (omega arith)
-set-itself (x ∷ l) zero d h = refl
-set-itself {A} (x ∷ l) (suc i) d h = ap (λ (r : List A). x ∷ r) (set-itself l i d (omega arith))
 
 -- another label and meter in a slot
 abbrev pub partsAt : Tray → ℕ → Label → Meter → Tray

@@ -7,6 +7,7 @@ use denote.Ref.{now}
 use Rattle.tray_record.specs.declared.Found.the-variants.{At, Nowhere}
 use Rattle.tray_record.specs.Tray.{Reach, actedFirst, wiredFirst, trayActed, trayReply}
 use Rattle.tray_record.proofs.Laws.{aimed-below, goes}
+use Rattle.tray_record.proofs.Chosen.{found-selected}
 use borrow.Author.Needs.{needs}
 use Rattle.tray_record.proofs.transacted.Statement.{statement}
 use Rattle.tray_record.proofs.transacted.Tie as tie
@@ -57,16 +58,12 @@ slice-known2→start c = aimed→start (slice-known2→aimed c)
 one-requires : tie.Need-one-requires
 one-requires c κs =
     let start = one-arg→start c in
-    let a = start .args in (
+    let a = start .args in
+    let aims = sym (one-arg→aimed c .aimed .ensures) ∙ one-arg→found c .found .given .1 in (
       start .pre .0,
       (
-        omega (
-          arith,
-          start .pre .0 .few,
-          aimed-below (a .transaction .rom) (a .tray .commons) (a .tray .count) (now (a .master))
-              (sym (one-arg→aimed c .aimed .ensures) ∙ one-arg→found c .found .given .1),
-        ),
-        start .pre .1 .1,
+        omega (arith, start .pre .0 .few, aimed-below (a .transaction .rom) (a .tray .commons) (a .tray .count) (now (a .master)) aims),
+        (start .pre .1 .1, found-selected (a .transaction) (now (a .master)) (a .tray) aims),
       ),
     )
 

@@ -60,7 +60,7 @@ returns-2 c =
     let selected = reply .before .before in
     let start = selected .before .before .before .before in
     let g = start .args .self in (
-      stays g _ _ ((λ i. both (sym (selected .selected .ensures) i) (sym (c2 .changes .ensures) i)) ∙ sym (c1 .and .ensures) ∙ c .if1 .left),
+      stays g _ _ ((λ i. both (sym (selected .selected .ensures) i) (sym (c2 .can-change .ensures) i)) ∙ sym (c1 .and .ensures) ∙ c .if1 .left),
       (
         replied g _ _ _ _ _ (selected .selected .ensures) (reply .replied .ensures),
         start .pre .0,
