@@ -61,7 +61,7 @@ def columns(head: "list[str]", place: Place, wanted: "dict[str, str]") -> "dict[
             raise Slip(place, f"no column is called {name}", f"the columns are {', '.join(head)}; {nearest(name, [h.strip().lower() for h in head])}")
     for measure in ("time", "current"):
         if measure not in found:
-            raise Slip(place, f"no column is the {measure}", f"call it {measure}, or name it: --{measure} NAME. The columns are {', '.join(head)}")
+            raise Slip(place, f"no column is the {measure}", f"call it {measure}, or name it: --{measure}=NAME. The columns are {', '.join(head)}")
     return found
 
 
@@ -86,6 +86,8 @@ class Logger:
                     found = columns(cells, place, self.wanted)
                 else:
                     yield self.row(cells, place, found)
+            if found is None:
+                raise Slip(Place(file, 1, 1, ""), "the file is empty", "expected a head with the names of the columns, as time,current")
         except csv.Error as fault:
             raise Slip(Place(file, taken.line_num, 1, ""), f"this is no CSV: {fault}", "expected rows of cells with commas between them, RFC 4180") from fault
 
