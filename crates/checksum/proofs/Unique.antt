@@ -2,7 +2,7 @@
 use mathlib.Core.Path.{refl, sym, _∙_}
 use lib.ListN.{drop}
 use denote.Ref.{now}
-use Rattle.once.specs.Once.{Once}
+use Rattle.numbers.specs.Once.{Once}
 use Rattle.streams.proofs.Laws.{own, same-said, same-room}
 use Rattle.checksum.specs.Sums.{sumsText}
 use Rattle.checksum.proofs.Laws.{front-line}

@@ -1,6 +1,6 @@
 -- The contracts of this crate's public functions leave no choice.
 use mathlib.Core.Path.{refl, sym, _∙_}
-use Rattle.once.specs.Once.{Once}
+use Rattle.numbers.specs.Once.{Once}
 use Rattle.digits.proofs.put_byte
 use Rattle.digits.proofs.put_bytes
 use Rattle.digits.proofs.lower_pairs

@@ -1,6 +1,6 @@
 -- The contracts of this crate's public functions leave no choice.
 use mathlib.Core.Path.{refl, sym, _∙_, _≡_}
-use Rattle.once.specs.Once.{Once}
+use Rattle.numbers.specs.Once.{Once}
 use Rattle.hex.proofs.fault_number
 use Rattle.hex.proofs.data_record
 use Rattle.hex.proofs.put_line

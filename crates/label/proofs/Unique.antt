@@ -1,6 +1,6 @@
 -- The contracts of this crate's functions leave no choice.
 use mathlib.Core.Path.{refl, sym, _∙_}
-use Rattle.once.specs.Once.{Once}
+use Rattle.numbers.specs.Once.{Once}
 use Rattle.label.proofs.in_label
 use Rattle.label.proofs.in_block
 use Rattle.label.proofs.written as label_written

@@ -1,6 +1,6 @@
 -- The contracts of this crate's public functions leave no choice.
 use mathlib.Core.Path.{refl, sym, _∙_}
-use Rattle.once.specs.Once.{Once}
+use Rattle.numbers.specs.Once.{Once}
 use Rattle.params.proofs.rnaop
 use Rattle.params.proofs.Counting.of as counting
 use Rattle.params.proofs.Limits.of as limits

@@ -1,6 +1,6 @@
 -- The contracts of this program's functions leave no choice.
 use denote.Ref.{now}
-use Rattle.once.specs.Once.{Once}
+use Rattle.numbers.specs.Once.{Once}
 use Rattle.streams.proofs.Laws.{own, same-said, same-room}
 use Rattle.preset.proofs.put_judged
 use Rattle.preset.proofs.put_why

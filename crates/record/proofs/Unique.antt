@@ -1,6 +1,6 @@
 -- The contracts of this crate's public functions leave no choice.
 use mathlib.Core.Path.{refl, sym, _∙_}
-use Rattle.once.specs.Once.{Once}
+use Rattle.numbers.specs.Once.{Once}
 use Rattle.record.proofs.taken_number
 use Rattle.record.proofs.judged
 use Rattle.record.proofs.«fitted_by»

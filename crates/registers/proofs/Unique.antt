@@ -1,6 +1,6 @@
 -- The contracts of this crate's functions leave no choice.
 use mathlib.Core.Path.{refl, sym, _∙_}
-use Rattle.once.specs.Once.{Once}
+use Rattle.numbers.specs.Once.{Once}
 use Rattle.registers.proofs.register
 use Rattle.registers.proofs.registers
 

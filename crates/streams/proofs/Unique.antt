@@ -1,6 +1,6 @@
 -- The contracts of this crate's public functions leave no choice, but for `read_input` and `read_named`, which tell what comes from outside.
 use mathlib.Core.Path.{refl, sym, _∙_}
-use Rattle.once.specs.Once.{Once}
+use Rattle.numbers.specs.Once.{Once}
 use Rattle.streams.proofs.Laws.{same-said, same-room}
 use Rattle.streams.proofs.within
 use Rattle.streams.proofs.put_unread

@@ -1,6 +1,6 @@
 -- The contracts of this crate's public functions leave no choice.
 use mathlib.Core.Path.{sym, _∙_}
-use Rattle.once.specs.Once.{Once}
+use Rattle.numbers.specs.Once.{Once}
 use Rattle.streams.proofs.Laws.{same-said, same-room}
 use Rattle.text.proofs.put_fields
 use Rattle.text.proofs.put_done

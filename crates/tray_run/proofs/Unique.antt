@@ -2,7 +2,7 @@
 use mathlib.Core.Path.{refl, sym, ap, _∙_}
 use lib.ListN.{length}
 use denote.Ref.{now}
-use Rattle.once.specs.Once.{Once}
+use Rattle.numbers.specs.Once.{Once}
 use Rattle.runs.specs.Run.{Result, outcomeOf}
 use Rattle.runs.proofs.Ends.{runs-same}
 use Rattle.tray_record.specs.declared.Tray.{Tray}
