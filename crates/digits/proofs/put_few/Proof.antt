@@ -20,8 +20,23 @@ abbrev μ-loop : tie.MeasureT-loop
 abbrev slice-known→start : tie.After-slice-known Inv-loop μ-loop → tie.Start Inv-loop μ-loop
 slice-known→start c = c .before .before
 
+abbrev after-loop→loop : tie.After-loop Inv-loop μ-loop → tie.At-loop Inv-loop μ-loop
+after-loop→loop c = c .before
+
+abbrev in-loop→loop : tie.In-loop Inv-loop μ-loop → tie.At-loop Inv-loop μ-loop
+in-loop→loop c = c .before
+
+abbrev in-loop→start : tie.In-loop Inv-loop μ-loop → tie.Start Inv-loop μ-loop
+in-loop→start c = slice-known→start (in-loop→loop c .before)
+
+abbrev put-entry-arg→in-loop : tie.After-put-entry-arg Inv-loop μ-loop → tie.In-loop Inv-loop μ-loop
+put-entry-arg→in-loop c = c .before .before
+
 abbrev put-entry-arg→loop : tie.After-put-entry-arg Inv-loop μ-loop → tie.At-loop Inv-loop μ-loop
-put-entry-arg→loop c = c .before .before .before
+put-entry-arg→loop c = in-loop→loop (put-entry-arg→in-loop c)
+
+abbrev put-entry→in-loop : tie.After-put-entry Inv-loop μ-loop → tie.In-loop Inv-loop μ-loop
+put-entry→in-loop c = put-entry-arg→in-loop (c .before)
 
 loop-holds : tie.Need-loop-holds Inv-loop μ-loop
 loop-holds c = (omega arith, none (now (slice-known→start c .args .out)) (slice-known→start c .args .at))
@@ -32,19 +47,19 @@ put-entry-requires c κs = omega (arith, kept (put-entry-arg→loop c .loop .inv
 loop-again : tie.Need-loop-again Inv-loop μ-loop
 loop-again c =
     let at-put-entry = c .before .before in
-    let at-in-loop = at-put-entry .before .before .before in
+    let at-in-loop = put-entry→in-loop at-put-entry in
     let turn = at-in-loop in
     let entry = at-put-entry .put-entry .ensures in (
       omega arith,
-      hex-then lower _ _ (turn .loop-test .taken) (turn .before .loop .inv .1)
-          (rw (turn .before .before .before .before .pre .0, paired _ (entry .1)) at (entry .0)),
+      hex-then lower _ _ (turn .loop-test .taken) (in-loop→loop turn .loop .inv .1)
+          (rw (in-loop→start turn .pre .0, paired _ (entry .1)) at (entry .0)),
     )
 
 same-length : tie.Need-same-length Inv-loop μ-loop
-same-length c = kept (c .before .loop .inv .1)
+same-length c = kept (after-loop→loop c .loop .inv .1)
 
 returns : tie.Need-returns Inv-loop μ-loop
-returns c = hex-all lower _ _ (c .loop-test .left) (c .before .loop .inv .0) (c .before .loop .inv .1)
+returns c = hex-all lower _ _ (c .loop-test .left) (after-loop→loop c .loop .inv .0) (after-loop→loop c .loop .inv .1)
 
 pub put-few-spec : {M : Type 1} → statement M
 put-few-spec =

@@ -15,36 +15,36 @@ use Rattle.digits.proofs.put_hex.Tie as tie
 abbrev else1→start : tie.Else1 → tie.Start
 else1→start c = c .before .before .before
 
+abbrev put-many-arg→start : tie.After-put-many-arg → tie.Start
+put-many-arg→start c = else1→start (c .before)
+
 abbrev put-many-arg2→start : tie.After-put-many-arg2 → tie.Start
-put-many-arg2→start c = else1→start (c .before .before)
+put-many-arg2→start c = put-many-arg→start (c .before)
 
 abbrev put-many→start : tie.After-put-many → tie.Start
 put-many→start c = put-many-arg2→start (c .before)
 
-abbrev put-few-arg2→put-many : tie.After-put-few-arg2 → tie.After-put-many
-put-few-arg2→put-many c = c .before .before .before
+abbrev put-few-arg3→out2 : tie.After-put-few-arg3 → tie.After-out2
+put-few-arg3→out2 c = c .before .before .before
 
-abbrev put-few-arg2→start : tie.After-put-few-arg2 → tie.Start
-put-few-arg2→start c = put-many→start (c .before .before .before)
+abbrev put-few-arg3→put-many : tie.After-put-few-arg3 → tie.After-put-many
+put-few-arg3→put-many c = put-few-arg3→out2 c .before
 
 abbrev put-few-arg3→start : tie.After-put-few-arg3 → tie.Start
-put-few-arg3→start c = put-few-arg2→start (c .before)
-
-abbrev put-few2→put-many : tie.After-put-few2 → tie.After-put-many
-put-few2→put-many c = put-few-arg2→put-many (c .before .before)
+put-few-arg3→start c = put-many→start (put-few-arg3→put-many c)
 
 abbrev slice-known4→put-few2 : tie.After-slice-known4 → tie.After-put-few2
 slice-known4→put-few2 c = c .before .before
 
 abbrev slice-known4→put-many : tie.After-slice-known4 → tie.After-put-many
-slice-known4→put-many c = put-few2→put-many (slice-known4→put-few2 c)
+slice-known4→put-many c = put-few-arg3→put-many (slice-known4→put-few2 c .before)
 
 abbrev slice-known4→start : tie.After-slice-known4 → tie.Start
 slice-known4→start c = put-many→start (slice-known4→put-many c)
 
 slice-aggregate-put-many : tie.Need-slice-aggregate-put-many
 slice-aggregate-put-many c =
-    let bytes = now (c .before .before .before .before .args .bytes) in
+    let bytes = now (put-many-arg→start c .args .bytes) in
     sym (length-take-le (length bytes / 8 * 8) bytes (omega arith))
 
 put-many-requires : tie.Need-put-many-requires
@@ -54,7 +54,7 @@ put-many-requires c κs =
 
 put-few-requires-2 : tie.Need-put-few-requires-2
 put-few-requires-2 c κs =
-    let many = c .before .before .before .before .put-many .ensures in
+    let many = put-few-arg3→put-many c .put-many .ensures in
     let bytes = now (put-few-arg3→start c .args .bytes) in
     let eights = length bytes / 8 * 8 in (
       put-few-arg3→start c .pre .0,

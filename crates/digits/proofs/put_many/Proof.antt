@@ -19,14 +19,20 @@ abbrev μ-loop : tie.MeasureT-loop
 abbrev slice-known→start : tie.After-slice-known Inv-loop μ-loop → tie.Start Inv-loop μ-loop
 slice-known→start c = c .before .before
 
+abbrev after-loop→loop : tie.After-loop Inv-loop μ-loop → tie.At-loop Inv-loop μ-loop
+after-loop→loop c = c .before
+
+abbrev put-pair-arg→in-loop : tie.After-put-pair-arg Inv-loop μ-loop → tie.In-loop Inv-loop μ-loop
+put-pair-arg→in-loop c = c .before .before
+
 abbrev put-pair-arg→loop : tie.After-put-pair-arg Inv-loop μ-loop → tie.At-loop Inv-loop μ-loop
-put-pair-arg→loop c = c .before .before .before
+put-pair-arg→loop c = put-pair-arg→in-loop c .before
 
 abbrev slice-known2→put-pair : tie.After-slice-known2 Inv-loop μ-loop → tie.After-put-pair Inv-loop μ-loop
 slice-known2→put-pair c = c .before .before
 
 abbrev slice-known2→in-loop : tie.After-slice-known2 Inv-loop μ-loop → tie.In-loop Inv-loop μ-loop
-slice-known2→in-loop c = slice-known2→put-pair c .before .before .before
+slice-known2→in-loop c = put-pair-arg→in-loop (slice-known2→put-pair c .before)
 
 loop-holds : tie.Need-loop-holds Inv-loop μ-loop
 loop-holds c = (omega arith, none (now (slice-known→start c .args .out)) (slice-known→start c .args .at))
@@ -42,10 +48,10 @@ loop-again c =
     )
 
 same-length : tie.Need-same-length Inv-loop μ-loop
-same-length c = kept (c .before .loop .inv .1)
+same-length c = kept (after-loop→loop c .loop .inv .1)
 
 returns : tie.Need-returns Inv-loop μ-loop
-returns c = hex-all lower _ _ (c .loop-test .left) (c .before .loop .inv .0) (c .before .loop .inv .1)
+returns c = hex-all lower _ _ (c .loop-test .left) (after-loop→loop c .loop .inv .0) (after-loop→loop c .loop .inv .1)
 
 pub put-many-spec : {M : Type 1} → statement M
 put-many-spec =

@@ -10,45 +10,68 @@ use Rattle.digits.proofs.put_places.Statement.{statement}
 use Rattle.digits.proofs.put_places.Tie as tie
 
 -- places: `a→b` leads from the record of the place a back to that of the place b
-abbrev else1→start : tie.Else1 → tie.Start
-else1→start c = c .before .before .before
+abbrev all→start : tie.After-all → tie.Start
+all→start c = c .before .before
 
-abbrev put-bytes-arg3→start : tie.After-put-bytes-arg3 → tie.Start
-put-bytes-arg3→start c = else1→start (c .before .before .before)
+abbrev else1→start : tie.Else1 → tie.Start
+else1→start c = all→start (c .before)
+
+abbrev then2→start : tie.Then2 → tie.Start
+then2→start c = else1→start (c .before)
+
+abbrev put-bytes→start : tie.After-put-bytes → tie.Start
+put-bytes→start c = all→start (c .before .before .before)
+
+abbrev put-bytes2→then2 : tie.After-put-bytes2 → tie.Then2
+put-bytes2→then2 c = c .before .before .before
 
 abbrev put-bytes2→start : tie.After-put-bytes2 → tie.Start
-put-bytes2→start c = put-bytes-arg3→start (c .before)
+put-bytes2→start c = then2→start (put-bytes2→then2 c)
+
+abbrev put-bytes3→then3 : tie.After-put-bytes3 → tie.Then3
+put-bytes3→then3 c = c .before .before .before
+
+abbrev put-bytes3→start : tie.After-put-bytes3 → tie.Start
+put-bytes3→start c = else1→start (put-bytes3→then3 c .before .before)
+
+abbrev put-bytes4→then4 : tie.After-put-bytes4 → tie.Then4
+put-bytes4→then4 c = c .before .before .before
+
+abbrev put-bytes4→start : tie.After-put-bytes4 → tie.Start
+put-bytes4→start c = else1→start (put-bytes4→then4 c .before .before .before)
+
+abbrev put-bytes5→else4 : tie.After-put-bytes5 → tie.Else4
+put-bytes5→else4 c = c .before .before .before
+
+abbrev put-bytes5→start : tie.After-put-bytes5 → tie.Start
+put-bytes5→start c = else1→start (put-bytes5→else4 c .before .before .before)
 
 returns : tie.Need-returns
 unfolding decimalText
 returns c =
     let at-put-bytes = c .before .before in
-    let at-all = at-put-bytes .before .before .before in
-    let at-start = at-all .before .before in
+    let at-start = put-bytes→start at-put-bytes in
     let n = at-start .args .n in
     rw (shown n 10000 (omega arith), shown n 1000 (omega arith), shown n 100 (omega arith), shown n 10 (omega arith))
     (wider (rw (at-start .pre .0) at (at-put-bytes .put-bytes .ensures)) (omega arith))
 
 -- the second arm is for numbers that reach the thousands
-reaches : (c : tie.Then2) → 1000 ≤ c .before .before .before .before .args .n
+reaches : (c : tie.Then2) → 1000 ≤ then2→start c .args .n
 reaches c = omega (arith, c .if2 .taken)
 
 -- it gives the last four digits
 four : (c : tie.After-put-bytes2) → let a = put-bytes2→start c .args in
     Writing 4 (drop 1 (placesOf (a .n))) (now (a .out)) (a .at) (c .put-bytes2 .result) (c .put-bytes2 .last .1 .0)
 four c =
-    let at-then2 = c .before .before .before in
-    let at-slice-known = at-then2 .before .before .before in
-    let at-start = at-slice-known .before in
+    let at-start = put-bytes2→start c in
     rw (at-start .pre .0) at (c .put-bytes2 .ensures)
 
 returns-2 : tie.Need-returns-2
 unfolding decimalText
 returns-2 c =
     let at-put-bytes2 = c .before .before in
-    let at-then2 = at-put-bytes2 .before .before .before in
-    let at-slice-known = at-then2 .before .before .before in
-    let at-start = at-slice-known .before in
+    let at-then2 = put-bytes2→then2 at-put-bytes2 in
+    let at-start = then2→start at-then2 in
     let n = at-start .args .n in
     rw (left-out n 10000 (omega arith), shown n 1000 (reaches at-then2), shown n 100 (omega arith), shown n 10 (omega arith))
     (wider (four at-put-bytes2) (omega arith))
@@ -57,9 +80,7 @@ returns-3 : tie.Need-returns-3
 unfolding decimalText
 returns-3 c =
     let at-put-bytes3 = c .before .before in
-    let at-then3 = at-put-bytes3 .before .before .before in
-    let at-all = at-then3 .before .before .before in
-    let at-start = at-all .before .before in
+    let at-start = put-bytes3→start at-put-bytes3 in
     let n = at-start .args .n in
     rw (left-out n 10000 (omega arith), left-out n 1000 (omega arith), shown n 100 (omega arith), shown n 10 (omega arith))
     (wider (rw (at-start .pre .0) at (at-put-bytes3 .put-bytes3 .ensures)) (omega arith))
@@ -68,9 +89,7 @@ returns-4 : tie.Need-returns-4
 unfolding decimalText
 returns-4 c =
     let at-put-bytes4 = c .before .before in
-    let at-then4 = at-put-bytes4 .before .before .before in
-    let at-else1 = at-then4 .before .before .before in
-    let at-start = at-else1 .before .before .before in
+    let at-start = put-bytes4→start at-put-bytes4 in
     let n = at-start .args .n in
     rw (left-out n 10000 (omega arith), left-out n 1000 (omega arith), left-out n 100 (omega arith), shown n 10 (omega arith))
     (wider (rw (at-start .pre .0) at (at-put-bytes4 .put-bytes4 .ensures)) (omega arith))
@@ -79,9 +98,7 @@ returns-5 : tie.Need-returns-5
 unfolding decimalText
 returns-5 c =
     let at-put-bytes5 = c .before .before in
-    let at-else4 = at-put-bytes5 .before .before .before in
-    let at-else1 = at-else4 .before .before .before in
-    let at-start = at-else1 .before .before .before in
+    let at-start = put-bytes5→start at-put-bytes5 in
     let n = at-start .args .n in
     rw (left-out n 10000 (omega arith), left-out n 1000 (omega arith), left-out n 100 (omega arith), left-out n 10 (omega arith))
     (wider (rw (at-start .pre .0) at (at-put-bytes5 .put-bytes5 .ensures)) (omega arith))
