@@ -9,54 +9,96 @@ use borrow.Author.Needs.{needs}
 use Rattle.registers.proofs.registers.Statement.{statement}
 use Rattle.registers.proofs.registers.Tie as tie
 
--- places: `a→b` leads from the record of the place a back to that of the place b
+-- places: `a→b` leads from the record of the place a back to that of the place b, a register earlier or at the start
 abbrev put→start : tie.After-put → tie.Start
 put→start c = c .before .before .before
 
+abbrev put2→put : tie.After-put2 → tie.After-put
+put2→put c = c .before .before .before
+
+abbrev put3→put2 : tie.After-put3 → tie.After-put2
+put3→put2 c = c .before .before .before
+
+abbrev put4→put3 : tie.After-put4 → tie.After-put3
+put4→put3 c = c .before .before .before
+
+abbrev put5→put4 : tie.After-put5 → tie.After-put4
+put5→put4 c = c .before .before .before
+
+abbrev put6→put5 : tie.After-put6 → tie.After-put5
+put6→put5 c = c .before .before .before
+
+abbrev put7→put6 : tie.After-put7 → tie.After-put6
+put7→put6 c = c .before .before .before
+
+abbrev put8→put7 : tie.After-put8 → tie.After-put7
+put8→put7 c = c .before .before .before
+
+abbrev put9→put8 : tie.After-put9 → tie.After-put8
+put9→put8 c = c .before .before .before
+
+abbrev put10→put9 : tie.After-put10 → tie.After-put9
+put10→put9 c = c .before .before .before
+
+abbrev put11→put10 : tie.After-put11 → tie.After-put10
+put11→put10 c = c .before .before .before
+
+abbrev put12→put11 : tie.After-put12 → tie.After-put11
+put12→put11 c = c .before .before .before
+
+abbrev put13→put12 : tie.After-put13 → tie.After-put12
+put13→put12 c = c .before .before .before
+
+abbrev put14→put13 : tie.After-put14 → tie.After-put13
+put14→put13 c = c .before .before .before
+
+abbrev put15→put14 : tie.After-put15 → tie.After-put14
+put15→put14 c = c .before .before .before
+
+abbrev put16→put15 : tie.After-put16 → tie.After-put15
+put16→put15 c = c .before .before .before
+
 abbrev put2→start : tie.After-put2 → tie.Start
-put2→start c = put→start (c .before .before .before)
+put2→start c = put→start (put2→put c)
 
 abbrev put3→start : tie.After-put3 → tie.Start
-put3→start c = put2→start (c .before .before .before)
+put3→start c = put2→start (put3→put2 c)
 
 abbrev put4→start : tie.After-put4 → tie.Start
-put4→start c = put3→start (c .before .before .before)
+put4→start c = put3→start (put4→put3 c)
 
 abbrev put5→start : tie.After-put5 → tie.Start
-put5→start c = put4→start (c .before .before .before)
+put5→start c = put4→start (put5→put4 c)
 
 abbrev put6→start : tie.After-put6 → tie.Start
-put6→start c = put5→start (c .before .before .before)
+put6→start c = put5→start (put6→put5 c)
 
-abbrev bytes7→start : tie.After-bytes7 → tie.Start
-bytes7→start c = put6→start (c .before)
+abbrev put7→start : tie.After-put7 → tie.Start
+put7→start c = put6→start (put7→put6 c)
 
-abbrev bytes8→start : tie.After-bytes8 → tie.Start
-bytes8→start c = bytes7→start (c .before .before .before)
+abbrev put8→start : tie.After-put8 → tie.Start
+put8→start c = put7→start (put8→put7 c)
 
-abbrev bytes9→start : tie.After-bytes9 → tie.Start
-bytes9→start c = bytes8→start (c .before .before .before)
+abbrev put9→start : tie.After-put9 → tie.Start
+put9→start c = put8→start (put9→put8 c)
 
-abbrev bytes10→start : tie.After-bytes10 → tie.Start
-bytes10→start c = bytes9→start (c .before .before .before)
+abbrev put10→start : tie.After-put10 → tie.Start
+put10→start c = put9→start (put10→put9 c)
 
-abbrev bytes11→start : tie.After-bytes11 → tie.Start
-bytes11→start c = bytes10→start (c .before .before .before)
+abbrev put11→start : tie.After-put11 → tie.Start
+put11→start c = put10→start (put11→put10 c)
 
-abbrev bytes12→start : tie.After-bytes12 → tie.Start
-bytes12→start c = bytes11→start (c .before .before .before)
+abbrev put12→start : tie.After-put12 → tie.Start
+put12→start c = put11→start (put12→put11 c)
 
-abbrev bytes13→start : tie.After-bytes13 → tie.Start
-bytes13→start c = bytes12→start (c .before .before .before)
+abbrev put13→start : tie.After-put13 → tie.Start
+put13→start c = put12→start (put13→put12 c)
 
-abbrev bytes14→start : tie.After-bytes14 → tie.Start
-bytes14→start c = bytes13→start (c .before .before .before)
+abbrev put14→start : tie.After-put14 → tie.Start
+put14→start c = put13→start (put14→put13 c)
 
-abbrev bytes15→start : tie.After-bytes15 → tie.Start
-bytes15→start c = bytes14→start (c .before .before .before)
-
-abbrev bytes16→start : tie.After-bytes16 → tie.Start
-bytes16→start c = bytes15→start (c .before .before .before)
+abbrev put15→start : tie.After-put15 → tie.Start
+put15→start c = put14→start (put15→put14 c)
 
 -- one more pair
 then : {p q : Pair} {r s t : List ℕ} (at : ℕ) → r ≡ putOf s at p → p ≡ q → s ≡ t → r ≡ putOf t at q
@@ -65,21 +107,21 @@ then at e f g = e ∙ (λ i. putOf (g i) at (f i))
 returns : tie.Need-returns
 unfolding registersOf
 returns c =
-    let c₁₅ = c .before .before .before in
-    let c₁₄ = c₁₅ .before .before .before in
-    let c₁₃ = c₁₄ .before .before .before in
-    let c₁₂ = c₁₃ .before .before .before in
-    let c₁₁ = c₁₂ .before .before .before in
-    let c₁₀ = c₁₁ .before .before .before in
-    let c₉ = c₁₀ .before .before .before in
-    let c₈ = c₉ .before .before .before in
-    let c₇ = c₈ .before .before .before in
-    let c₆ = c₇ .before .before .before in
-    let c₅ = c₆ .before .before .before in
-    let c₄ = c₅ .before .before .before in
-    let c₃ = c₄ .before .before .before in
-    let c₂ = c₃ .before .before .before in
-    let c₁ = c₂ .before .before .before in
+    let c₁₅ = put16→put15 c in
+    let c₁₄ = put15→put14 c₁₅ in
+    let c₁₃ = put14→put13 c₁₄ in
+    let c₁₂ = put13→put12 c₁₃ in
+    let c₁₁ = put12→put11 c₁₂ in
+    let c₁₀ = put11→put10 c₁₁ in
+    let c₉ = put10→put9 c₁₀ in
+    let c₈ = put9→put8 c₉ in
+    let c₇ = put8→put7 c₈ in
+    let c₆ = put7→put6 c₇ in
+    let c₅ = put6→put5 c₆ in
+    let c₄ = put5→put4 c₅ in
+    let c₃ = put4→put3 c₄ in
+    let c₂ = put3→put2 c₃ in
+    let c₁ = put2→put c₂ in
     let e₁ = then {t = replicate 32 0} 0x00 (c₁ .put .ensures) (c₁ .before .register .ensures) refl in
     let e₂ = then 0x02 (c₂ .put2 .ensures) (c₂ .before .register2 .ensures) e₁ in
     let e₃ = then 0x04 (c₃ .put3 .ensures) (c₃ .before .register3 .ensures) e₂ in
@@ -113,24 +155,24 @@ registers-spec =
     (λ c κs. search needs)
     (λ c κs. search needs)
     (λ c κs. search needs)
-    (λ c κs. (bytes7→start c .pre, (omega arith, refl)))
+    (λ c κs. (put6→start (c .before) .pre, (omega arith, refl)))
     (λ c κs. search needs)
-    (λ c κs. (bytes8→start c .pre, (omega arith, refl)))
+    (λ c κs. (put7→start (c .before) .pre, (omega arith, refl)))
     (λ c κs. search needs)
-    (λ c κs. (bytes9→start c .pre, (omega arith, refl)))
+    (λ c κs. (put8→start (c .before) .pre, (omega arith, refl)))
     (λ c κs. search needs)
-    (λ c κs. (bytes10→start c .pre, (omega arith, refl)))
+    (λ c κs. (put9→start (c .before) .pre, (omega arith, refl)))
     (λ c κs. search needs)
-    (λ c κs. (bytes11→start c .pre, (omega arith, refl)))
+    (λ c κs. (put10→start (c .before) .pre, (omega arith, refl)))
     (λ c κs. search needs)
-    (λ c κs. (bytes12→start c .pre, (omega arith, refl)))
+    (λ c κs. (put11→start (c .before) .pre, (omega arith, refl)))
     (λ c κs. search needs)
-    (λ c κs. (bytes13→start c .pre, (omega arith, refl)))
+    (λ c κs. (put12→start (c .before) .pre, (omega arith, refl)))
     (λ c κs. search needs)
-    (λ c κs. (bytes14→start c .pre, (omega arith, refl)))
+    (λ c κs. (put13→start (c .before) .pre, (omega arith, refl)))
     (λ c κs. search needs)
-    (λ c κs. (bytes15→start c .pre, (omega arith, refl)))
+    (λ c κs. (put14→start (c .before) .pre, (omega arith, refl)))
     (λ c κs. search needs)
-    (λ c κs. (bytes16→start c .pre, (omega arith, refl)))
+    (λ c κs. (put15→start (c .before) .pre, (omega arith, refl)))
     (λ c κs. search needs)
     returns)
