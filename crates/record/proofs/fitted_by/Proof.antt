@@ -14,23 +14,35 @@ use Rattle.record.proofs.fitted_by.Statement.{statement}
 use Rattle.record.proofs.fitted_by.Tie as tie
 
 -- places: `a→b` leads from the record of the place a back to that of the place b
-abbrev enum-told→start : tie.After-enum-told → tie.Start
-enum-told→start c = c .before .before .before
+abbrev shared-slice-known→start : tie.After-shared-slice-known → tie.Start
+shared-slice-known→start c = c .before
+
+abbrev enum-told5→start : tie.After-enum-told5 → tie.Start
+enum-told5→start c = shared-slice-known→start (c .before .before)
+
+abbrev conversion-taken→start : tie.After-conversion-taken → tie.Start
+conversion-taken→start c = shared-slice-known→start (c .before .before .before)
+
+abbrev power-on-taken→start : tie.After-power-on-taken → tie.Start
+power-on-taken→start c = shared-slice-known→start (c .before .before .before)
 
 abbrev reading-taken→start : tie.After-reading-taken → tie.Start
-reading-taken→start c = enum-told→start (c .before)
+reading-taken→start c = shared-slice-known→start (c .before .before .before)
+
+abbrev sample-taken→start : tie.After-sample-taken → tie.Start
+sample-taken→start c = shared-slice-known→start (c .before .before .before)
 
 abbrev image-taken→kind : tie.After-image-taken → tie.After-kind
 image-taken→kind c = c .before .before
 
 abbrev image-taken→start : tie.After-image-taken → tie.Start
-image-taken→start c = image-taken→kind c .before .before .before
+image-taken→start c = shared-slice-known→start (image-taken→kind c .before .before)
 
 abbrev transaction-taken→kind2 : tie.After-transaction-taken → tie.After-kind2
 transaction-taken→kind2 c = c .before .before
 
 abbrev transaction-taken→start : tie.After-transaction-taken → tie.Start
-transaction-taken→start c = transaction-taken→kind2 c .before .before .before
+transaction-taken→start c = shared-slice-known→start (transaction-taken→kind2 c .before .before)
 
 -- what an arm of the match gives, where the number stands for that kind
 arm : (room : ℕ) (last : Tick) (again loaded : Bool) (p : List ℕ) (said k : Kind) (r : Taken) → said ≡ k
@@ -59,7 +71,7 @@ returns-2 c =
 
 returns-3 : tie.Need-returns-3
 returns-3 c =
-    let a = c .before .before .before .before .args in
+    let a = conversion-taken→start c .args in
     stateless (a .room) (a .last) (a .again) (a .loaded) (now (a .payload)) _ _ _ (c .before .enum-told2 .given .1) tt (c .conversion-taken .ensures)
 
 returns-4 : tie.Need-returns-4
@@ -71,18 +83,18 @@ returns-4 c =
 
 returns-5 : tie.Need-returns-5
 returns-5 c =
-    let a = c .before .before .before .before .args in
+    let a = power-on-taken→start c .args in
     stateless (a .room) (a .last) (a .again) (a .loaded) (now (a .payload)) _ _ _ (c .before .enum-told3 .given .1) tt (c .power-on-taken .ensures)
 
 returns-6 : tie.Need-returns-6
 returns-6 c =
-    let a = c .before .before .before .before .args in
+    let a = sample-taken→start c .args in
     arm (a .room) (a .last) (a .again) (a .loaded) (now (a .payload)) _ _ _ (c .before .enum-told4 .given .1)
     (c .sample-taken .ensures ∙ sample-fits (a .last) (a .again) (a .loaded) (now (a .payload)) (a .room))
 
 returns-7 : tie.Need-returns-7
 returns-7 c =
-    let a = c .before .before .before .args in
+    let a = enum-told5→start c .args in
     arm (a .room) (a .last) (a .again) (a .loaded) (now (a .payload)) _ _ _ (c .enum-told5 .given .1) refl
 
 pub fitted-by-spec : {M : Type 1} → statement M

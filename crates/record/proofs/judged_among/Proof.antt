@@ -12,14 +12,26 @@ use Rattle.record.proofs.judged_among.Statement.{statement}
 use Rattle.record.proofs.judged_among.Tie as tie
 
 -- places: `a→b` leads from the record of the place a back to that of the place b
-abbrev then1→start : tie.Then1 → tie.Start
-then1→start c = c .before .before .before
+abbrev then1→image-size : tie.Then1 → tie.After-image-size
+then1→image-size c = c .before
 
-abbrev then2→start : tie.Then2 → tie.Start
-then2→start c = then1→start (c .before .before .before)
+abbrev addressed→then1 : tie.After-addressed → tie.Then1
+addressed→then1 c = c .before .before
+
+abbrev then2→addressed : tie.Then2 → tie.After-addressed
+then2→addressed c = c .before
+
+abbrev else3→then2 : tie.Else3 → tie.Then2
+else3→then2 c = c .before .before
 
 abbrev else3→start : tie.Else3 → tie.Start
-else3→start c = then2→start (c .before .before)
+else3→start c = addressed→then1 (then2→addressed (else3→then2 c)) .before .before .before
+
+abbrev then3→then2 : tie.Then3 → tie.Then2
+then3→then2 c = c .before .before
+
+abbrev of→thirty-two : tie.After-of → tie.After-thirty-two
+of→thirty-two c = c .before .before
 
 -- what is told of the breakpoints of a block, by the calls that lead there
 told : {block part : List ℕ} {b : Breaks} {t u : Bool} → block ≡ part → b ≡ breaksOf block → t ≡ orderedOf b → t ≡ u →
@@ -31,13 +43,13 @@ unfolding judgedAmong
 returns c =
     let c1 = c .before in
     let c2 = c1 .before in
-    let c4 = c2 .before .before in
+    let c4 = of→thirty-two c2 in
     let c5 = c4 .before in
     let c6 = c5 .before in
-    let c8 = c6 .before .before in
-    let c9 = c8 .before in
-    let c11 = c9 .before .before in
-    let c12 = c11 .before in
+    let c8 = then3→then2 c6 in
+    let c9 = then2→addressed c8 in
+    let c11 = addressed→then1 c9 in
+    let c12 = then1→image-size c11 in
     simp (
       eq-eqb _ _ (c11 .if1 .taken ∙ c12 .image-size .ensures .0),
       sym (c9 .addressed .ensures) ∙ c8 .if2 .taken,
@@ -51,13 +63,13 @@ unfolding judgedAmong
 returns-2 c =
     let c1 = c .before in
     let c2 = c1 .before in
-    let c4 = c2 .before .before in
+    let c4 = of→thirty-two c2 in
     let c5 = c4 .before in
     let c6 = c5 .before in
-    let c8 = c6 .before .before in
-    let c9 = c8 .before in
-    let c11 = c9 .before .before in
-    let c12 = c11 .before in
+    let c8 = then3→then2 c6 in
+    let c9 = then2→addressed c8 in
+    let c11 = addressed→then1 c9 in
+    let c12 = then1→image-size c11 in
     simp (
       eq-eqb _ _ (c11 .if1 .taken ∙ c12 .image-size .ensures .0),
       sym (c9 .addressed .ensures) ∙ c8 .if2 .taken,
@@ -70,10 +82,10 @@ returns-3 : tie.Need-returns-3
 unfolding judgedAmong
 returns-3 c =
     let c1 = c .before in
-    let c3 = c1 .before .before in
-    let c4 = c3 .before in
-    let c6 = c4 .before .before in
-    let c7 = c6 .before in
+    let c3 = then3→then2 c1 in
+    let c4 = then2→addressed c3 in
+    let c6 = addressed→then1 c4 in
+    let c7 = then1→image-size c6 in
     simp (
       eq-eqb _ _ (c6 .if1 .taken ∙ c7 .image-size .ensures .0),
       sym (c4 .addressed .ensures) ∙ c3 .if2 .taken,
@@ -92,10 +104,10 @@ above c = lt-leb _ _ (c .if3 .left)
 answered : ((c : tie.Else3) → Above c) → tie.Need-returns-4
 unfolding judgedAmong
 answered over c =
-    let c2 = c .before .before in
-    let c3 = c2 .before in
-    let c5 = c3 .before .before in
-    let c6 = c5 .before in
+    let c2 = else3→then2 c in
+    let c3 = then2→addressed c2 in
+    let c5 = addressed→then1 c3 in
+    let c6 = then1→image-size c5 in
     simp (eq-eqb _ _ (c5 .if1 .taken ∙ c6 .image-size .ensures .0), sym (c3 .addressed .ensures) ∙ c2 .if2 .taken, over c)
 
 returns-4 : tie.Need-returns-4
@@ -105,8 +117,8 @@ returns-5 : tie.Need-returns-5
 unfolding judgedAmong
 returns-5 c =
     let c1 = c .before in
-    let c3 = c1 .before .before in
-    let c4 = c3 .before in
+    let c3 = addressed→then1 c1 in
+    let c4 = then1→image-size c3 in
     simp (eq-eqb _ _ (c3 .if1 .taken ∙ c4 .image-size .ensures .0), sym (c1 .addressed .ensures) ∙ c .if2 .left)
 
 returns-6 : tie.Need-returns-6

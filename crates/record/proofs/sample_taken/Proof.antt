@@ -8,14 +8,17 @@ use Rattle.record.proofs.sample_taken.Statement.{statement}
 use Rattle.record.proofs.sample_taken.Tie as tie
 
 -- places: `a→b` leads from the record of the place a back to that of the place b
-abbrev then2→start : tie.Then2 → tie.Start
-then2→start c = c .before .before .before
+abbrev quad→then2 : tie.After-quad → tie.Then2
+quad→then2 c = c .before
 
-abbrev pair→start : tie.After-pair → tie.Start
-pair→start c = then2→start (c .before .before .before)
+abbrev pair→quad : tie.After-pair → tie.After-quad
+pair→quad c = c .before .before
 
 abbrev timely→start : tie.After-timely → tie.Start
-timely→start c = pair→start (c .before)
+timely→start c = quad→then2 (pair→quad (c .before)) .before .before .before
+
+abbrev else3→then2 : tie.Else3 → tie.Then2
+else3→then2 c = quad→then2 (pair→quad (c .before .before))
 
 -- the tick is that of the payload
 told : (c : tie.After-timely) → let a = timely→start c .args in timelyOf (a .last) (pairAt (now (a .payload)) 4) ≡ c .timely .result
@@ -27,10 +30,10 @@ returns c = simp (ne-eqb _ _ (c .if1 .taken))
 returns-2 : tie.Need-returns-2
 returns-2 c =
     let at-pair = c .before .before in
-    let c4 = at-pair .before .before in
+    let c4 = pair→quad at-pair in
     simp (
-      eq-eqb _ _ (c4 .before .before .if1 .left),
-      c4 .before .if2 .taken,
+      eq-eqb _ _ (quad→then2 c4 .before .if1 .left),
+      quad→then2 c4 .if2 .taken,
       at-pair .before .offset32 .ensures,
       c4 .quad .ensures,
       at-pair .pair .ensures,
@@ -39,8 +42,7 @@ returns-2 c =
 
 returns-3 : tie.Need-returns-3
 returns-3 c =
-    let c4 = c .before .before .before .before in
-    simp (eq-eqb _ _ (c4 .before .before .if1 .left), c4 .before .if2 .taken, told (c .before) ∙ c .if3 .left)
+    simp (eq-eqb _ _ (else3→then2 c .before .if1 .left), else3→then2 c .if2 .taken, told (c .before) ∙ c .if3 .left)
 
 returns-4 : tie.Need-returns-4
 returns-4 c = simp (eq-eqb _ _ (c .before .if1 .left), c .if2 .left)

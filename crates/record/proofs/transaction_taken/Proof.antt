@@ -23,17 +23,29 @@ use Rattle.record.proofs.transaction_taken.Statement.{statement}
 use Rattle.record.proofs.transaction_taken.Tie as tie
 
 -- places: `a→b` leads from the record of the place a back to that of the place b
-abbrev head→start : tie.After-head → tie.Start
-head→start c = c .before .before
+abbrev limit→head : tie.After-limit → tie.After-head
+limit→head c = c .before
 
 abbrev limit→start : tie.After-limit → tie.Start
-limit→start c = c .before .before .before
+limit→start c = limit→head c .before .before
+
+abbrev else1→limit : tie.Else1 → tie.After-limit
+else1→limit c = c .before
+
+abbrev then1→limit : tie.Then1 → tie.After-limit
+then1→limit c = c .before
 
 abbrev then1→head : tie.Then1 → tie.After-head
-then1→head c = c .before .before
+then1→head c = limit→head (then1→limit c)
+
+abbrev then1→start : tie.Then1 → tie.Start
+then1→start c = limit→start (then1→limit c)
 
 abbrev then2→limit : tie.Then2 → tie.After-limit
-then2→limit c = c .before .before
+then2→limit c = else1→limit (c .before)
+
+abbrev then2→head : tie.Then2 → tie.After-head
+then2→head c = limit→head (then2→limit c)
 
 abbrev then2→start : tie.Then2 → tie.Start
 then2→start c = limit→start (then2→limit c)
@@ -42,70 +54,88 @@ abbrev else3→else1 : tie.Else3 → tie.Else1
 else3→else1 c = c .before .before
 
 abbrev else3→limit : tie.Else3 → tie.After-limit
-else3→limit c = c .before .before .before
+else3→limit c = else1→limit (else3→else1 c)
+
+abbrev else3→head : tie.Else3 → tie.After-head
+else3→head c = limit→head (else3→limit c)
 
 abbrev else3→start : tie.Else3 → tie.Start
 else3→start c = limit→start (else3→limit c)
 
+abbrev then3→else2 : tie.Then3 → tie.Else2
+then3→else2 c = c .before
+
 abbrev then3→else1 : tie.Then3 → tie.Else1
-then3→else1 c = c .before .before
+then3→else1 c = then3→else2 c .before
+
+abbrev then3→head : tie.Then3 → tie.After-head
+then3→head c = limit→head (else1→limit (then3→else1 c))
+
+abbrev read-count→then3 : tie.After-read-count → tie.Then3
+read-count→then3 c = c .before
 
 abbrev then4→then3 : tie.Then4 → tie.Then3
-then4→then3 c = c .before .before
+then4→then3 c = read-count→then3 (c .before)
+
+abbrev then4→else2 : tie.Then4 → tie.Else2
+then4→else2 c = then3→else2 (then4→then3 c)
 
 abbrev then4→else1 : tie.Then4 → tie.Else1
 then4→else1 c = then3→else1 (then4→then3 c)
 
 abbrev then4→limit : tie.Then4 → tie.After-limit
-then4→limit c = then4→else1 c .before
+then4→limit c = else1→limit (then4→else1 c)
 
 abbrev then4→head : tie.Then4 → tie.After-head
-then4→head c = then4→limit c .before
+then4→head c = then3→head (then4→then3 c)
 
 abbrev then4→start : tie.Then4 → tie.Start
-then4→start c = head→start (then4→head c)
+then4→start c = limit→start (then4→limit c)
 
 abbrev then5→read-count : tie.Then5 → tie.After-read-count
 then5→read-count c = c .before .before
 
 abbrev then5→then3 : tie.Then5 → tie.Then3
-then5→then3 c = c .before .before .before
+then5→then3 c = read-count→then3 (then5→read-count c)
+
+abbrev then5→else2 : tie.Then5 → tie.Else2
+then5→else2 c = then3→else2 (then5→then3 c)
 
 abbrev then5→else1 : tie.Then5 → tie.Else1
 then5→else1 c = then3→else1 (then5→then3 c)
 
 abbrev then5→limit : tie.Then5 → tie.After-limit
-then5→limit c = then5→else1 c .before
+then5→limit c = else1→limit (then5→else1 c)
 
 abbrev then5→head : tie.Then5 → tie.After-head
-then5→head c = then5→limit c .before
+then5→head c = then3→head (then5→then3 c)
 
 abbrev then5→start : tie.Then5 → tie.Start
-then5→start c = head→start (then5→head c)
+then5→start c = limit→start (then5→limit c)
 
 abbrev asked→else5 : tie.After-asked → tie.Else5
 asked→else5 c = c .before .before
 
-abbrev asked→else4 : tie.After-asked → tie.Else4
-asked→else4 c = c .before .before .before
+abbrev asked→read-count : tie.After-asked → tie.After-read-count
+asked→read-count c = asked→else5 c .before .before
 
 abbrev asked→then3 : tie.After-asked → tie.Then3
-asked→then3 c = asked→else4 c .before .before
+asked→then3 c = read-count→then3 (asked→read-count c)
 
 abbrev asked→else2 : tie.After-asked → tie.Else2
-asked→else2 c = asked→then3 c .before
+asked→else2 c = then3→else2 (asked→then3 c)
 
 abbrev asked→else1 : tie.After-asked → tie.Else1
 asked→else1 c = then3→else1 (asked→then3 c)
 
 abbrev asked→limit : tie.After-asked → tie.After-limit
-asked→limit c = asked→else1 c .before
+asked→limit c = else1→limit (asked→else1 c)
 
 abbrev asked→head : tie.After-asked → tie.After-head
-asked→head c = asked→limit c .before
+asked→head c = then3→head (asked→then3 c)
 
 abbrev asked→start : tie.After-asked → tie.Start
-asked→start c = head→start (asked→head c)
+asked→start c = limit→start (asked→limit c)
 
 -- what each test leaves, by the form's numbers as the code has them
 module _ (f : Form) (loaded : Bool) (room : ℕ) (p : List ℕ) {start most : ℕ} (es : start ≡ headOf f) (em : most ≡ limitOf f) where
@@ -153,44 +183,44 @@ module _ (f : Form) (loaded : Bool) (room : ℕ) (p : List ℕ) {start most : �
 
 returns : tie.Need-returns
 returns c =
-    let a = then1→head c .before .before .args in
-    short (a .form) (a .loaded) (a .room) (now (a .payload)) (then1→head c .head .ensures .0) (c .before .limit .ensures .0) (c .if1 .taken)
+    let a = then1→start c .args in
+    short (a .form) (a .loaded) (a .room) (now (a .payload)) (then1→head c .head .ensures .0) (then1→limit c .limit .ensures .0) (c .if1 .taken)
 
 returns-2 : tie.Need-returns-2
 returns-2 c =
     let a = then2→start c .args in
-    long (a .form) (a .loaded) (a .room) (now (a .payload)) (then2→limit c .before .head .ensures .0) (then2→limit c .limit .ensures .0)
+    long (a .form) (a .loaded) (a .room) (now (a .payload)) (then2→head c .head .ensures .0) (then2→limit c .limit .ensures .0)
     (c .before .if1 .left) (c .if2 .taken)
 
 returns-3 : tie.Need-returns-3
 returns-3 c =
     let a = then4→start c .args in
     over (a .form) (a .loaded) (a .room) (now (a .payload)) (then4→head c .head .ensures .0) (then4→limit c .limit .ensures .0)
-    (then4→else1 c .if1 .left) (then4→then3 c .before .if2 .left) (then4→then3 c .if3 .taken) (c .before .read-count .ensures) (c .if4 .taken)
+    (then4→else1 c .if1 .left) (then4→else2 c .if2 .left) (then4→then3 c .if3 .taken) (c .before .read-count .ensures) (c .if4 .taken)
 
 returns-4 : tie.Need-returns-4
 returns-4 c =
     let a = then5→start c .args in
     full (a .form) (a .loaded) (a .room) (now (a .payload)) (then5→head c .head .ensures .0) (then5→limit c .limit .ensures .0)
-    (then5→else1 c .if1 .left) (then5→then3 c .before .if2 .left) (then5→then3 c .if3 .taken) (then5→read-count c .read-count .ensures)
+    (then5→else1 c .if1 .left) (then5→else2 c .if2 .left) (then5→then3 c .if3 .taken) (then5→read-count c .read-count .ensures)
     (c .before .if4 .left) (c .if5 .taken)
 
 returns-5 : tie.Need-returns-5
 returns-5 c =
     let a = asked→start c .args in
     taken (a .form) (a .loaded) (a .room) (now (a .payload)) (asked→head c .head .ensures .0) (asked→limit c .limit .ensures .0)
-    (asked→else1 c .if1 .left) (asked→else2 c .if2 .left) (asked→then3 c .if3 .taken) (asked→else4 c .before .read-count .ensures)
-    (asked→else4 c .if4 .left) (asked→else5 c .if5 .left)
+    (asked→else1 c .if1 .left) (asked→else2 c .if2 .left) (asked→then3 c .if3 .taken) (asked→read-count c .read-count .ensures)
+    (asked→else5 c .before .if4 .left) (asked→else5 c .if5 .left)
     (c .asked .ensures) (part-rest (now (a .payload)) _)
 
 returns-6 : tie.Need-returns-6
 returns-6 c =
     let a = else3→start c .args in
-    early (a .form) (a .loaded) (a .room) (now (a .payload)) (else3→limit c .before .head .ensures .0) (else3→limit c .limit .ensures .0)
+    early (a .form) (a .loaded) (a .room) (now (a .payload)) (else3→head c .head .ensures .0) (else3→limit c .limit .ensures .0)
     (else3→else1 c .if1 .left) (c .before .if2 .left) (c .if3 .left)
 
 read-count-requires : tie.Need-read-count-requires
-read-count-requires c κs = omega (arith, then3→else1 c .before .before .head .ensures .0, then3→else1 c .if1 .left)
+read-count-requires c κs = omega (arith, then3→head c .head .ensures .0, then3→else1 c .if1 .left)
 
 pub transaction-taken-spec : {M : Type 1} → statement M
 transaction-taken-spec =
