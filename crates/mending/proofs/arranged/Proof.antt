@@ -9,11 +9,17 @@ use Rattle.mending.proofs.arranged.Tie as tie
 abbrev larger2→start : tie.After-larger2 → tie.Start
 larger2→start c = c .before .before .before
 
+abbrev larger3→larger2 : tie.After-larger3 → tie.After-larger2
+larger3→larger2 c = c .before .before
+
 abbrev larger3→start : tie.After-larger3 → tie.Start
-larger3→start c = larger2→start (c .before .before)
+larger3→start c = larger2→start (larger3→larger2 c)
+
+abbrev smaller3→larger2 : tie.After-smaller3 → tie.After-larger2
+smaller3→larger2 c = larger3→larger2 (c .before)
 
 abbrev smaller3→start : tie.After-smaller3 → tie.Start
-smaller3→start c = larger3→start (c .before)
+smaller3→start c = larger2→start (smaller3→larger2 c)
 
 -- each of the three by itself
 largest : (c : tie.After-larger2) → c .larger2 .result ≡ arrangedOf (larger2→start c .args .breaks) .b34
@@ -29,7 +35,7 @@ unfolding arrangedOf
 smallest c = cc
 
 returns : tie.Need-returns
-returns c = λ i. record { b34 = largest (c .before .before .before) i; b23 = middle (c .before) i; b12 = smallest c i }
+returns c = λ i. record { b34 = largest (smaller3→larger2 c) i; b23 = middle (c .before) i; b12 = smallest c i }
 
 pub arranged-spec : {M : Type 1} → statement M
 arranged-spec =

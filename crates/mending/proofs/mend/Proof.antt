@@ -13,11 +13,20 @@ use Rattle.mending.proofs.mend.Statement.{statement}
 use Rattle.mending.proofs.mend.Tie as tie
 
 -- places: `a→b` leads from the record of the place a back to that of the place b
+abbrev answer→start : tie.After-answer → tie.Start
+answer→start c = c .before .before .before
+
+abbrev enum-told→answer : tie.After-enum-told → tie.After-answer
+enum-told→answer c = c .before .before
+
+abbrev known-told→found : tie.After-known-told → tie.After-found
+known-told→found c = c .before
+
 abbrev put-mended-arg→answer : tie.After-put-mended-arg → tie.After-answer
-put-mended-arg→answer c = c .before .before .before
+put-mended-arg→answer c = enum-told→answer (c .before)
 
 abbrev put-mended-arg→start : tie.After-put-mended-arg → tie.Start
-put-mended-arg→start c = put-mended-arg→answer c .before .before .before
+put-mended-arg→start c = answer→start (put-mended-arg→answer c)
 
 put-mended-requires : tie.Need-put-mended-requires
 put-mended-requires c κs =
@@ -29,7 +38,7 @@ returns : tie.Need-returns
 returns c =
     let at-put-mended = c .before .before in
     let at-enum-told = at-put-mended .before .before in
-    let at-answer = at-enum-told .before .before in
+    let at-answer = enum-told→answer at-enum-told in
     let found = sym (at-answer .answer .ensures) ∙ at-enum-told .enum-told .given .1 in
     record { number = ap mendedNumber (sym found); answer = sym found; written = rw found (at-put-mended .put-mended .ensures) }
 
@@ -39,14 +48,14 @@ untouched why image room = refl
 
 returns-2 : tie.Need-returns-2
 returns-2 c =
-    let at-answer = c .before .before .before in
-    let at-start = at-answer .before .before .before in
+    let at-answer = known-told→found c .before .before in
+    let at-start = answer→start at-answer in
     let a = at-start .args in
-    let found = sym (at-answer .answer .ensures) ∙ c .before .found .given .1 in
+    let found = sym (at-answer .answer .ensures) ∙ known-told→found c .found .given .1 in
     record {
       number = ap mendedNumber (sym found);
       answer = sym found;
-      written = rw found (sym (untouched (c .before .found .given .0 .0) (now (a .image)) (now (a .room))));
+      written = rw found (sym (untouched (known-told→found c .found .given .0 .0) (now (a .image)) (now (a .room))));
     }
 
 pub mend-spec : {M : Type 1} → statement M

@@ -25,14 +25,17 @@ slice-known→start c = c .before .before .before
 abbrev lower-pairs→start : tie.After-lower-pairs Inv-loop μ-loop → tie.Start Inv-loop μ-loop
 lower-pairs→start c = slice-known→start (c .before)
 
-abbrev after-loop→start : tie.After-loop Inv-loop μ-loop → tie.Start Inv-loop μ-loop
-after-loop→start c = slice-known→start (c .before .before .before)
+abbrev after-loop→loop : tie.After-loop Inv-loop μ-loop → tie.At-loop Inv-loop μ-loop
+after-loop→loop c = c .before
 
-abbrev shared-slice-known4→in-loop : tie.After-shared-slice-known4 Inv-loop μ-loop → tie.In-loop Inv-loop μ-loop
-shared-slice-known4→in-loop c = c .before .before .before
+abbrev after-loop→start : tie.After-loop Inv-loop μ-loop → tie.Start Inv-loop μ-loop
+after-loop→start c = lower-pairs→start (after-loop→loop c .before)
+
+abbrev put-change-arg→table : tie.After-put-change-arg Inv-loop μ-loop → tie.After-table Inv-loop μ-loop
+put-change-arg→table c = c .before .before .before
 
 abbrev put-change-arg→in-loop : tie.After-put-change-arg Inv-loop μ-loop → tie.In-loop Inv-loop μ-loop
-put-change-arg→in-loop c = shared-slice-known4→in-loop (c .before)
+put-change-arg→in-loop c = put-change-arg→table c .before
 
 abbrev put-change-arg→loop : tie.After-put-change-arg Inv-loop μ-loop → tie.At-loop Inv-loop μ-loop
 put-change-arg→loop c = put-change-arg→in-loop c .before
@@ -43,14 +46,14 @@ put-change-arg→lower-pairs c = put-change-arg→loop c .before
 abbrev put-change-arg→start : tie.After-put-change-arg Inv-loop μ-loop → tie.Start Inv-loop μ-loop
 put-change-arg→start c = lower-pairs→start (put-change-arg→lower-pairs c)
 
-abbrev slice-known2→in-loop : tie.After-slice-known2 Inv-loop μ-loop → tie.In-loop Inv-loop μ-loop
-slice-known2→in-loop c = put-change-arg→in-loop (c .before .before .before)
+abbrev slice-known2→put-change : tie.After-slice-known2 Inv-loop μ-loop → tie.After-put-change Inv-loop μ-loop
+slice-known2→put-change c = c .before .before
 
-abbrev slice-known2→loop : tie.After-slice-known2 Inv-loop μ-loop → tie.At-loop Inv-loop μ-loop
-slice-known2→loop c = slice-known2→in-loop c .before
+abbrev slice-known2→in-loop : tie.After-slice-known2 Inv-loop μ-loop → tie.In-loop Inv-loop μ-loop
+slice-known2→in-loop c = put-change-arg→in-loop (slice-known2→put-change c .before)
 
 abbrev slice-known2→start : tie.After-slice-known2 Inv-loop μ-loop → tie.Start Inv-loop μ-loop
-slice-known2→start c = put-change-arg→start (c .before .before .before)
+slice-known2→start c = put-change-arg→start (slice-known2→put-change c .before)
 
 loop-holds : tie.Need-loop-holds Inv-loop μ-loop
 loop-holds c = (omega arith, none (now (lower-pairs→start c .args .room)) 0)
@@ -72,17 +75,17 @@ loop-again : tie.Need-loop-again Inv-loop μ-loop
 loop-again c = (
   omega arith,
   changes-then _ _ _ (slice-known2→in-loop c .loop-test .taken)
-      (slice-known2→start c .pre .0 ∙ sym (slice-known2→start c .pre .1 .0)) (slice-known2→loop c .loop .inv .1)
-      (c .before .before .put-change .ensures),
+      (slice-known2→start c .pre .0 ∙ sym (slice-known2→start c .pre .1 .0)) (slice-known2→in-loop c .before .loop .inv .1)
+      (slice-known2→put-change c .put-change .ensures),
 )
 
 same-length : tie.Need-same-length Inv-loop μ-loop
-same-length c = kept (c .before .loop .inv .1)
+same-length c = kept (after-loop→loop c .loop .inv .1)
 
 returns : tie.Need-returns Inv-loop μ-loop
 returns c =
-    changes-all _ _ _ (c .loop-test .left) (omega (arith, c .before .loop .inv .0, after-loop→start c .pre .0))
-    (after-loop→start c .pre .0 ∙ sym (after-loop→start c .pre .1 .0)) (c .before .loop .inv .1)
+    changes-all _ _ _ (c .loop-test .left) (omega (arith, after-loop→loop c .loop .inv .0, after-loop→start c .pre .0))
+    (after-loop→start c .pre .0 ∙ sym (after-loop→start c .pre .1 .0)) (after-loop→loop c .loop .inv .1)
 
 pub put-changes-spec : {M : Type 1} → statement M
 put-changes-spec =
