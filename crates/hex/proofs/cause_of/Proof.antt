@@ -8,16 +8,33 @@ use borrow.Author.Needs.{needs}
 use Rattle.hex.proofs.cause_of.Statement.{statement}
 use Rattle.hex.proofs.cause_of.Tie as tie
 
+-- places: `a→b` leads from the record of the place a back to that of the place b
+abbrev then1→formed : tie.Then1 → tie.After-formed
+then1→formed c = c .before
+
+abbrev else2→then1 : tie.Else2 → tie.Then1
+else2→then1 c = c .before .before
+
+abbrev else2→formed : tie.Else2 → tie.After-formed
+else2→formed c = then1→formed (else2→then1 c)
+
+abbrev then2→then1 : tie.Then2 → tie.Then1
+then2→then1 c = c .before .before
+
+abbrev then2→formed : tie.Then2 → tie.After-formed
+then2→formed c = then1→formed (then2→then1 c)
+
 sums-to-zero-requires : tie.Need-sums-to-zero-requires
-sums-to-zero-requires c κs = omega (arith, formed-long (now (c .before .before .before .args .line)) (sym (c .before .formed .ensures) ∙ c .if1 .taken))
+sums-to-zero-requires c κs =
+    omega (arith, formed-long (now (then1→formed c .before .before .args .line)) (sym (then1→formed c .formed .ensures) ∙ c .if1 .taken))
 
 returns : tie.Need-returns
 unfolding causeOf
-returns c = rw (sym (c .before .before .before .formed .ensures) ∙ c .before .before .if1 .taken, sym (c .before .sums-to-zero .ensures) ∙ c .if2 .taken) refl
+returns c = rw (sym (then2→formed c .formed .ensures) ∙ then2→then1 c .if1 .taken, sym (c .before .sums-to-zero .ensures) ∙ c .if2 .taken) refl
 
 returns-2 : tie.Need-returns-2
 unfolding causeOf
-returns-2 c = rw (sym (c .before .before .before .formed .ensures) ∙ c .before .before .if1 .taken, sym (c .before .sums-to-zero .ensures) ∙ c .if2 .left) refl
+returns-2 c = rw (sym (else2→formed c .formed .ensures) ∙ else2→then1 c .if1 .taken, sym (c .before .sums-to-zero .ensures) ∙ c .if2 .left) refl
 
 returns-3 : tie.Need-returns-3
 unfolding causeOf

@@ -8,11 +8,22 @@ use borrow.Author.Needs.{needs}
 use Rattle.hex.proofs.checked_line.Statement.{statement}
 use Rattle.hex.proofs.checked_line.Tie as tie
 
+-- places: `a→b` leads from the record of the place a back to that of the place b
+abbrev then1→formed : tie.Then1 → tie.After-formed
+then1→formed c = c .before
+
+abbrev sums-to-zero→then1 : tie.After-sums-to-zero → tie.Then1
+sums-to-zero→then1 c = c .before
+
+abbrev sums-to-zero→formed : tie.After-sums-to-zero → tie.After-formed
+sums-to-zero→formed c = then1→formed (sums-to-zero→then1 c)
+
 formed-requires : tie.Need-formed-requires
 formed-requires c κs = search needs
 
 sums-to-zero-requires : tie.Need-sums-to-zero-requires
-sums-to-zero-requires c κs = omega (arith, formed-long (now (c .before .before .before .args .line)) (sym (c .before .formed .ensures) ∙ c .if1 .taken))
+sums-to-zero-requires c κs =
+    omega (arith, formed-long (now (then1→formed c .before .before .args .line)) (sym (then1→formed c .formed .ensures) ∙ c .if1 .taken))
 
 expected-requires : tie.Need-expected-requires
 expected-requires c κs = search needs
@@ -22,9 +33,9 @@ unfolding checkedLineOf
 returns c =
     let at-then2 = c .before .before in
     let at-sums-to-zero = at-then2 .before in
-    let at-formed = at-sums-to-zero .before .before in
+    let at-formed = sums-to-zero→formed at-sums-to-zero in
     rw (
-      sym (at-formed .formed .ensures) ∙ at-sums-to-zero .before .if1 .taken,
+      sym (at-formed .formed .ensures) ∙ sums-to-zero→then1 at-sums-to-zero .if1 .taken,
       sym (at-sums-to-zero .sums-to-zero .ensures)
           ∙ at-then2 .if2 .taken,
       sym (c .before .expected .ensures) ∙ c .if3 .taken,
@@ -35,9 +46,9 @@ unfolding checkedLineOf
 returns-2 c =
     let at-then2 = c .before .before in
     let at-sums-to-zero = at-then2 .before in
-    let at-formed = at-sums-to-zero .before .before in
+    let at-formed = sums-to-zero→formed at-sums-to-zero in
     rw (
-      sym (at-formed .formed .ensures) ∙ at-sums-to-zero .before .if1 .taken,
+      sym (at-formed .formed .ensures) ∙ sums-to-zero→then1 at-sums-to-zero .if1 .taken,
       sym (at-sums-to-zero .sums-to-zero .ensures)
           ∙ at-then2 .if2 .taken,
       sym (c .before .expected .ensures) ∙ c .if3 .left,
@@ -47,7 +58,7 @@ returns-3 : tie.Need-returns-3
 unfolding checkedLineOf
 returns-3 c =
     let at-then1 = c .before .before in
-    rw (sym (at-then1 .before .formed .ensures) ∙ at-then1 .if1 .taken, sym (c .before .sums-to-zero .ensures) ∙ c .if2 .left) refl
+    rw (sym (then1→formed at-then1 .formed .ensures) ∙ at-then1 .if1 .taken, sym (c .before .sums-to-zero .ensures) ∙ c .if2 .left) refl
 
 returns-4 : tie.Need-returns-4
 unfolding checkedLineOf

@@ -14,35 +14,50 @@ use Rattle.hex.proofs.export_label.Statement.{statement}
 use Rattle.hex.proofs.export_label.Tie as tie
 
 -- places: `a→b` leads from the record of the place a back to that of the place b
-abbrev both-accepted→start : tie.After-both-accepted → tie.Start
-both-accepted→start c = c .before .before .before
+abbrev then1→both-accepted : tie.Then1 → tie.After-both-accepted
+then1→both-accepted c = c .before
 
 abbrev then1→start : tie.Then1 → tie.Start
-then1→start c = both-accepted→start (c .before)
+then1→start c = then1→both-accepted c .before .before .before
+
+abbrev shared-slice-known3→then1 : tie.After-shared-slice-known3 → tie.Then1
+shared-slice-known3→then1 c = c .before
 
 abbrev shared-slice-known3→both-accepted : tie.After-shared-slice-known3 → tie.After-both-accepted
-shared-slice-known3→both-accepted c = c .before .before
+shared-slice-known3→both-accepted c = then1→both-accepted (shared-slice-known3→then1 c)
 
 abbrev shared-slice-known3→start : tie.After-shared-slice-known3 → tie.Start
-shared-slice-known3→start c = both-accepted→start (shared-slice-known3→both-accepted c)
+shared-slice-known3→start c = then1→start (shared-slice-known3→then1 c)
 
 abbrev else2→then1 : tie.Else2 → tie.Then1
-else2→then1 c = c .before .before
+else2→then1 c = shared-slice-known3→then1 (c .before)
+
+abbrev else2→both-accepted : tie.Else2 → tie.After-both-accepted
+else2→both-accepted c = then1→both-accepted (else2→then1 c)
 
 abbrev else2→start : tie.Else2 → tie.Start
 else2→start c = then1→start (else2→then1 c)
 
 abbrev then2→then1 : tie.Then2 → tie.Then1
-then2→then1 c = c .before .before
+then2→then1 c = shared-slice-known3→then1 (c .before)
+
+abbrev then2→both-accepted : tie.Then2 → tie.After-both-accepted
+then2→both-accepted c = then1→both-accepted (then2→then1 c)
 
 abbrev then2→start : tie.Then2 → tie.Start
 then2→start c = then1→start (then2→then1 c)
 
 abbrev result→then1 : tie.After-result → tie.Then1
-result→then1 c = c .before .before .before
+result→then1 c = then2→then1 (c .before)
+
+abbrev result→both-accepted : tie.After-result → tie.After-both-accepted
+result→both-accepted c = then1→both-accepted (result→then1 c)
 
 abbrev result→start : tie.After-result → tie.Start
 result→start c = then1→start (result→then1 c)
+
+abbrev result2→then1 : tie.After-result2 → tie.Then1
+result2→then1 c = else2→then1 (c .before)
 
 both-accepted-requires : tie.Need-both-accepted-requires
 both-accepted-requires c κs = search needs
@@ -52,7 +67,7 @@ shared-slice-read-if2 c =
     omega (
       arith,
       pack-sized (now (shared-slice-known3→start c .args .pack)) (now (shared-slice-known3→start c .args .factory))
-          (sym (shared-slice-known3→both-accepted c .both-accepted .ensures) ∙ c .before .if1 .taken),
+          (sym (shared-slice-known3→both-accepted c .both-accepted .ensures) ∙ shared-slice-known3→then1 c .if1 .taken),
     )
 
 sub-result : tie.Need-sub-result
@@ -66,7 +81,7 @@ part-result-end c =
     omega (
       arith,
       pack-sized (now (then2→start c .args .pack)) (now (then2→start c .args .factory))
-          (sym (then2→then1 c .before .both-accepted .ensures) ∙ then2→then1 c .if1 .taken),
+          (sym (then2→both-accepted c .both-accepted .ensures) ∙ then2→then1 c .if1 .taken),
     )
 
 -- the label is the pack's where block 0 is locked there
@@ -81,7 +96,7 @@ locked c = eq-eqb _ _ (c .if2 .taken)
 returns : tie.Need-returns
 returns c =
     let a = result→start c .args in
-    sym (own (now (a .pack)) (now (a .factory)) (sym (result→then1 c .before .both-accepted .ensures) ∙ result→then1 c .if1 .taken) (locked (c .before)))
+    sym (own (now (a .pack)) (now (a .factory)) (sym (result→both-accepted c .both-accepted .ensures) ∙ result→then1 c .if1 .taken) (locked (c .before)))
 
 sub-result-2 : tie.Need-sub-result-2
 sub-result-2 c = search needs
@@ -94,14 +109,14 @@ part-result-end-2 c =
     omega (
       arith,
       factory-sized (now (else2→start c .args .pack)) (now (else2→start c .args .factory))
-          (sym (else2→then1 c .before .both-accepted .ensures) ∙ else2→then1 c .if1 .taken),
+          (sym (else2→both-accepted c .both-accepted .ensures) ∙ else2→then1 c .if1 .taken),
     )
 
 returns-2 : tie.Need-returns-2
 unfolding exportLabel
 returns-2 c =
-    let at-then1 = c .before .before .before in
-    rw (sym (at-then1 .before .both-accepted .ensures) ∙ at-then1 .if1 .taken, ne-eqb _ _ (c .before .if2 .left)) refl
+    let at-then1 = result2→then1 c in
+    rw (sym (then1→both-accepted at-then1 .both-accepted .ensures) ∙ at-then1 .if1 .taken, ne-eqb _ _ (c .before .if2 .left)) refl
 
 sub-result-3 : tie.Need-sub-result-3
 sub-result-3 c = search needs

@@ -20,38 +20,44 @@ abbrev μ-loop : tie.MeasureT-loop
 μ-loop text number₀ at₀ number at = length text - at
 
 -- places: `a→b` leads from the record of the place a back to that of the place b
-abbrev checked-line-arg→line-end : tie.After-checked-line-arg Inv-loop μ-loop → tie.After-line-end Inv-loop μ-loop
-checked-line-arg→line-end c = c .before
+abbrev after-loop→start : tie.After-loop Inv-loop μ-loop → tie.Start Inv-loop μ-loop
+after-loop→start c = c .before .before .before
+
+abbrev line-end→loop : tie.After-line-end Inv-loop μ-loop → tie.At-loop Inv-loop μ-loop
+line-end→loop c = c .before .before
+
+abbrev checked-line→line-end : tie.After-checked-line Inv-loop μ-loop → tie.After-line-end Inv-loop μ-loop
+checked-line→line-end c = c .before .before
+
+abbrev enum-told→checked-line : tie.After-enum-told Inv-loop μ-loop → tie.After-checked-line Inv-loop μ-loop
+enum-told→checked-line c = c .before .before
 
 abbrev enum-told→line-end : tie.After-enum-told Inv-loop μ-loop → tie.After-line-end Inv-loop μ-loop
-enum-told→line-end c = checked-line-arg→line-end (c .before .before .before)
-
-abbrev checked-line-arg→loop : tie.After-checked-line-arg Inv-loop μ-loop → tie.At-loop Inv-loop μ-loop
-checked-line-arg→loop c = c .before .before .before
+enum-told→line-end c = checked-line→line-end (enum-told→checked-line c)
 
 abbrev enum-told→loop : tie.After-enum-told Inv-loop μ-loop → tie.At-loop Inv-loop μ-loop
-enum-told→loop c = checked-line-arg→loop (c .before .before .before)
+enum-told→loop c = line-end→loop (enum-told→line-end c)
+
+abbrev enum-told2→checked-line : tie.After-enum-told2 Inv-loop μ-loop → tie.After-checked-line Inv-loop μ-loop
+enum-told2→checked-line c = c .before .before
 
 abbrev enum-told2→line-end : tie.After-enum-told2 Inv-loop μ-loop → tie.After-line-end Inv-loop μ-loop
-enum-told2→line-end c = checked-line-arg→line-end (c .before .before .before)
+enum-told2→line-end c = checked-line→line-end (enum-told2→checked-line c)
 
 abbrev cause-of-arg→line-end : tie.After-cause-of-arg Inv-loop μ-loop → tie.After-line-end Inv-loop μ-loop
 cause-of-arg→line-end c = enum-told2→line-end (c .before)
 
-abbrev match-keys2→loop : tie.At-match-keys2 Inv-loop μ-loop → tie.At-loop Inv-loop μ-loop
-match-keys2→loop c = checked-line-arg→loop (c .before .before)
-
-abbrev cause-of→loop : tie.After-cause-of Inv-loop μ-loop → tie.At-loop Inv-loop μ-loop
-cause-of→loop c = match-keys2→loop (c .before .before .before)
-
-abbrev cause-of→line-end : tie.After-cause-of Inv-loop μ-loop → tie.After-line-end Inv-loop μ-loop
-cause-of→line-end c = cause-of-arg→line-end (c .before)
-
-abbrev match-keys2→checked-line : tie.At-match-keys2 Inv-loop μ-loop → tie.After-checked-line Inv-loop μ-loop
-match-keys2→checked-line c = c .before
+abbrev cause-of→enum-told2 : tie.After-cause-of Inv-loop μ-loop → tie.After-enum-told2 Inv-loop μ-loop
+cause-of→enum-told2 c = c .before .before
 
 abbrev cause-of→checked-line : tie.After-cause-of Inv-loop μ-loop → tie.After-checked-line Inv-loop μ-loop
-cause-of→checked-line c = match-keys2→checked-line (c .before .before .before)
+cause-of→checked-line c = enum-told2→checked-line (cause-of→enum-told2 c)
+
+abbrev cause-of→line-end : tie.After-cause-of Inv-loop μ-loop → tie.After-line-end Inv-loop μ-loop
+cause-of→line-end c = enum-told2→line-end (cause-of→enum-told2 c)
+
+abbrev cause-of→loop : tie.After-cause-of Inv-loop μ-loop → tie.At-loop Inv-loop μ-loop
+cause-of→loop c = line-end→loop (cause-of→line-end c)
 
 loop-holds : tie.Need-loop-holds Inv-loop μ-loop
 loop-holds c = (omega arith, omega arith, refl)
@@ -76,7 +82,7 @@ loop-again c = (
   enum-told→line-end c .line-end .ensures .within,
   omega (arith, enum-told→line-end c .line-end .ensures .onward, enum-told→loop c .loop .inv .1),
   sym (flaw-good (enum-told→line-end c .line-end .ensures) (enum-told→loop c .loop .number)
-      (sym (c .before .before .checked-line .ensures) ∙ c .enum-told .given .1)) ∙ enum-told→loop c .loop .inv .2,
+      (sym (enum-told→checked-line c .checked-line .ensures) ∙ c .enum-told .given .1)) ∙ enum-told→loop c .loop .inv .2,
 )
 
 sub-cause-of : tie.Need-sub-cause-of Inv-loop μ-loop
@@ -95,12 +101,12 @@ returns : tie.Need-returns Inv-loop μ-loop
 returns c = (
   (λ i. record { line = cause-of→loop c .loop .number; cause = c .cause-of .ensures i })
       ∙ sym (flaw-bad (cause-of→line-end c .line-end .ensures) (cause-of→loop c .loop .number)
-      (sym (cause-of→checked-line c .checked-line .ensures) ∙ c .before .before .enum-told2 .given .1)) ∙ cause-of→loop c .loop .inv .2,
+      (sym (cause-of→checked-line c .checked-line .ensures) ∙ cause-of→enum-told2 c .enum-told2 .given .1)) ∙ cause-of→loop c .loop .inv .2,
   omega (arith, cause-of→line-end c .line-end .ensures .onward, cause-of→line-end c .line-end .ensures .within, cause-of→loop c .loop .inv .1),
 )
 
 returns-2 : tie.Need-returns-2 Inv-loop μ-loop
-returns-2 c = (rw (drop-of-length-le (now (c .before .before .before .args .text)) (c .loop-test .left)) at (c .before .loop .inv .2), omega arith)
+returns-2 c = (rw (drop-of-length-le (now (after-loop→start c .args .text)) (c .loop-test .left)) at (c .before .loop .inv .2), omega arith)
 
 pub first-bad-spec : {M : Type 1} → statement M
 first-bad-spec =

@@ -6,6 +6,19 @@ use borrow.Author.Needs.{needs}
 use Rattle.hex.proofs.import_answer.Statement.{statement}
 use Rattle.hex.proofs.import_answer.Tie as tie
 
+-- places: `a→b` leads from the record of the place a back to that of the place b
+abbrev enum-told→lines-answer : tie.After-enum-told → tie.After-lines-answer
+enum-told→lines-answer c = c .before .before
+
+abbrev known-told→lines-answer : tie.After-known-told → tie.After-lines-answer
+known-told→lines-answer c = c .before .before .before
+
+abbrev whole-text→enum-told : tie.After-whole-text → tie.After-enum-told
+whole-text→enum-told c = c .before
+
+abbrev whole-text→lines-answer : tie.After-whole-text → tie.After-lines-answer
+whole-text→lines-answer c = enum-told→lines-answer (whole-text→enum-told c)
+
 lines-answer-requires : tie.Need-lines-answer-requires
 lines-answer-requires c κs = search needs
 
@@ -19,9 +32,9 @@ returns : tie.Need-returns
 unfolding importAnswer
 returns c =
     let at-whole-text = c .before .before in
-    let at-lines-answer = at-whole-text .before .before .before in
+    let at-lines-answer = whole-text→lines-answer at-whole-text in
     rw (
-      sym (at-lines-answer .lines-answer .ensures) ∙ at-whole-text .before .enum-told .given .1,
+      sym (at-lines-answer .lines-answer .ensures) ∙ whole-text→enum-told at-whole-text .enum-told .given .1,
       sym (at-whole-text .whole-text .ensures)
           ∙ c .before .if1 .taken,
       lt-ltb _ _ (c .if2 .taken),
@@ -31,9 +44,9 @@ returns-2 : tie.Need-returns-2
 unfolding importAnswer
 returns-2 c =
     let at-whole-text = c .before .before in
-    let at-lines-answer = at-whole-text .before .before .before in
+    let at-lines-answer = whole-text→lines-answer at-whole-text in
     rw (
-      sym (at-lines-answer .lines-answer .ensures) ∙ at-whole-text .before .enum-told .given .1,
+      sym (at-lines-answer .lines-answer .ensures) ∙ whole-text→enum-told at-whole-text .enum-told .given .1,
       sym (at-whole-text .whole-text .ensures)
           ∙ c .before .if1 .taken,
       le-ltb _ _ (c .if2 .left),
@@ -47,14 +60,14 @@ unfolding importAnswer
 returns-3 c =
     let at-enum-told = c .before .before in
     rw (
-      sym (at-enum-told .before .before .lines-answer .ensures) ∙ at-enum-told .enum-told .given .1,
+      sym (enum-told→lines-answer at-enum-told .lines-answer .ensures) ∙ at-enum-told .enum-told .given .1,
       sym (c .before .whole-text .ensures)
           ∙ c .if1 .left,
     ) refl
 
 returns-4 : tie.Need-returns-4
 unfolding importAnswer
-returns-4 c = rw (sym (c .before .before .before .lines-answer .ensures) ∙ c .before .lines .given .1) refl
+returns-4 c = rw (sym (known-told→lines-answer c .lines-answer .ensures) ∙ c .before .lines .given .1) refl
 
 pub import-answer-spec : {M : Type 1} → statement M
 import-answer-spec =

@@ -16,26 +16,32 @@ abbrev μ-loop : tie.MeasureT-loop
 μ-loop text at end₀ end = length text - end
 
 -- places: `a→b` leads from the record of the place a back to that of the place b
+abbrev loop→start : tie.At-loop Inv-loop μ-loop → tie.Start Inv-loop μ-loop
+loop→start c = c .before
+
+abbrev after-loop→loop : tie.After-loop Inv-loop μ-loop → tie.At-loop Inv-loop μ-loop
+after-loop→loop c = c .before
+
 abbrev after-loop→start : tie.After-loop Inv-loop μ-loop → tie.Start Inv-loop μ-loop
-after-loop→start c = c .before .before
+after-loop→start c = loop→start (after-loop→loop c)
 
 abbrev else1→in-loop : tie.Else1 Inv-loop μ-loop → tie.In-loop Inv-loop μ-loop
 else1→in-loop c = c .before .before
 
 abbrev else1→loop : tie.Else1 Inv-loop μ-loop → tie.At-loop Inv-loop μ-loop
-else1→loop c = c .before .before .before
+else1→loop c = else1→in-loop c .before
 
 abbrev else1→start : tie.Else1 Inv-loop μ-loop → tie.Start Inv-loop μ-loop
-else1→start c = else1→loop c .before
+else1→start c = loop→start (else1→loop c)
 
 abbrev then1→in-loop : tie.Then1 Inv-loop μ-loop → tie.In-loop Inv-loop μ-loop
 then1→in-loop c = c .before .before
 
 abbrev then1→loop : tie.Then1 Inv-loop μ-loop → tie.At-loop Inv-loop μ-loop
-then1→loop c = c .before .before .before
+then1→loop c = then1→in-loop c .before
 
 abbrev then1→start : tie.Then1 Inv-loop μ-loop → tie.Start Inv-loop μ-loop
-then1→start c = then1→loop c .before
+then1→start c = loop→start (then1→loop c)
 
 loop-holds : tie.Need-loop-holds Inv-loop μ-loop
 loop-holds c = (omega arith, omega arith, unfed-none (now (c .args .text)) (c .args .at))
@@ -67,8 +73,8 @@ loop-again c = (
 
 returns-2 : tie.Need-returns-2 Inv-loop μ-loop
 returns-2 c =
-    line-last (now (after-loop→start c .args .text)) (after-loop→start c .args .at) (c .before .loop .end) (c .before .loop .inv .0)
-    (after-loop→start c .pre) (c .loop-test .left) (c .before .loop .inv .1) (c .before .loop .inv .2)
+    line-last (now (after-loop→start c .args .text)) (after-loop→start c .args .at) (after-loop→loop c .loop .end) (after-loop→loop c .loop .inv .0)
+    (after-loop→start c .pre) (c .loop-test .left) (after-loop→loop c .loop .inv .1) (after-loop→loop c .loop .inv .2)
 
 pub line-end-spec : {M : Type 1} → statement M
 line-end-spec =

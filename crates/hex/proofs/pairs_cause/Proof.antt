@@ -13,11 +13,20 @@ use Rattle.hex.proofs.pairs_cause.Tie as tie
 abbrev else1→start : tie.Else1 → tie.Start
 else1→start c = c .before .before .before
 
-abbrev then2→start : tie.Then2 → tie.Start
-then2→start c = else1→start (c .before .before .before)
+abbrev upper-digits→else1 : tie.After-upper-digits → tie.Else1
+upper-digits→else1 c = c .before .before
+
+abbrev else2→else1 : tie.Else2 → tie.Else1
+else2→else1 c = upper-digits→else1 (c .before)
 
 abbrev else2→start : tie.Else2 → tie.Start
-else2→start c = else1→start (c .before .before .before)
+else2→start c = else1→start (else2→else1 c)
+
+abbrev then2→else1 : tie.Then2 → tie.Else1
+then2→else1 c = upper-digits→else1 (c .before)
+
+abbrev then2→start : tie.Then2 → tie.Start
+then2→start c = else1→start (then2→else1 c)
 
 returns : tie.Need-returns
 unfolding pairsCause
@@ -27,7 +36,7 @@ returns-2 : tie.Need-returns-2
 unfolding pairsCause
 returns-2 c =
     rw (
-      ne-eqb _ _ (c .before .before .before .if1 .left),
+      ne-eqb _ _ (then2→else1 c .if1 .left),
       digits-alone (now (then2→start c .args .line)) (omega arith) (c .before .upper-digits .ensures) (c .if2 .taken),
     ) refl
 
@@ -35,7 +44,7 @@ returns-3 : tie.Need-returns-3
 unfolding pairsCause
 returns-3 c =
     rw (
-      ne-eqb _ _ (c .before .before .before .if1 .left),
+      ne-eqb _ _ (else2→else1 c .if1 .left),
       digits-alone (now (else2→start c .args .line)) (omega arith) (c .before .upper-digits .ensures) (c .if2 .left),
     ) refl
 

@@ -20,11 +20,23 @@ abbrev μ-loop : tie.MeasureT-loop
 μ-loop l out₀ at i₀ out i = 16 - i
 
 -- places: `a→b` leads from the record of the place a back to that of the place b
+abbrev loop→start : tie.At-loop Inv-loop μ-loop → tie.Start Inv-loop μ-loop
+loop→start c = c .before .before .before
+
+abbrev after-loop→loop : tie.After-loop Inv-loop μ-loop → tie.At-loop Inv-loop μ-loop
+after-loop→loop c = c .before
+
+abbrev after-loop→start : tie.After-loop Inv-loop μ-loop → tie.Start Inv-loop μ-loop
+after-loop→start c = loop→start (after-loop→loop c)
+
+abbrev byte-in→in-loop : tie.After-byte-in Inv-loop μ-loop → tie.In-loop Inv-loop μ-loop
+byte-in→in-loop c = c .before
+
 abbrev byte-in→loop : tie.After-byte-in Inv-loop μ-loop → tie.At-loop Inv-loop μ-loop
-byte-in→loop c = c .before .before
+byte-in→loop c = byte-in→in-loop c .before
 
 abbrev byte-in→start : tie.After-byte-in Inv-loop μ-loop → tie.Start Inv-loop μ-loop
-byte-in→start c = byte-in→loop c .before .before .before
+byte-in→start c = loop→start (byte-in→loop c)
 
 loop-holds : tie.Need-loop-holds Inv-loop μ-loop
 loop-holds c = (omega arith, refl, rw add-zero refl)
@@ -52,24 +64,23 @@ loop-again c =
     let l = now (byte-in→start c .args .line) in
     let i = byte-in→loop c .loop .i in
     let at = byte-in→start c .args .at in
-    let byte = c .byte-in .ensures ∙ data-at l i (c .before .loop-test .taken) in (
-      omega (arith, c .before .loop-test .taken),
+    let byte = c .byte-in .ensures ∙ data-at l i (byte-in→in-loop c .loop-test .taken) in (
+      omega (arith, byte-in→in-loop c .loop-test .taken),
       length-set (byte-in→loop c .loop .out) (at + i) (c .byte-in .result) ∙ byte-in→loop c .loop .inv .1,
       ap (λ (b : ℕ). put (set (byte-in→loop c .loop .out) (at + i) b) (at + (i + 1)) (drop (i + 1) (dataIn l))) byte
           ∙ sym (put-more (byte-in→loop c .loop .out) (dataIn l) at i
-          (omega (arith, c .before .loop-test .taken, data-length l (byte-in→start c .pre .0)))) ∙ byte-in→loop c .loop .inv .2,
+          (omega (arith, byte-in→in-loop c .loop-test .taken, data-length l (byte-in→start c .pre .0)))) ∙ byte-in→loop c .loop .inv .2,
     )
 
 same-length : tie.Need-same-length Inv-loop μ-loop
-same-length c = c .before .loop .inv .1
+same-length c = after-loop→loop c .loop .inv .1
 
 returns : tie.Need-returns Inv-loop μ-loop
 returns c =
-    let at-shared-slice-known = c .before .before .before in
-    let at-start = at-shared-slice-known .before in
-    let none = drop-of-length-le (dataIn (now (at-start .args .line))) {i = c .before .loop .i}
+    let at-start = after-loop→start c in
+    let none = drop-of-length-le (dataIn (now (at-start .args .line))) {i = after-loop→loop c .loop .i}
     (omega (arith, data-length (now (at-start .args .line)) (at-start .pre .0), c .loop-test .left)) in
-    rw none at (c .before .loop .inv .2)
+    rw none at (after-loop→loop c .loop .inv .2)
 
 pub put-data-spec : {M : Type 1} → statement M
 put-data-spec =

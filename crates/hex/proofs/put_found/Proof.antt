@@ -26,14 +26,20 @@ abbrev μ-loop : tie.MeasureT-loop
 abbrev loop→start : tie.At-loop Inv-loop μ-loop → tie.Start Inv-loop μ-loop
 loop→start c = c .before .before .before
 
+abbrev after-loop→loop : tie.After-loop Inv-loop μ-loop → tie.At-loop Inv-loop μ-loop
+after-loop→loop c = c .before
+
 abbrev after-loop→start : tie.After-loop Inv-loop μ-loop → tie.Start Inv-loop μ-loop
-after-loop→start c = loop→start (c .before)
+after-loop→start c = loop→start (after-loop→loop c)
 
 abbrev line-end→loop : tie.After-line-end Inv-loop μ-loop → tie.At-loop Inv-loop μ-loop
 line-end→loop c = c .before .before
 
+abbrev address-in→line-end : tie.After-address-in Inv-loop μ-loop → tie.After-line-end Inv-loop μ-loop
+address-in→line-end c = c .before .before
+
 abbrev else1→line-end : tie.Else1 Inv-loop μ-loop → tie.After-line-end Inv-loop μ-loop
-else1→line-end c = c .before .before .before
+else1→line-end c = address-in→line-end (c .before)
 
 abbrev else1→loop : tie.Else1 Inv-loop μ-loop → tie.At-loop Inv-loop μ-loop
 else1→loop c = line-end→loop (else1→line-end c)
@@ -42,7 +48,7 @@ abbrev else1→start : tie.Else1 Inv-loop μ-loop → tie.Start Inv-loop μ-loop
 else1→start c = loop→start (else1→loop c)
 
 abbrev then1→line-end : tie.Then1 Inv-loop μ-loop → tie.After-line-end Inv-loop μ-loop
-then1→line-end c = c .before .before .before
+then1→line-end c = address-in→line-end (c .before)
 
 abbrev put-data-arg2→then1 : tie.After-put-data-arg2 Inv-loop μ-loop → tie.Then1 Inv-loop μ-loop
 put-data-arg2→then1 c = c .before .before
@@ -60,10 +66,7 @@ abbrev slice-known2→put-data : tie.After-slice-known2 Inv-loop μ-loop → tie
 slice-known2→put-data c = c .before .before
 
 abbrev slice-known2→then1 : tie.After-slice-known2 Inv-loop μ-loop → tie.Then1 Inv-loop μ-loop
-slice-known2→then1 c = put-data-arg2→then1 (c .before .before .before)
-
-abbrev slice-known2→address-in : tie.After-slice-known2 Inv-loop μ-loop → tie.After-address-in Inv-loop μ-loop
-slice-known2→address-in c = slice-known2→then1 c .before
+slice-known2→then1 c = put-data-arg2→then1 (slice-known2→put-data c .before)
 
 abbrev slice-known2→line-end : tie.After-slice-known2 Inv-loop μ-loop → tie.After-line-end Inv-loop μ-loop
 slice-known2→line-end c = then1→line-end (slice-known2→then1 c)
@@ -118,7 +121,7 @@ same-length c = slice-known2→put-data c .put-data .kept .1 .0 ∙ ap length (s
 
 returns : tie.Need-returns Inv-loop μ-loop
 returns c =
-    let same = ap (λ (x : ℕ). eqb x (slice-known2→start c .args .address)) (sym (slice-known2→address-in c .address-in .ensures))
+    let same = ap (λ (x : ℕ). eqb x (slice-known2→start c .args .address)) (sym (slice-known2→then1 c .before .address-in .ensures))
     ∙ eq-eqb _ _ (slice-known2→then1 c .if1 .taken) in
     let found = sym (data-here (slice-known2→line-end c .line-end .ensures) (slice-known2→start c .args .address) same)
     ∙ slice-known2→loop c .loop .inv .2 in
@@ -139,14 +142,14 @@ loop-again c =
     )
 
 same-length-2 : tie.Need-same-length-2 Inv-loop μ-loop
-same-length-2 c = ap length (c .before .loop .inv .1)
+same-length-2 c = ap length (after-loop→loop c .loop .inv .1)
 
 returns-2 : tie.Need-returns-2 Inv-loop μ-loop
 returns-2 c =
-    let none : drop (c .before .loop .at) (now (after-loop→start c .args .text))
-    ≡ [] = drop-of-length-le (now (after-loop→start c .args .text)) {i = c .before .loop .at} (c .loop-test .left) in
+    let none : drop (after-loop→loop c .loop .at) (now (after-loop→start c .args .text))
+    ≡ [] = drop-of-length-le (now (after-loop→start c .args .text)) {i = after-loop→loop c .loop .at} (c .loop-test .left) in
     let empty = ap (λ (s : List ℕ). length (dataAt (after-loop→start c .args .address) (textLines s))) (sym none)
-    ∙ ap length (c .before .loop .inv .2) in
+    ∙ ap length (after-loop→loop c .loop .inv .2) in
     absurd (omega (arith, empty, after-loop→start c .pre .0))
 
 pub put-found-spec : {M : Type 1} → statement M

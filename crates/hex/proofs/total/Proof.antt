@@ -17,14 +17,23 @@ abbrev μ-loop : tie.MeasureT-loop
 μ-loop bytes sum₀ i₀ sum i = length bytes - i
 
 -- places: `a→b` leads from the record of the place a back to that of the place b
+abbrev loop→start : tie.At-loop Inv-loop μ-loop → tie.Start Inv-loop μ-loop
+loop→start c = c .before .before
+
+abbrev after-loop→loop : tie.After-loop Inv-loop μ-loop → tie.At-loop Inv-loop μ-loop
+after-loop→loop c = c .before
+
+abbrev after-loop→start : tie.After-loop Inv-loop μ-loop → tie.Start Inv-loop μ-loop
+after-loop→start c = loop→start (after-loop→loop c)
+
 abbrev wrapping-add-u8→in-loop : tie.After-wrapping-add-u8 Inv-loop μ-loop → tie.In-loop Inv-loop μ-loop
 wrapping-add-u8→in-loop c = c .before .before
 
 abbrev wrapping-add-u8→loop : tie.After-wrapping-add-u8 Inv-loop μ-loop → tie.At-loop Inv-loop μ-loop
-wrapping-add-u8→loop c = c .before .before .before
+wrapping-add-u8→loop c = wrapping-add-u8→in-loop c .before
 
 abbrev wrapping-add-u8→start : tie.After-wrapping-add-u8 Inv-loop μ-loop → tie.Start Inv-loop μ-loop
-wrapping-add-u8→start c = wrapping-add-u8→loop c .before .before
+wrapping-add-u8→start c = loop→start (wrapping-add-u8→loop c)
 
 loop-holds : tie.Need-loop-holds Inv-loop μ-loop
 loop-holds c = (omega arith, omega arith, omega arith)
@@ -57,8 +66,8 @@ returns : tie.Need-returns Inv-loop μ-loop
 returns c =
     omega (
       arith,
-      c .before .loop .inv .1,
-      rw (drop-of-length-le (now (c .before .before .before .args .bytes)) (c .loop-test .left)) at (c .before .loop .inv .2),
+      after-loop→loop c .loop .inv .1,
+      rw (drop-of-length-le (now (after-loop→start c .args .bytes)) (c .loop-test .left)) at (after-loop→loop c .loop .inv .2),
     )
 
 pub total-spec : {M : Type 1} → statement M

@@ -19,20 +19,26 @@ abbrev μ-loop : tie.MeasureT-loop
 μ-loop text sum₀ i₀ sum i = length text - i
 
 -- places: `a→b` leads from the record of the place a back to that of the place b
-abbrev after-loop→start : tie.After-loop Inv-loop μ-loop → tie.Start Inv-loop μ-loop
-after-loop→start c = c .before .before .before
+abbrev loop→start : tie.At-loop Inv-loop μ-loop → tie.Start Inv-loop μ-loop
+loop→start c = c .before .before
 
-abbrev upper-byte→in-loop : tie.After-upper-byte Inv-loop μ-loop → tie.In-loop Inv-loop μ-loop
-upper-byte→in-loop c = c .before .before .before
+abbrev after-loop→loop : tie.After-loop Inv-loop μ-loop → tie.At-loop Inv-loop μ-loop
+after-loop→loop c = c .before
+
+abbrev after-loop→start : tie.After-loop Inv-loop μ-loop → tie.Start Inv-loop μ-loop
+after-loop→start c = loop→start (after-loop→loop c)
+
+abbrev wrapping-add-u8→upper-byte : tie.After-wrapping-add-u8 Inv-loop μ-loop → tie.After-upper-byte Inv-loop μ-loop
+wrapping-add-u8→upper-byte c = c .before
 
 abbrev wrapping-add-u8→in-loop : tie.After-wrapping-add-u8 Inv-loop μ-loop → tie.In-loop Inv-loop μ-loop
-wrapping-add-u8→in-loop c = upper-byte→in-loop (c .before)
+wrapping-add-u8→in-loop c = wrapping-add-u8→upper-byte c .before .before .before
 
 abbrev wrapping-add-u8→loop : tie.After-wrapping-add-u8 Inv-loop μ-loop → tie.At-loop Inv-loop μ-loop
 wrapping-add-u8→loop c = wrapping-add-u8→in-loop c .before
 
 abbrev wrapping-add-u8→start : tie.After-wrapping-add-u8 Inv-loop μ-loop → tie.Start Inv-loop μ-loop
-wrapping-add-u8→start c = wrapping-add-u8→loop c .before .before
+wrapping-add-u8→start c = loop→start (wrapping-add-u8→loop c)
 
 loop-holds : tie.Need-loop-holds Inv-loop μ-loop
 loop-holds c = (omega arith, omega arith, omega arith)
@@ -69,7 +75,7 @@ loop-again c = (
     arith,
     read-more (now (wrapping-add-u8→start c .args .text)) (wrapping-add-u8→loop c .loop .i) (wrapping-add-u8→in-loop c .loop-test .taken),
     c .wrapping-add-u8 .ensures,
-    c .before .upper-byte .ensures,
+    wrapping-add-u8→upper-byte c .upper-byte .ensures,
     wrapping-add-u8→loop c .loop .inv .2,
   ),
 )
@@ -78,10 +84,10 @@ returns : tie.Need-returns Inv-loop μ-loop
 returns c =
     omega (
       arith,
-      read-end (drop (c .before .loop .i) (now (after-loop→start c .args .text)))
-          (omega (arith, length-drop (c .before .loop .i) (now (after-loop→start c .args .text)), c .loop-test .left)),
-      c .before .loop .inv .1,
-      c .before .loop .inv .2,
+      read-end (drop (after-loop→loop c .loop .i) (now (after-loop→start c .args .text)))
+          (omega (arith, length-drop (after-loop→loop c .loop .i) (now (after-loop→start c .args .text)), c .loop-test .left)),
+      after-loop→loop c .loop .inv .1,
+      after-loop→loop c .loop .inv .2,
     )
 
 pub total-read-spec : {M : Type 1} → statement M

@@ -19,23 +19,35 @@ slice-known→start c = c .before .before .before
 abbrev export-answer→start : tie.After-export-answer → tie.Start
 export-answer→start c = slice-known→start (c .before)
 
+abbrev enum-told→export-answer : tie.After-enum-told → tie.After-export-answer
+enum-told→export-answer c = c .before .before
+
+abbrev export-label→enum-told : tie.After-export-label → tie.After-enum-told
+export-label→enum-told c = c .before
+
 abbrev export-label→export-answer : tie.After-export-label → tie.After-export-answer
-export-label→export-answer c = c .before .before .before
+export-label→export-answer c = enum-told→export-answer (export-label→enum-told c)
 
 abbrev export-label→start : tie.After-export-label → tie.Start
 export-label→start c = export-answer→start (export-label→export-answer c)
 
+abbrev known-told→export-answer : tie.After-known-told → tie.After-export-answer
+known-told→export-answer c = c .before .before .before
+
 abbrev put-text-arg2→export-label : tie.After-put-text-arg2 → tie.After-export-label
 put-text-arg2→export-label c = c .before .before
+
+abbrev put-text-arg2→enum-told : tie.After-put-text-arg2 → tie.After-enum-told
+put-text-arg2→enum-told c = export-label→enum-told (put-text-arg2→export-label c)
 
 abbrev put-text-arg2→export-answer : tie.After-put-text-arg2 → tie.After-export-answer
 put-text-arg2→export-answer c = export-label→export-answer (put-text-arg2→export-label c)
 
 abbrev put-text-arg2→start : tie.After-put-text-arg2 → tie.Start
-put-text-arg2→start c = export-answer→start (put-text-arg2→export-answer c)
+put-text-arg2→start c = export-label→start (put-text-arg2→export-label c)
 
 abbrev put-text→export-label : tie.After-put-text → tie.After-export-label
-put-text→export-label c = c .before .before .before
+put-text→export-label c = put-text-arg2→export-label (c .before)
 
 abbrev put-text→start : tie.After-put-text → tie.Start
 put-text→start c = export-label→start (put-text→export-label c)
@@ -58,7 +70,8 @@ part-put-text-start c = search needs
 part-put-text-end : tie.Need-part-put-text-end
 part-put-text-end c =
     let g = granted (now (export-label→start c .args .pack)) (now (export-label→start c .args .factory))
-    (length (now (export-label→start c .args .room))) (sym (export-label→export-answer c .export-answer .ensures) ∙ c .before .enum-told .given .1) in
+    (length (now (export-label→start c .args .room)))
+    (sym (export-label→export-answer c .export-answer .ensures) ∙ export-label→enum-told c .enum-told .given .1) in
     omega (arith, pack-sized (now (export-label→start c .args .pack)) (now (export-label→start c .args .factory)) (g .0))
 
 put-text-requires : tie.Need-put-text-requires
@@ -66,7 +79,7 @@ put-text-requires c κs =
     let pack = now (put-text-arg2→start c .args .pack) in
     let factory = now (put-text-arg2→start c .args .factory) in
     let g = granted pack factory (length (now (put-text-arg2→start c .args .room)))
-    (sym (put-text-arg2→export-answer c .export-answer .ensures) ∙ put-text-arg2→export-label c .before .enum-told .given .1) in
+    (sym (put-text-arg2→export-answer c .export-answer .ensures) ∙ put-text-arg2→enum-told c .enum-told .given .1) in
     (ap length (put-text-arg2→export-label c .export-label .ensures) ∙ label-sized pack factory (g .0), (block-sized pack factory (g .0), g .1))
 
 enum-known-found : tie.Need-enum-known-found
@@ -84,11 +97,10 @@ text c = c .put-text .ensures
 returns : tie.Need-returns
 returns c =
     let at-put-text = c .before .before in
-    let at-export-label = at-put-text .before .before .before in
-    let at-enum-told = at-export-label .before in
-    let at-export-answer = at-enum-told .before .before in
-    let at-shared-slice-known = at-export-answer .before .before .before in
-    let at-start = at-shared-slice-known .before in
+    let at-export-label = put-text→export-label at-put-text in
+    let at-enum-told = export-label→enum-told at-export-label in
+    let at-export-answer = enum-told→export-answer at-enum-told in
+    let at-start = export-answer→start at-export-answer in
     let a = at-start .args in
     let found = sym (at-export-answer .export-answer .ensures) ∙ at-enum-told .enum-told .given .1 in
     record {
@@ -101,7 +113,7 @@ returns c =
 
 returns-2 : tie.Need-returns-2
 returns-2 c =
-    let found = sym (c .before .before .before .export-answer .ensures) ∙ c .before .found .given .1 in
+    let found = sym (known-told→export-answer c .export-answer .ensures) ∙ c .before .found .given .1 in
     record { number = ap answerNumber (sym found); answer = sym found; written = rw found }
 
 pub write-text-spec : {M : Type 1} → statement M
