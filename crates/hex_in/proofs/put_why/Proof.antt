@@ -10,121 +10,73 @@ use Rattle.hex_in.proofs.put_why.Tie as tie
 abbrev answer-number→start : tie.After-answer-number → tie.Start
 answer-number→start c = c .before .before .before
 
-abbrev put-flaw-arg→start : tie.After-put-flaw-arg → tie.Start
-put-flaw-arg→start c = answer-number→start (c .before .before .before)
-
-abbrev slice-known2→start : tie.After-slice-known2 → tie.Start
-slice-known2→start c = put-flaw-arg→start (c .before .before .before)
-
-abbrev put-flaw-arg→enum-told : tie.After-put-flaw-arg → tie.After-enum-told
-put-flaw-arg→enum-told c = c .before
+abbrev slice-known2→put-flaw : tie.After-slice-known2 → tie.After-put-flaw
+slice-known2→put-flaw c = c .before .before
 
 abbrev slice-known2→enum-told : tie.After-slice-known2 → tie.After-enum-told
-slice-known2→enum-told c = put-flaw-arg→enum-told (c .before .before .before)
-
-abbrev put-flaw-arg→answer-number : tie.After-put-flaw-arg → tie.After-answer-number
-put-flaw-arg→answer-number c = c .before .before .before
+slice-known2→enum-told c = slice-known2→put-flaw c .before .before
 
 abbrev slice-known2→answer-number : tie.After-slice-known2 → tie.After-answer-number
-slice-known2→answer-number c = put-flaw-arg→answer-number (c .before .before .before)
+slice-known2→answer-number c = slice-known2→enum-told c .before .before
 
-abbrev match-keys2→start : tie.At-match-keys2 → tie.Start
-match-keys2→start c = answer-number→start (c .before)
+abbrev slice-known2→start : tie.After-slice-known2 → tie.Start
+slice-known2→start c = answer-number→start (slice-known2→answer-number c)
 
-abbrev put-gap-arg→start : tie.After-put-gap-arg → tie.Start
-put-gap-arg→start c = match-keys2→start (c .before .before .before)
-
-abbrev slice-known3→start : tie.After-slice-known3 → tie.Start
-slice-known3→start c = put-gap-arg→start (c .before .before .before)
-
-abbrev put-gap-arg→enum-told2 : tie.After-put-gap-arg → tie.After-enum-told2
-put-gap-arg→enum-told2 c = c .before .before
-
-abbrev slice-known3→enum-told2 : tie.After-slice-known3 → tie.After-enum-told2
-slice-known3→enum-told2 c = put-gap-arg→enum-told2 (c .before .before .before)
-
-abbrev match-keys2→answer-number : tie.At-match-keys2 → tie.After-answer-number
-match-keys2→answer-number c = c .before
-
-abbrev put-gap-arg→answer-number : tie.After-put-gap-arg → tie.After-answer-number
-put-gap-arg→answer-number c = match-keys2→answer-number (c .before .before .before)
-
-abbrev slice-known3→answer-number : tie.After-slice-known3 → tie.After-answer-number
-slice-known3→answer-number c = put-gap-arg→answer-number (c .before .before .before)
-
-abbrev put-gap-arg→first-gap : tie.After-put-gap-arg → tie.After-first-gap
-put-gap-arg→first-gap c = c .before
+abbrev slice-known3→put-gap : tie.After-slice-known3 → tie.After-put-gap
+slice-known3→put-gap c = c .before .before
 
 abbrev slice-known3→first-gap : tie.After-slice-known3 → tie.After-first-gap
-slice-known3→first-gap c = put-gap-arg→first-gap (c .before .before .before)
+slice-known3→first-gap c = slice-known3→put-gap c .before .before
 
-abbrev match-keys3→start : tie.At-match-keys3 → tie.Start
-match-keys3→start c = answer-number→start (c .before)
+abbrev slice-known3→answer-number : tie.After-slice-known3 → tie.After-answer-number
+slice-known3→answer-number c = slice-known3→first-gap c .before .before .before
 
-abbrev put-refused-arg2→start : tie.After-put-refused-arg2 → tie.Start
-put-refused-arg2→start c = match-keys3→start (c .before .before .before)
+abbrev slice-known3→start : tie.After-slice-known3 → tie.Start
+slice-known3→start c = answer-number→start (slice-known3→answer-number c)
 
-abbrev slice-known4→start : tie.After-slice-known4 → tie.Start
-slice-known4→start c = put-refused-arg2→start (c .before .before .before)
-
-abbrev put-refused-arg2→enum-told3 : tie.After-put-refused-arg2 → tie.After-enum-told3
-put-refused-arg2→enum-told3 c = c .before .before
+abbrev slice-known4→put-refused : tie.After-slice-known4 → tie.After-put-refused
+slice-known4→put-refused c = c .before .before
 
 abbrev slice-known4→enum-told3 : tie.After-slice-known4 → tie.After-enum-told3
-slice-known4→enum-told3 c = put-refused-arg2→enum-told3 (c .before .before .before)
-
-abbrev match-keys3→answer-number : tie.At-match-keys3 → tie.After-answer-number
-match-keys3→answer-number c = c .before
-
-abbrev put-refused-arg2→answer-number : tie.After-put-refused-arg2 → tie.After-answer-number
-put-refused-arg2→answer-number c = match-keys3→answer-number (c .before .before .before)
+slice-known4→enum-told3 c = slice-known4→put-refused c .before .before .before
 
 abbrev slice-known4→answer-number : tie.After-slice-known4 → tie.After-answer-number
-slice-known4→answer-number c = put-refused-arg2→answer-number (c .before .before .before)
+slice-known4→answer-number c = slice-known4→enum-told3 c .before .before
 
-abbrev match-keys4→start : tie.At-match-keys4 → tie.Start
-match-keys4→start c = answer-number→start (c .before)
+abbrev slice-known4→start : tie.After-slice-known4 → tie.Start
+slice-known4→start c = answer-number→start (slice-known4→answer-number c)
 
-abbrev put-refused-arg4→start : tie.After-put-refused-arg4 → tie.Start
-put-refused-arg4→start c = match-keys4→start (c .before .before .before)
-
-abbrev slice-known5→start : tie.After-slice-known5 → tie.Start
-slice-known5→start c = put-refused-arg4→start (c .before .before .before)
-
-abbrev put-refused-arg4→enum-told4 : tie.After-put-refused-arg4 → tie.After-enum-told4
-put-refused-arg4→enum-told4 c = c .before .before
+abbrev slice-known5→put-refused2 : tie.After-slice-known5 → tie.After-put-refused2
+slice-known5→put-refused2 c = c .before .before
 
 abbrev slice-known5→enum-told4 : tie.After-slice-known5 → tie.After-enum-told4
-slice-known5→enum-told4 c = put-refused-arg4→enum-told4 (c .before .before .before)
-
-abbrev match-keys4→answer-number : tie.At-match-keys4 → tie.After-answer-number
-match-keys4→answer-number c = c .before
-
-abbrev put-refused-arg4→answer-number : tie.After-put-refused-arg4 → tie.After-answer-number
-put-refused-arg4→answer-number c = match-keys4→answer-number (c .before .before .before)
+slice-known5→enum-told4 c = slice-known5→put-refused2 c .before .before .before
 
 abbrev slice-known5→answer-number : tie.After-slice-known5 → tie.After-answer-number
-slice-known5→answer-number c = put-refused-arg4→answer-number (c .before .before .before)
+slice-known5→answer-number c = slice-known5→enum-told4 c .before .before
+
+abbrev slice-known5→start : tie.After-slice-known5 → tie.Start
+slice-known5→start c = answer-number→start (slice-known5→answer-number c)
 
 returns : tie.Need-returns
 returns c =
     why-said (textLines (now (slice-known2→start c .args .text))) (slice-known2→enum-told c .enum-told .given .1)
-    (slice-known2→answer-number c .answer-number .ensures) (c .before .before .put-flaw .ensures)
+    (slice-known2→answer-number c .answer-number .ensures) (slice-known2→put-flaw c .put-flaw .ensures)
 
 returns-2 : tie.Need-returns-2
 returns-2 c =
-    why-said (textLines (now (slice-known3→start c .args .text))) (slice-known3→enum-told2 c .enum-told2 .given .1)
+    why-said (textLines (now (slice-known3→start c .args .text))) (slice-known3→first-gap c .before .enum-told2 .given .1)
     (slice-known3→answer-number c .answer-number .ensures) (rw (slice-known3→first-gap c .first-gap .ensures) at (c .before .before .put-gap .ensures))
 
 returns-3 : tie.Need-returns-3
 returns-3 c =
     why-said (textLines (now (slice-known4→start c .args .text))) (slice-known4→enum-told3 c .enum-told3 .given .1)
-    (slice-known4→answer-number c .answer-number .ensures) (c .before .before .put-refused .ensures)
+    (slice-known4→answer-number c .answer-number .ensures) (slice-known4→put-refused c .put-refused .ensures)
 
 returns-4 : tie.Need-returns-4
 returns-4 c =
     why-said (textLines (now (slice-known5→start c .args .text))) (slice-known5→enum-told4 c .enum-told4 .given .1)
-    (slice-known5→answer-number c .answer-number .ensures) (c .before .before .put-refused2 .ensures)
+    (slice-known5→answer-number c .answer-number .ensures) (slice-known5→put-refused2 c .put-refused2 .ensures)
 
 pub put-why-spec : {M : Type 1} → statement M
 put-why-spec =
