@@ -1,23 +1,31 @@
 -- Each theorem at the edge of its premises: one that is narrowed by one does not reach it.
-use mathlib.Core.Path.{_≡_, ap}
-use mathlib.Core.Bool.{true}
-use mathlib.Core.List.{List, [], _∷_}
-use Prim.Native.Nat.{ℕ, suc}
+use mathlib.Core.Path.{_≡_, sym, ap, subst}
+use mathlib.Core.Bool.{true, false}
+use mathlib.Core.List.{List, [], _∷_, _++_}
+use Prim.Native.Nat.{ℕ, suc, _+_, _-_, _*_, _/_, _^_, _≤_, _<_}
 use native.Mathlib.Omega.{arith}
-use lib.ListN.{length, take}
+use lib.ListN.{length, getD, take}
 use Rattle.params.specs.Params.{capacityOf}
 use Rattle.state.specs.declared.Meter.{Meter}
-use Rattle.state.specs.State.{acrOf}
-use Rattle.conversion.specs.Conversion.{correctsFull}
+use Rattle.state.specs.declared.Profile.the-variants.{Ds2775}
+use Rattle.state.specs.State.{acrOf, elapsedOf}
+use Rattle.conversion.specs.Conversion.{correctsFull, convertOf}
+use Rattle.samples.specs.Samples.{sampledOf}
 use Rattle.reading.specs.Reading.{seenIn}
 use Rattle.reading.specs.Hundred.{leftAtFull, leftIn, usableIn, Says}
 use Rattle.reading.proofs.Hundred.{hundred-holds}
 use Rattle.gauge.specs.declared.Gauge.{Gauge}
 use Rattle.gauge.specs.Image.{sizeFor}
+use Rattle.gauge.specs.Profiles.{baseMeter, edgeIn}
+use Rattle.gauge.proofs.Profiles.{only-two}
+use Rattle.record.specs.declared.Form.{Form}
 use Rattle.record.specs.declared.Form.the-variants.{Long}
+use Rattle.record.specs.declared.Change.the-variants.{Sample}
 use Rattle.record.specs.Image.{imageAging}
-use Rattle.runs.specs.Record.{whole}
-use Rattle.runs.specs.Run.{Did, linesAfter, repliesOf}
+use Rattle.runs.specs.Record.{Rec, whole, wholeOf}
+use Rattle.runs.specs.Run.{Did, linesAfter, repliesOf, outcomeNumber}
+use Rattle.runs.specs.Divided.{leftOver}
+use Rattle.runs.proofs.Divided.{divided}
 use Rattle.runs.specs.declared.Session.{Session}
 use Rattle.runs.specs.SessionRecord.{didOf, loadedWith}
 use Rattle.session_run.specs.SessionRun.{emptyOf, TakenOut}
@@ -33,14 +41,20 @@ use Rattle.hex.specs.declared.Answer.{Answer}
 use Rattle.hex.specs.declared.Answer.the-variants.{Done}
 use Rattle.hex.specs.Export.{Exporting}
 use Rattle.hex.specs.Import.{Importing}
-use Rattle.hex.specs.Theorems.{Bytes, Reordered, Returned}
+use Rattle.hex.specs.Theorems.{Reordered, Returned}
 use Rattle.hex.proofs.RoundTrip.{round-trip}
-use Rattle.demands.specs.Call.{Call, Allowed, Within, linesIn}
+use Rattle.demands.specs.Call.{Call, Allowed, Within, linesIn, SessionRun}
+use Rattle.demands.specs.History.{changed}
+use Rattle.demands.specs.Hundred.{FindsFull, by-sample}
 use Rattle.demands.specs.Slots.{Stands, AsOld}
-use Rattle.demands.specs.Longer.{reading, quarters, wholeMap}
+use Rattle.demands.specs.Longer.{formKind, reading, quarters, wholeMap}
 use Rattle.demands.specs.Programming.{Bench, benchLines, Answers}
+use Rattle.demands.proofs.Called.{runs-exist}
+use Rattle.demands.proofs.Demand1.{demand-1, tray-demand-1}
+use Rattle.demands.proofs.Numbers.{each-number-holds}
 use Rattle.demands.proofs.Demand2.{demand-2, tray-demand-2}
 use Rattle.demands.proofs.Slots.{slots-as-old}
+use Rattle.demands.proofs.EachPack.{transactions-as-plain}
 use Rattle.demands.proofs.Longer.{longer}
 
 -- DEMAND 2: an image taken out into a room of just its size, of a session and of the last slot that has a pack
@@ -86,19 +100,72 @@ pub hundred-at-1 : (k : Meter) (raw : ℕ) → correctsFull k raw ≡ true → (
 hundred-at-1 k raw found m v t acr aging full full40 one =
     hundred-holds .stays k raw found m v t (record { acr = acr; aging = aging; full = full; full40 = full40; some = omega (arith, one) })
 
+-- DEMAND 1 and THE NUMBERS: a session of 32,769 bytes, of one pack and of a tray
+abbrev OverAt : {S : Type 0} → (S → ℕ → Rec → Did S) → S → Type 0
+OverAt {S} did start = (c : Call S) → Allowed did start c → length (c .bytes) ≡ 32769 → outcomeNumber (c .ran .outcome) ≡ 1
+
+pub over-at-32769 : OverAt didOf emptyOf
+over-at-32769 c allowed size = demand-1 .over c allowed (omega (arith, size)) .0
+
+pub tray-over-at-32769 : OverAt trayDid emptyTray
+tray-over-at-32769 c allowed size = tray-demand-1 .over c allowed (omega (arith, size)) .0
+
+pub numbered-at-32769 : OverAt didOf emptyOf
+numbered-at-32769 c allowed size = each-number-holds .session .over c allowed (omega (arith, size))
+
+pub tray-numbered-at-32769 : OverAt trayDid emptyTray
+tray-numbered-at-32769 c allowed size = each-number-holds .tray .over c allowed (omega (arith, size))
+
+-- RUNS EXIST: a session of 32,768 bytes with 8,192 answers has one
+pub run-of-32768 : {S : Type 0} (did : S → ℕ → Rec → Did S) (start : S) (s room answers : List ℕ) → length s ≡ 32768 → length answers ≡ 8192
+    → SessionRun did start s room answers
+run-of-32768 did start s room answers size lent =
+    runs-exist did start .sessions s room answers (omega (arith, size)) (subst (λ (n : ℕ). (n + 3) / 4 ≤ length answers) (sym size) (omega (arith, lent)))
+
+-- READ BY READ: a read of just four bytes for each record that is answered
+pub completed-at-4 : (most : ℕ) (left read : List ℕ) → wholeOf left ≡ false → length read ≡ 4 * most → wholeOf (leftOver most (left ++ read)) ≡ false
+completed-at-4 most left read cut size = divided .completed most left read cut (omega (arith, size))
+
+-- EVERY PACK: the last of a tray, with any transaction
+pub last-pack-as-plain : (c : Call Tray) → Within trayDid emptyTray c → (room : ℕ) (f : Form) (p : List ℕ) (i : ℕ) → suc i ≡ c .ran .state .count
+    → packOf (trayDid (c .ran .state) room (whole (formKind f) p) .state) i
+    ≡ didOf (loadedWith (packOf (c .ran .state) i)) room (whole (formKind f) p) .state .gauge
+last-pack-as-plain c w room f p i last = transactions-as-plain c w room f p .pack i (omega (arith, last))
+
+-- A FULL PACK: full is found by the last conversion of a sample
+pub found-by-the-last : (g : Gauge) (raw tick i : ℕ) → suc i ≡ elapsedOf (g .meter .flow .tick) tick → correctsFull (sampledOf (g .meter) raw i) raw ≡ true
+    → FindsFull g (changed (Sample raw tick)) (leftAtFull (sampledOf (g .meter) raw i) raw)
+found-by-the-last g raw tick i last found = by-sample raw tick i (omega (arith, last)) found
+
+-- PROFILES: at the edge of blanking the counts differ where the DS2775's is 1, and where the DS2781's is one below its largest
+module _ (m : Meter) (raw : ℕ) (second : m .cells .profile ≡ Ds2775) (edge : edgeIn m raw ≡ true) (unmarked : m .charge .mark ≡ false)
+    (unfilled : correctsFull m raw ≡ false) where
+  abbrev Differ : Type 0
+  Differ = convertOf m raw .charge .count ≡ convertOf (baseMeter m) raw .charge .count → ⊥
+
+  pub differs-at-1 : convertOf m raw .charge .count ≡ 1 → convertOf (baseMeter m) raw .charge .count < 2 ^ 28 - 1 → Differ
+  differs-at-1 one low = only-two .differs m raw second edge unmarked unfilled (omega (arith, one)) low
+
+  pub differs-below-the-largest : 0 < convertOf m raw .charge .count → convertOf (baseMeter m) raw .charge .count ≡ 2 ^ 28 - 2 → Differ
+  differs-below-the-largest some high = only-two .differs m raw second edge unmarked unfilled some (omega (arith, high))
+
+-- bytes up to 255
+abbrev UpTo255 : List ℕ → Type 0
+UpTo255 s = (i : ℕ) → getD s i 0 ≤ 255
+
 -- MENDING: an acceptable image with an AS of 63, and of 128, comes out unchanged
-module _ (image : List ℕ) (bytes : Bytes image) (accepted : Accepted image) where
+module _ (image : List ℕ) (bytes : UpTo255 image) (accepted : Accepted image) where
   pub unchanged-at-63 : imageAging image ≡ 63 → mendedOf image ≡ image
   unchanged-at-63 e =
-      worth.unchanged image (record { bytes = bytes; accepted = accepted; young = omega (arith, e); old = omega (arith, e) }) .0
+      worth.unchanged image (record { bytes = λ i. omega (arith, bytes i); accepted = accepted; young = omega (arith, e); old = omega (arith, e) }) .0
 
   pub unchanged-at-128 : imageAging image ≡ 128 → mendedOf image ≡ image
   unchanged-at-128 e =
-      worth.unchanged image (record { bytes = bytes; accepted = accepted; young = omega (arith, e); old = omega (arith, e) }) .0
+      worth.unchanged image (record { bytes = λ i. omega (arith, bytes i); accepted = accepted; young = omega (arith, e); old = omega (arith, e) }) .0
 
 -- THE ROUND TRIP: into a room of just 48 bytes
-pub returned-in-48 : (pack factory room after : List ℕ) → Bytes pack → Bytes factory → Exporting pack factory room Done after
+pub returned-in-48 : (pack factory room after : List ℕ) → UpTo255 pack → UpTo255 factory → Exporting pack factory room Done after
     → (ls : List (List ℕ)) (text : List ℕ) → Reordered pack factory ls text → (lent : List ℕ) (said : Answer) (last : List ℕ) → length lent ≡ 48
     → Importing text lent said last → Returned pack factory lent said last
 returned-in-48 pack factory room after small other wrote ls text order lent said last size read =
-    round-trip pack factory room after small other wrote ls text order lent said last (omega (arith, size)) read
+    round-trip pack factory room after (λ i. omega (arith, small i)) (λ i. omega (arith, other i)) wrote ls text order lent said last (omega (arith, size)) read

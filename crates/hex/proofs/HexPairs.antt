@@ -6,7 +6,7 @@ use Rattle.record.specs.Record.{addressedOf, orderedOf, judgedAmong}
 use Rattle.hex.specs.Line.{formedOf, sumsToZero, expectedOf, checkedLineOf}
 use Rattle.hex.specs.Export.{bothAccepted, exportAnswer}
 use Rattle.hex.specs.Import.{wholeText, importAnswer}
-use Rattle.hex.specs.HexPairs.{ExportAlone, ExportImageFirst, ImportFormFirst, ImportSumFirst, ImportRecordFirst, ImportLineFirst, ImportWholeFirst}
+use Rattle.hex.specs.HexPairs.{ExportAlone, ExportImageFirst, ImportAlone, ImportFormFirst, ImportSumFirst, ImportRecordFirst, ImportLineFirst, ImportWholeFirst}
 
 pub export-alone : ExportAlone
 unfolding exportAnswer bothAccepted judgedAmong addressedOf orderedOf crc.bitOf crc.eightOf crc.nextOf
@@ -15,6 +15,10 @@ export-alone = refl
 pub export-image-first : ExportImageFirst
 unfolding exportAnswer bothAccepted judgedAmong addressedOf orderedOf crc.bitOf crc.eightOf crc.nextOf
 export-image-first = refl
+
+pub import-alone : ImportAlone
+unfolding importAnswer wholeText checkedLineOf formedOf sumsToZero expectedOf hexDigit hexValue
+import-alone = refl
 
 pub import-form-first : ImportFormFirst
 unfolding importAnswer wholeText checkedLineOf formedOf sumsToZero expectedOf hexDigit hexValue

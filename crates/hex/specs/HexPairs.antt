@@ -31,44 +31,79 @@ ExportImageFirst = exports misread blank 143 ∷ exports blank misread 143 ∷ e
 
 -- ---- import
 
--- a line that is not formed; one with a wrong checksum; a record that is not of the layout; and lines that are two of these
+-- the three records, an end record, and a text of them, in which nothing is wrong
+abbrev label : List ℕ
+label = ascii ":1000200000000000000000000000000000000000D0\n"
+
+abbrev low : List ℕ
+low = ascii ":100060000000000000000000000000000000000090\n"
+
+abbrev high : List ℕ
+high = ascii ":100070000000000000000000000000000000000080\n"
+
+abbrev ended : List ℕ
+ended = ascii ":00000001FF\n"
+
+-- without the label, a record is missing
+abbrev rest : List ℕ
+rest = low ++ (high ++ ended)
+
+abbrev complete : List ℕ
+complete = label ++ rest
+
+-- the label's line, not formed (a digit in lower case), with a wrong checksum, and both
 abbrev unformed : List ℕ
-unformed = ascii ":00000001FF"
+unformed = ascii ":1000200000000000000000000000000000000000d0\n"
 
 abbrev missummed : List ℕ
-missummed = ascii ":00000001FE\n"
-
-abbrev misplaced : List ℕ
-misplaced = ascii ":0000000000\n"
+missummed = ascii ":1000200000000000000000000000000000000000D1\n"
 
 abbrev unformedMissummed : List ℕ
-unformedMissummed = ascii ":00000001fe\n"
+unformedMissummed = ascii ":1000200000000000000000000000000000000000d1\n"
+
+-- a record that is not of the layout; not formed besides; and with a wrong checksum besides
+abbrev misplaced : List ℕ
+misplaced = ascii ":0000FF0001\n"
+
+abbrev unformedMisplaced : List ℕ
+unformedMisplaced = ascii ":0000ff0001\n"
 
 abbrev missummedMisplaced : List ℕ
-missummedMisplaced = ascii ":0000000001\n"
+missummedMisplaced = ascii ":0000FF0002\n"
 
 abbrev imports : List ℕ → ℕ → ℕ
 imports text room = answerNumber (importAnswer (textLines text) room)
 
--- each of these texts lacks records too
+-- each alone: a line not formed, a wrong checksum, a record not of the layout, a record missing, a room of 47
+abbrev pub ImportAlone : Type 0
+ImportAlone =
+    imports (unformed ++ rest) 48 ∷ imports (missummed ++ rest) 48 ∷ imports (misplaced ++ complete) 48 ∷ imports rest 48 ∷ imports complete 47
+    ∷ imports complete 48 ∷ []
+    ≡ 40 ∷ 41 ∷ 42 ∷ 43 ∷ 45 ∷ 0 ∷ []
 
--- 40 before 41, in one line, and before 43 and 45
+-- 40 before 41 and 42, in one line, and before 43 and 45
 abbrev pub ImportFormFirst : Type 0
-ImportFormFirst = imports unformedMissummed 48 ∷ imports unformed 48 ∷ imports unformed 47 ∷ [] ≡ replicate 3 40
+ImportFormFirst =
+    imports (unformedMissummed ++ rest) 48 ∷ imports (unformedMisplaced ++ complete) 48 ∷ imports (unformed ++ (low ++ ended)) 48
+    ∷ imports (unformed ++ rest) 47 ∷ []
+    ≡ replicate 4 40
 
 -- 41 before 42, in one line, and before 43 and 45
 abbrev pub ImportSumFirst : Type 0
-ImportSumFirst = imports missummedMisplaced 48 ∷ imports missummed 48 ∷ imports missummed 47 ∷ [] ≡ replicate 3 41
+ImportSumFirst =
+    imports (missummedMisplaced ++ complete) 48 ∷ imports (missummed ++ (low ++ ended)) 48 ∷ imports (missummed ++ rest) 47 ∷ [] ≡ replicate 3 41
 
 -- 42 before 43 and 45
 abbrev pub ImportRecordFirst : Type 0
-ImportRecordFirst = imports misplaced 48 ∷ imports misplaced 47 ∷ [] ≡ 42 ∷ 42 ∷ []
+ImportRecordFirst = imports (misplaced ++ rest) 48 ∷ imports (misplaced ++ complete) 47 ∷ [] ≡ 42 ∷ 42 ∷ []
 
 -- the first bad line decides, whatever the later ones have
 abbrev pub ImportLineFirst : Type 0
 ImportLineFirst =
-    imports (misplaced ++ unformed) 48 ∷ imports (misplaced ++ missummed) 48 ∷ imports (missummed ++ unformed) 48 ∷ [] ≡ replicate 2 42 ++ (41 ∷ [])
+    imports (misplaced ++ (unformed ++ rest)) 48 ∷ imports (misplaced ++ (missummed ++ rest)) 48
+    ∷ imports (missummed ++ (unformedMisplaced ++ rest)) 48 ∷ []
+    ≡ 42 ∷ 42 ∷ 41 ∷ []
 
--- 43 before 45: an empty text and a room of 47
+-- 43 before 45: a record missing, or the whole text, and a room of 47
 abbrev pub ImportWholeFirst : Type 0
-ImportWholeFirst = imports [] 47 ∷ imports [] 48 ∷ [] ≡ 43 ∷ 43 ∷ []
+ImportWholeFirst = imports rest 47 ∷ imports [] 47 ∷ [] ≡ 43 ∷ 43 ∷ []

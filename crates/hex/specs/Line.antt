@@ -93,7 +93,12 @@ expectedOf l = either (both (headedOf 0 1 l) (eqb (addressIn l) 0)) (both (heade
 
 -- "40 to 42 in that order"
 unfoldable pub checkedLineOf : List ℕ → CheckedLine
-checkedLineOf l = pick (formedOf l) (pick (sumsToZero l) (pick (expectedOf l) Good (Bad Record)) (Bad Checksum)) (Bad Form)
+checkedLineOf l =
+    pick (formedOf l)
+    (pick (sumsToZero l)
+    (pick (expectedOf l) Good (Bad Record))
+    (Bad Checksum))
+    (Bad Form)
 
 abbrev pub faultNumber : Fault → ℕ
 faultNumber Form = 40
