@@ -14,17 +14,27 @@ use borrow.Author.Needs.{needs}
 use Rattle.conversion.proofs.flowed.Statement.{statement}
 use Rattle.conversion.proofs.flowed.Tie as tie
 
+-- places: `a→b` leads from the record of the place a back to that of the place b
+abbrev traced→start : tie.After-traced → tie.Start
+traced→start c = c .before .before
+
+abbrev joined1→traced : tie.Joined1 → tie.After-traced
+joined1→traced c = c .before .before
+
+abbrev joined1→start : tie.Joined1 → tie.Start
+joined1→start c = traced→start (joined1→traced c)
+
 averaged-requires : tie.Need-averaged-requires
 averaged-requires c κs =
-    let c4 = c .before .before .before .before in
+    let c4 = joined1→start c in
     ⊎-elim (λ w. rw (w .9) (c4 .pre .average)) (λ w. rw (w .2) (c4 .pre .average)) (c .if1 .came)
 
 returns : tie.Need-returns
 unfolding flowedOf renewedOf settledOf
 returns c =
     let c1 = c .before in
-    let c3 = c1 .before .before in
-    let c5 = c3 .before .before in
+    let c3 = joined1→traced c1 in
+    let c5 = traced→start c3 in
     let a = c5 .args in
     let asked : Limits → Bool = λ p. foundOf (a .t1 .flow .average) (a .t1 .flow .since) p (a .c) in
     also MeterWF
