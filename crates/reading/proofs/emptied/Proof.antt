@@ -4,6 +4,13 @@ use borrow.Author.Needs.{needs}
 use Rattle.reading.proofs.emptied.Statement.{statement}
 use Rattle.reading.proofs.emptied.Tie as tie
 
+-- places: `a→b` leads from the record of the place a back to that of the place b
+abbrev else2→else1 : tie.Else2 → tie.Else1
+else2→else1 c = c .before
+
+abbrev and-not→else2 : tie.After-and-not → tie.Else2
+and-not→else2 c = c .before .before
+
 returns : tie.Need-returns
 unfolding emptiedOf
 returns c = simp (c .if1 .taken)
@@ -19,16 +26,16 @@ returns-3 : tie.Need-returns-3
 unfolding emptiedOf
 returns-3 c =
     let c1 = c .before in
-    let c3 = c1 .before .before in
-    let c4 = c3 .before in
+    let c3 = and-not→else2 c1 in
+    let c4 = else2→else1 c3 in
     simp (c4 .if1 .left, c3 .if2 .left, sym (c1 .and-not .ensures) ∙ c .if3 .taken)
 
 returns-4 : tie.Need-returns-4
 unfolding emptiedOf
 returns-4 c =
     let c1 = c .before in
-    let c3 = c1 .before .before in
-    let c4 = c3 .before in
+    let c3 = and-not→else2 c1 in
+    let c4 = else2→else1 c3 in
     simp (c4 .if1 .left, c3 .if2 .left, sym (c1 .and-not .ensures) ∙ c .if3 .left)
 
 pub emptied-spec : {M : Type 1} → statement M
