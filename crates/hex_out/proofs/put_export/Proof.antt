@@ -6,56 +6,41 @@ use Rattle.hex_out.proofs.put_export.Statement.{statement}
 use Rattle.hex_out.proofs.put_export.Tie as tie
 
 -- places: `a→b` leads from the record of the place a back to that of the place b
-abbrev room→else1 : tie.After-room → tie.Else1
-room→else1 c = c .before .before .before
-
-abbrev enum-told→else1 : tie.After-enum-told → tie.Else1
-enum-told→else1 c = room→else1 (c .before .before .before)
-
-abbrev room→write-text : tie.After-room → tie.After-write-text
-room→write-text c = c .before
-
-abbrev enum-told→write-text : tie.After-enum-told → tie.After-write-text
-enum-told→write-text c = room→write-text (c .before .before .before)
-
-abbrev shared-slice-known→start : tie.After-shared-slice-known → tie.Start
-shared-slice-known→start c = c .before
+abbrev else1→shared-slice-known : tie.Else1 → tie.After-shared-slice-known
+else1→shared-slice-known c = c .before .before .before
 
 abbrev else1→start : tie.Else1 → tie.Start
-else1→start c = shared-slice-known→start (c .before .before .before)
+else1→start c = else1→shared-slice-known c .before
 
-abbrev room→start : tie.After-room → tie.Start
-room→start c = else1→start (c .before .before .before)
+abbrev write-text→else1 : tie.After-write-text → tie.Else1
+write-text→else1 c = c .before .before
+
+abbrev slice-known2→write-text : tie.After-slice-known2 → tie.After-write-text
+slice-known2→write-text c = c .before .before
+
+abbrev enum-told→write-text : tie.After-enum-told → tie.After-write-text
+enum-told→write-text c = slice-known2→write-text (c .before .before)
+
+abbrev enum-told→else1 : tie.After-enum-told → tie.Else1
+enum-told→else1 c = write-text→else1 (enum-told→write-text c)
 
 abbrev enum-told→start : tie.After-enum-told → tie.Start
-enum-told→start c = room→start (c .before .before .before)
+enum-told→start c = else1→start (enum-told→else1 c)
 
-abbrev match-keys2→else1 : tie.At-match-keys2 → tie.Else1
-match-keys2→else1 c = room→else1 (c .before .before)
+abbrev slice-known3→put-why : tie.After-slice-known3 → tie.After-put-why
+slice-known3→put-why c = c .before .before
 
-abbrev put-why-arg→else1 : tie.After-put-why-arg → tie.Else1
-put-why-arg→else1 c = match-keys2→else1 (c .before .before .before)
-
-abbrev slice-known3→else1 : tie.After-slice-known3 → tie.Else1
-slice-known3→else1 c = put-why-arg→else1 (c .before .before .before)
-
-abbrev match-keys2→write-text : tie.At-match-keys2 → tie.After-write-text
-match-keys2→write-text c = c .before .before .before
-
-abbrev put-why-arg→write-text : tie.After-put-why-arg → tie.After-write-text
-put-why-arg→write-text c = match-keys2→write-text (c .before .before .before)
+abbrev slice-known3→answer : tie.After-slice-known3 → tie.After-answer
+slice-known3→answer c = slice-known3→put-why c .before .before .before
 
 abbrev slice-known3→write-text : tie.After-slice-known3 → tie.After-write-text
-slice-known3→write-text c = put-why-arg→write-text (c .before .before .before)
+slice-known3→write-text c = slice-known2→write-text (slice-known3→answer c .before .before)
+
+abbrev slice-known3→else1 : tie.After-slice-known3 → tie.Else1
+slice-known3→else1 c = write-text→else1 (slice-known3→write-text c)
 
 abbrev slice-known3→start : tie.After-slice-known3 → tie.Start
 slice-known3→start c = else1→start (slice-known3→else1 c)
-
-abbrev put-why-arg→answer : tie.After-put-why-arg → tie.After-answer
-put-why-arg→answer c = c .before .before
-
-abbrev slice-known3→answer : tie.After-slice-known3 → tie.After-answer
-slice-known3→answer c = put-why-arg→answer (c .before .before .before)
 
 returns : tie.Need-returns
 returns c = rw (c .if1 .taken) (record { stream = refl; counted = refl; written = refl })
@@ -70,7 +55,7 @@ returns-3 : tie.Need-returns-3
 returns-3 c =
     rw (slice-known3→else1 c .if1 .left)
     (refusal-said (slice-known3→write-text c .write-text .ensures) (slice-known3→start c .pre) (slice-known3→answer c .answer .given .1)
-    (c .before .before .put-why .ensures))
+    (slice-known3→put-why c .put-why .ensures))
 
 pub put-export-spec : {M : Type 1} → statement M
 put-export-spec =

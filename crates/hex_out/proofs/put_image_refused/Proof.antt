@@ -8,75 +8,36 @@ use Rattle.hex_out.proofs.put_image_refused.Statement.{statement}
 use Rattle.hex_out.proofs.put_image_refused.Tie as tie
 
 -- places: `a→b` leads from the record of the place a back to that of the place b
-abbrev judged2→taken-number : tie.After-judged2 → tie.After-taken-number
-judged2→taken-number c = c .before .before
-
-abbrev put-side-arg2→taken-number : tie.After-put-side-arg2 → tie.After-taken-number
-put-side-arg2→taken-number c = judged2→taken-number (c .before .before .before)
-
-abbrev slice-known2→taken-number : tie.After-slice-known2 → tie.After-taken-number
-slice-known2→taken-number c = put-side-arg2→taken-number (c .before .before .before)
-
-abbrev judged2→judged : tie.After-judged2 → tie.After-judged
-judged2→judged c = c .before .before .before
-
-abbrev put-side-arg2→judged : tie.After-put-side-arg2 → tie.After-judged
-put-side-arg2→judged c = judged2→judged (c .before .before .before)
-
-abbrev slice-known2→judged : tie.After-slice-known2 → tie.After-judged
-slice-known2→judged c = put-side-arg2→judged (c .before .before .before)
-
-abbrev judged2→then1 : tie.After-judged2 → tie.Then1
-judged2→then1 c = c .before
-
-abbrev put-side-arg2→then1 : tie.After-put-side-arg2 → tie.Then1
-put-side-arg2→then1 c = judged2→then1 (c .before .before .before)
-
-abbrev slice-known2→then1 : tie.After-slice-known2 → tie.Then1
-slice-known2→then1 c = put-side-arg2→then1 (c .before .before .before)
-
-abbrev put-side-arg2→taken-number2 : tie.After-put-side-arg2 → tie.After-taken-number2
-put-side-arg2→taken-number2 c = c .before .before
-
-abbrev slice-known2→taken-number2 : tie.After-slice-known2 → tie.After-taken-number2
-slice-known2→taken-number2 c = put-side-arg2→taken-number2 (c .before .before .before)
-
-abbrev put-side-arg2→judged2 : tie.After-put-side-arg2 → tie.After-judged2
-put-side-arg2→judged2 c = c .before .before .before
-
-abbrev slice-known2→judged2 : tie.After-slice-known2 → tie.After-judged2
-slice-known2→judged2 c = put-side-arg2→judged2 (c .before .before .before)
-
-abbrev put-side-arg4→else1 : tie.After-put-side-arg4 → tie.Else1
-put-side-arg4→else1 c = c .before .before
+abbrev slice-known3→put-side2 : tie.After-slice-known3 → tie.After-put-side2
+slice-known3→put-side2 c = c .before .before
 
 abbrev slice-known3→else1 : tie.After-slice-known3 → tie.Else1
-slice-known3→else1 c = put-side-arg4→else1 (c .before .before .before)
-
-abbrev put-side-arg4→taken-number : tie.After-put-side-arg4 → tie.After-taken-number
-put-side-arg4→taken-number c = c .before .before .before
+slice-known3→else1 c = slice-known3→put-side2 c .before .before .before
 
 abbrev slice-known3→taken-number : tie.After-slice-known3 → tie.After-taken-number
-slice-known3→taken-number c = put-side-arg4→taken-number (c .before .before .before)
-
-abbrev taken-number→judged : tie.After-taken-number → tie.After-judged
-taken-number→judged c = c .before
-
-abbrev put-side-arg4→judged : tie.After-put-side-arg4 → tie.After-judged
-put-side-arg4→judged c = taken-number→judged (c .before .before .before)
+slice-known3→taken-number c = slice-known3→else1 c .before
 
 abbrev slice-known3→judged : tie.After-slice-known3 → tie.After-judged
-slice-known3→judged c = put-side-arg4→judged (c .before .before .before)
+slice-known3→judged c = slice-known3→taken-number c .before
+
+abbrev slice-known2→put-side : tie.After-slice-known2 → tie.After-put-side
+slice-known2→put-side c = c .before .before
+
+abbrev slice-known2→taken-number2 : tie.After-slice-known2 → tie.After-taken-number2
+slice-known2→taken-number2 c = slice-known2→put-side c .before .before .before
+
+abbrev slice-known2→then1 : tie.After-slice-known2 → tie.Then1
+slice-known2→then1 c = slice-known2→taken-number2 c .before .before
 
 returns : tie.Need-returns
 unfolding refusedSideWords
 returns c =
     rw (
-      eq-eqb _ _ (sym (slice-known2→taken-number c .taken-number .ensures ∙ ap takenNumber (slice-known2→judged c .judged .ensures))
+      eq-eqb _ _ (sym (slice-known2→then1 c .before .taken-number .ensures ∙ ap takenNumber (slice-known2→then1 c .before .before .judged .ensures))
           ∙ slice-known2→then1 c .if1 .taken),
-      sym (slice-known2→taken-number2 c .taken-number2 .ensures ∙ ap takenNumber (slice-known2→judged2 c .judged2 .ensures)),
+      sym (slice-known2→taken-number2 c .taken-number2 .ensures ∙ ap takenNumber (slice-known2→taken-number2 c .before .judged2 .ensures)),
     )
-    (c .before .before .put-side .ensures)
+    (slice-known2→put-side c .put-side .ensures)
 
 returns-2 : tie.Need-returns-2
 unfolding refusedSideWords
@@ -86,7 +47,7 @@ returns-2 c =
           (slice-known3→taken-number c .taken-number .ensures ∙ ap takenNumber (slice-known3→judged c .judged .ensures) ∙ e)),
       sym (slice-known3→taken-number c .taken-number .ensures ∙ ap takenNumber (slice-known3→judged c .judged .ensures)),
     )
-    (c .before .before .put-side2 .ensures)
+    (slice-known3→put-side2 c .put-side2 .ensures)
 
 pub put-image-refused-spec : {M : Type 1} → statement M
 put-image-refused-spec =
