@@ -16,7 +16,9 @@ use tray_record::Tray;
 ghost use mathlib.Core.Path.{_≡_};
 ghost use Prim.Native.Nat.{_+_, _/_, _≤_, _<_};
 ghost use lib.ListN.{length};
+ghost use Rattle.runs.specs.Record.{recsOf};
 ghost use Rattle.runs.specs.Run.{Running, Runs};
+ghost use Rattle.runs.specs.Step.{StepDone};
 ghost use Rattle.state.specs.State.{imageSizeOf};
 ghost use Rattle.gauge.specs.Image.{imageOf, sizeFor};
 ghost use Rattle.tray_record.specs.Tray.{TrayWF, emptyTray, packOf, packJoined, trayDid};
@@ -47,15 +49,17 @@ fn pack_joined(before: Tray, profile: Profile, image: &[u8]) -> Tray
     tray
 }
 
-// The match on the event stands in the loop itself, where a slot's parts are taken out and stored back, so that no tray goes through a result but
-// that of an image or a transaction. A record that is cut ends the loop, and is answered behind it.
-fn run_all(bytes: &[u8], room: &mut [u8], answers: &mut [u64]) -> Ran
-    requires { ⌜ length (now bytes) ≤ 32768 ⌝ }
-    requires { ⌜ (length (now bytes) + 3) / 4 ≤ length (now answers) ⌝ }
-    ensures { λ r. ⌜ Running trayDid emptyTray (now (bytes .entry)) (now (room .entry)) (now (answers .entry)) (trayResultOf r) (now (room .exit))
+// Records, run from any tray. The match on the event stands in the loop itself, where a slot's parts are taken out and stored back, so that no tray goes
+// through a result but that of an image or a transaction. A record that is cut ends the loop, and is answered behind it.
+pub fn run_on(start: Tray, bytes: &[u8], room: &mut [u8], answers: &mut [u64]) -> Ran
+    requires { ⌜ TrayWF start ⌝ }
+    requires { ⌜ length (now bytes) ≤ 131072 ⌝ }
+    requires { ⌜ length (recsOf (now bytes)) ≤ length (now answers) ⌝ }
+    ensures { λ r. ⌜ Running trayDid start (now (bytes .entry)) (now (room .entry)) (now (answers .entry)) (trayResultOf r) (now (room .exit))
         (now (answers .exit)) ⌝ }
+    ensures kept { λ r. ⌜ TrayWF (r .tray) ⌝ }
 {
-    let mut tray = tray_record::empty();
+    let mut tray = start;
     let mut at = 0;
     let mut used = 0;
     let mut lines = 0;
@@ -145,6 +149,48 @@ fn run_all(bytes: &[u8], room: &mut [u8], answers: &mut [u64]) -> Ran
             lines: lines,
             replied: used,
         },
+    }
+}
+
+// Records, run from the tray before the first.
+fn run_all(bytes: &[u8], room: &mut [u8], answers: &mut [u64]) -> Ran
+    requires { ⌜ length (now bytes) ≤ 32768 ⌝ }
+    requires { ⌜ (length (now bytes) + 3) / 4 ≤ length (now answers) ⌝ }
+    ensures { λ r. ⌜ Running trayDid emptyTray (now (bytes .entry)) (now (room .entry)) (now (answers .entry)) (trayResultOf r) (now (room .exit))
+        (now (answers .exit)) ⌝ }
+{
+    let start = tray_record::empty();
+    run_on(start, bytes, room, answers)
+}
+
+// What one record did: the tray after it, its answer, and how many bytes of reply stand at the front of the room.
+pub struct TrayStep {
+    pub tray: Tray,
+    pub answer: u8,
+    pub replied: usize,
+}
+
+// The record at the front of some bytes, run in any tray; what stands behind it is not looked at.
+pub fn step(tray: Tray, bytes: &[u8], room: &mut [u8]) -> TrayStep
+    requires { ⌜ TrayWF tray ⌝ }
+    ensures { λ r. ⌜ StepDone trayDid tray (now (bytes .entry)) (now (room .entry)) (r .tray) (r .answer) (r .replied) (now (room .exit)) ⌝ }
+    ensures kept { λ r. ⌜ TrayWF (r .tray) ⌝ }
+{
+    if runs::whole(bytes) {
+        let end = 4 + slices::pair(bytes, 0) as usize;
+        let mut answers = [0u64; 1];
+        let ran = run_on(tray, &bytes[..end], room, &mut answers);
+        let after = ran.tray;
+        return TrayStep {
+            tray: after,
+            answer: (answers[0] / 65536 % 256) as u8,
+            replied: ran.ended.replied,
+        };
+    }
+    TrayStep {
+        tray: tray,
+        answer: 2,
+        replied: 0,
     }
 }
 

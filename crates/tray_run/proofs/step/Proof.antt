@@ -1,0 +1,98 @@
+use mathlib.Core.Path.{_≡_, refl, sym, _∙_}
+use mathlib.Core.Bool.{true}
+use Prim.Native.Nat.{ℕ, _+_}
+use native.Mathlib.Omega.{arith}
+use lib.Seq.{length-take-le}
+use denote.Ref.{now}
+use Rattle.slices.specs.Slices.{pairAt}
+use Rattle.runs.specs.Record.{cut, wholeOf}
+use Rattle.runs.specs.Run.{silently}
+use Rattle.tray_record.specs.declared.Tray.{Tray}
+use Rattle.tray_record.specs.Tray.{trayDid}
+use Rattle.runs.proofs.Records.{whole-head, whole-end}
+use Rattle.runs.proofs.Stepping.{one-line, stepped-whole, stepped-cut}
+use Rattle.tray_run.proofs.Turns.{did-fits}
+use borrow.Author.Needs.{needs}
+use Rattle.tray_run.proofs.step.Statement.{statement}
+use Rattle.tray_run.proofs.step.Tie as tie
+
+-- places: `a→b` leads from the record of the place a back to that of the place b
+abbrev whole→known : tie.After-whole → tie.After-shared-slice-known
+whole→known c = c .before .before
+
+abbrev then1→start : tie.Then1 → tie.Start
+then1→start c = whole→known (c .before) .before
+
+abbrev pair→start : tie.After-pair → tie.Start
+pair→start c = then1→start (c .before)
+
+abbrev answers→pair : tie.After-answers → tie.After-pair
+answers→pair c = c .before .before .before
+
+abbrev answers→start : tie.After-answers → tie.Start
+answers→start c = pair→start (answers→pair c)
+
+abbrev end→run-on : tie.After-after → tie.After-run-on
+end→run-on c = c .before .before .before .before
+
+-- a whole record stands at the front
+is-whole : (c : tie.Then1) → wholeOf (now (then1→start c .args .bytes)) ≡ true
+is-whole c = sym (c .before .whole .ensures) ∙ c .if1 .taken
+
+-- it ends where its length says
+ends : (c : tie.After-pair) → 4 + c .pair .result ≡ 4 + pairAt (now (pair→start c .args .bytes)) 0
+ends c = omega (arith, c .pair .ensures)
+
+pair-requires : tie.Need-pair-requires
+pair-requires c κs = omega (arith, whole-head (now (then1→start c .args .bytes)) (is-whole c))
+
+slice-aggregate-run-on : tie.Need-slice-aggregate-run-on
+slice-aggregate-run-on c =
+    let bytes = now (pair→start (c .before) .args .bytes) in
+    sym (length-take-le _ bytes (omega (arith, ends (c .before), whole-end bytes (is-whole (c .before .before)))))
+
+run-on-requires : tie.Need-run-on-requires
+run-on-requires c κs =
+    let pair = answers→pair c in
+    let bytes = now (answers→start c .args .bytes) in
+    let long = length-take-le (4 + pair .pair .result) bytes (omega (arith, ends pair, whole-end bytes (is-whole (pair .before)))) in (
+      answers→start c .pre,
+      (omega (arith, long), one-line bytes _ (is-whole (pair .before)) (ends pair)),
+    )
+
+returns : tie.Need-returns
+returns c =
+    let ran = end→run-on c in
+    let pair = answers→pair (ran .before) in
+    let first = pair .before in (
+      stepped-whole trayDid did-fits (is-whole first) (ends pair) (λ i. whole→known (first .before) .shared-slice-known .given i .fits)
+          (ran .run-on .ensures .0),
+      ran .run-on .ensures .1,
+    )
+
+cut-idle : (σ : Tray) (room : ℕ) → trayDid σ room cut ≡ silently σ 2
+unfolding trayDid
+cut-idle σ room = refl
+
+returns-2 : tie.Need-returns-2
+returns-2 c = (
+  stepped-cut trayDid did-fits (cut-idle _ _) (sym (c .before .whole .ensures) ∙ c .if1 .left),
+  whole→known (c .before) .before .pre,
+)
+
+pub step-spec : {M : Type 1} → statement M
+step-spec =
+    tie.close
+    (tie.spec
+    (λ c κs. search needs)
+    pair-requires
+    (λ c. search needs)
+    (λ c. search needs)
+    slice-aggregate-run-on
+    (λ c. search needs)
+    run-on-requires
+    (λ c. search needs)
+    (λ c. search needs)
+    (λ c. search needs)
+    returns
+    returns-2)
