@@ -49,4 +49,5 @@ pub mod Mending
 pub mod HexExample
 pub mod Functions
 pub mod Edges
+pub mod Stepwise
 pub mod Theorems

@@ -6,11 +6,12 @@ use Rattle.gauge.proofs.Profiles.{only-two}
 use Rattle.gauge.proofs.ImageAging.{pack-aging}
 use Rattle.gauge.proofs.ImageProfiles.{images-share}
 use Rattle.runs.specs.SessionRecord.{didOf}
+use Rattle.runs.proofs.Divided.{divided}
 use Rattle.session_run.specs.SessionRun.{emptyOf}
 use Rattle.tray_record.specs.Tray.{emptyTray, trayDid}
 use Rattle.mending.proofs.Worth as worth
 use Rattle.hex.proofs.RoundTrip as hex
-use Rattle.demands.specs.Theorems.{OfSessions, OfTrays, EnginesEqual, OfGauges, OfBench, OfBooks, Theorems}
+use Rattle.demands.specs.Theorems.{OfSessions, OfTrays, EnginesEqual, OfGauges, OfBench, OfBooks, OfSteps, Theorems}
 use Rattle.demands.proofs.Functions.{contracts}
 use Rattle.demands.proofs.Called.{within-or-over, runs-exist}
 use Rattle.demands.proofs.Demand1.{demand-1, tray-demand-1}
@@ -38,6 +39,7 @@ use Rattle.demands.proofs.History.{session-history, session-books, sess
 use Rattle.demands.proofs.Lives.{saved-cells-hold, own-as-holds, full-pack-holds}
 use Rattle.demands.proofs.HundredExample.{hundred-met}
 use Rattle.demands.proofs.BooksExample.{books-met, books-over-1024th, slot-books-met, eeprom-met, slot-eeprom-met}
+use Rattle.demands.proofs.Stepwise.{sessions-stepwise, trays-stepwise}
 
 sessions : OfSessions
 sessions = record {
@@ -122,5 +124,8 @@ books = record {
   slot-eeprom-met = slot-eeprom-met;
 }
 
+steps : OfSteps
+steps = record { divided = divided; sessions = sessions-stepwise; trays = trays-stepwise }
+
 pub theorems : Theorems
-theorems = record { contracts = contracts; sessions = sessions; trays = trays; gauges = gauges; bench = at-bench; books = books }
+theorems = record { contracts = contracts; sessions = sessions; trays = trays; gauges = gauges; bench = at-bench; books = books; steps = steps }

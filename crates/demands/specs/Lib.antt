@@ -22,4 +22,5 @@ pub mod Slow
 pub mod Mending
 pub mod Contracts
 pub mod RoundTrip
+pub mod Stepwise
 pub mod Theorems

@@ -16,6 +16,7 @@ use Rattle.gauge.specs.ImageAging.{PackAging}
 use Rattle.gauge.specs.ImageProfiles.{ImagesShare}
 use Rattle.runs.specs.Record.{Rec}
 use Rattle.runs.specs.Run.{Did}
+use Rattle.runs.specs.Divided.{Divided}
 use Rattle.runs.specs.SessionRecord.{didOf}
 use Rattle.session_run.specs.SessionRun.{emptyOf}
 use Rattle.tray_record.specs.Tray.{emptyTray, trayDid}
@@ -42,6 +43,7 @@ use Rattle.demands.specs.RoundTrip.{RoundTripMet}
 use Rattle.demands.specs.History.{Pack, ofGauge, ofSlot, HistoryHolds}
 use Rattle.demands.specs.Books.{FromEvents, NoWider, BooksClose, BooksMet, BooksOver1024th}
 use Rattle.demands.specs.Stored.{EepromHolds, EepromMet}
+use Rattle.demands.specs.Stepwise.{Stepwise}
 
 -- ---- document 01
 
@@ -166,6 +168,15 @@ pub record OfBooks : Type 0 where
   pub eeprom-met : EepromMet didOf emptyOf ofGauge
   pub slot-eeprom-met : EepromMet trayDid emptyTray (ofSlot 1)
 
+-- ---- one record at a time, by no paper: what a run can be divided into
+
+pub record OfSteps : Type 0 where
+  -- input that comes read by read has the records of the whole
+  pub divided : Divided
+  -- a run is its steps, and goes on from where it was stopped; no record asks more than 256 bytes of reply
+  pub sessions : Stepwise didOf 256
+  pub trays : Stepwise trayDid 256
+
 -- ---- all of them
 
 pub record Theorems : Type 0 where
@@ -175,3 +186,4 @@ pub record Theorems : Type 0 where
   pub gauges : OfGauges
   pub bench : OfBench
   pub books : OfBooks
+  pub steps : OfSteps

@@ -1,3 +1,4 @@
 pub mod Turns
 pub mod TakeOut
+pub mod OwnRoom
 pub mod Unique
