@@ -1,0 +1,23 @@
+-- The contracts of this crate's public functions leave no choice.
+use mathlib.Core.Path.{sym, _∙_}
+use Rattle.numbers.specs.Once.{Once}
+use Rattle.library.proofs.trovimbe_start
+use Rattle.library.proofs.trovimbe_record
+use Rattle.library.proofs.trovimbe_image
+
+pub trovimbe-start-once : Once «trovimbe_start».ended «trovimbe_start».Reads.Pre «trovimbe_start».Reads.Learnt
+trovimbe-start-once κs a r r′ w w′ p h h′ = (h .answered ∙ sym (h′ .answered), λ i. ((h .kept ∙ sym (h′ .kept)) i, tt))
+
+pub trovimbe-record-once : Once «trovimbe_record».ended «trovimbe_record».Reads.Pre «trovimbe_record».Reads.Learnt
+trovimbe-record-once κs a r r′ w w′ p h h′ =
+    let answer = h .answered ∙ sym (h′ .answered) in
+    let count = h .counted ∙ sym (h′ .counted) in
+    let kept = h .kept ∙ sym (h′ .kept) in
+    let written = h .written ∙ sym (h′ .written) in
+    ((λ i. record { answer = answer i; count = count i }), λ i. (kept i, (tt, (written i, tt))))
+
+pub trovimbe-image-once : Once «trovimbe_image».ended «trovimbe_image».Reads.Pre «trovimbe_image».Reads.Learnt
+trovimbe-image-once κs a r r′ w w′ p h h′ =
+    let answer = h .answered ∙ sym (h′ .answered) in
+    let count = h .counted ∙ sym (h′ .counted) in
+    ((λ i. record { answer = answer i; count = count i }), λ i. (tt, ((h .written ∙ sym (h′ .written)) i, tt)))
