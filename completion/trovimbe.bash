@@ -1,7 +1,7 @@
 # Completion of trovimbe for bash: names, then the options of the program, then files. The names and options are those of its own usage.
 _trovimbe() {
     local word=${COMP_WORDS[COMP_CWORD]} line call=''
-    local names=(help version package)
+    local names=(help version package library)
     COMPREPLY=()
     while IFS= read -r line; do
         [[ $line =~ ^'  '([a-z][a-z0-9_]*)((' '[^ ]+)*) ]] || continue

@@ -18,6 +18,11 @@ package() { # DIR
     exit 2
 }
 
+library() {
+    say "a package has no library to link: in a checkout, with the kit, $self library makes it"
+    exit 2
+}
+
 version() {
     local line
     echo "trovimbe $(<"$top/VERSION")"

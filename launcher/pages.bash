@@ -55,7 +55,8 @@ usage() {
         echo "The desk: plain programs, which are not proved:"
         listed "${desk[@]}"
     fi
-    echo "Besides: $self NAME --help (its page), help (the manual), version, package DIR (a folder for machines without the kit)."
+    echo "Besides: $self NAME --help (its page), help (the manual), version, package DIR (a folder for machines without the kit),"
+    echo "library (the gauge for programs in C)."
 }
 
 page() { # NAME

@@ -24,9 +24,9 @@ find_kit() {
 }
 
 # Leaves the files of a program in `bin`, `stamp` and `log`, and the folders of its crate and of each crate of ours below it in `folders`; a name
-# that crates.txt does not list is a library of the kit.
+# that crates.txt does not list is a library of the kit. `proves` is what rt is told, `wrought` what is done with that which it made.
 aim() { # NAME
-    name=$1
+    name=$1 proves=(check "$1") wrought=true ending='so it is not run'
     bin=$top/target/bin/$1
     stamp=$bin.stamp
     log=$top/target/trovimbe-$1.log
@@ -91,7 +91,7 @@ progress() {
 # Takes the place where a build goes, with its lock file as descriptor 9; says so where this user may not write there.
 take_place() {
     mkdir -p "$top/target/bin" 2>/dev/null && [ -w "$top/target" ] && [ -w "$top/target/bin" ] && { exec 9>"$top/target/trovimbe.lock"; } 2>/dev/null && return
-    say "$name is not proved, so it is not run: the first run writes $top/target, in which this user may not write (work in a copy of your own)"
+    say "$name is not proved, $ending: the first run writes $top/target, in which this user may not write (work in a copy of your own)"
     return 1
 }
 
@@ -106,12 +106,12 @@ build() {
     [ -x "$bin" ] || rm -f "$top/target/stamp/$name"
     rm -f "$stamp"
     if { echo "$identity" >"$stamp.begun" && : >"$log"; } then
-        (cd "$top" && exec "$rt" check "$name") </dev/null 2>&1 9>&- | follow >"$log"
-        [ "${PIPESTATUS[0]}" -ne 0 ] || { mv "$stamp.begun" "$stamp" && return; }
+        (cd "$top" && exec "$rt" "${proves[@]}") </dev/null 2>&1 9>&- | follow >"$log"
+        [ "${PIPESTATUS[0]}" -ne 0 ] || { "$wrought" && mv "$stamp.begun" "$stamp" && return; }
         printf '%s' "$wrong" >&2
         say "the whole log is $log"
     fi
-    say "$name is not proved, so it is not run"
+    say "$name is not proved, $ending"
     return 1
 }
 
