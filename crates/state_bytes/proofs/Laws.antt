@@ -1,15 +1,17 @@
 -- Laws of layouts: what was written is read again, of each part and so of the whole.
-use mathlib.Core.Path.{_≡_, refl, sym, ap, _∙_}
+use mathlib.Core.Path.{_≡_, refl, sym, ap, subst, _∙_}
 use mathlib.Core.Bool.{Bool, true, false}
-use mathlib.Core.List.{List, [], _∷_, _++_}
-use Prim.Native.Nat.{ℕ, zero, suc, _+_, _-_, _/_, _%_, _<_}
-use native.Mathlib.Nat.{add-zero, zero-add, suc-add}
+use mathlib.Core.List.{List, [], _∷_, _++_, append-assoc, append-nil}
+use Prim.Native.Nat.{ℕ, zero, suc, _+_, _-_, _*_, _/_, _%_, _<_}
+use native.Mathlib.Nat.{add-zero, zero-add, suc-add, suc-mul}
 use native.Mathlib.Omega.{arith}
+use native.Mathlib.Numerals.{add-one}
 use lib.ListN.{length, getD, take, drop, length-append}
 use lib.Seq.{take-nil, take-at, drop-at, drop-drop, getD-take, getD-drop}
 use Rattle.slices.specs.Slices.{part, put, Stored}
 use Rattle.slices.proofs.Laws.{put-next}
-use Rattle.state_bytes.specs.Layout.{Layout, number1, number2, number4, flag, flagByte, flagIn, bytes, _then_, Fields, formed}
+use Rattle.state_bytes.specs.Layout.{Layout, number1, number2, number4, flag, flagByte, flagIn, bytes, _then_, indexed, outEach, repeated, Fields}
+use Rattle.state_bytes.specs.Layout.{formed}
 
 -- ---- one behind the other, in a room
 
@@ -87,27 +89,111 @@ drop-less zero n l = ap (λ (k : ℕ). take k l) (zero-add n)
 drop-less (suc m) n [] = ap (drop (suc m)) (take-nil (suc m + n)) ∙ sym (take-nil n)
 drop-less (suc m) n (x ∷ xs) = rw (suc-add m n) (drop-less m n xs)
 
+-- what two lists joined are a part of stands there one behind the other
+part-both : (m n : ℕ) (s : List ℕ) (i : ℕ) (x y : List ℕ) → length x ≡ m → part (m + n) s i ≡ x ++ y → (part m s i ≡ x) × (part n s (i + m) ≡ y)
+part-both m n s i x y size e = (
+  sym (take-less m n (drop i s)) ∙ ap (take m) e ∙ take-at x y m size,
+  ap (take n) (sym (drop-drop m i s)) ∙ sym (drop-less m n (drop i s)) ∙ ap (drop m) e ∙ drop-at x y m size,
+)
+
 module _ {A B : Type 0} {goodA : A → Type 0} {goodB : B → Type 0} {a : Layout A} {b : Layout B} where
   pub lawful-then : Lawful goodA a → Lawful goodB b → Lawful (λ (v : A × B). goodA (v .0) × goodB (v .1)) (a then b)
   lawful-then f g = record {
     sized = λ v h. omega (arith, length-append (a .out (v .0)) (b .out (v .1)), f .sized (v .0) (h .0), g .sized (v .1) (h .1));
     back = λ s i v h e.
-        let x = a .out (v .0) in
-        let y = b .out (v .1) in
-        let size = f .sized (v .0) (h .0) in
-        let front : part (a .size) s i ≡ x =
-        sym (take-less (a .size) (b .size) (drop i s)) ∙ ap (take (a .size)) e ∙ take-at x y (a .size) size in
-        let rest : part (b .size) s (i + a .size) ≡ y =
-        ap (take (b .size)) (sym (drop-drop (a .size) i s)) ∙ sym (drop-less (a .size) (b .size) (drop i s)) ∙ ap (drop (a .size)) e
-        ∙ drop-at x y (a .size) size in
-        let p = f .back s i (v .0) (h .0) front in
-        let q = g .back s (i + a .size) (v .1) (h .1) rest in
+        let parts = part-both (a .size) (b .size) s i (a .out (v .0)) (b .out (v .1)) (f .sized (v .0) (h .0)) e in
+        let p = f .back s i (v .0) (h .0) (parts .0) in
+        let q = g .back s (i + a .size) (v .1) (h .1) (parts .1) in
         λ k. (p k, q k);
   }
 
+-- a struct, of which its fields give it back where it is good
+pub lawful-held : {A B : Type 0} {goodA : A → Type 0} {goodB : B → Type 0} {a : Layout A} (form : Fields A B)
+    → ((v : B) → goodB v → form .to (form .from v) ≡ v) → ((v : B) → goodB v → goodA (form .from v)) → Lawful goodA a → Lawful goodB (formed form a)
+lawful-held form undo good f = record {
+  sized = λ v h. f .sized (form .from v) (good v h);
+  back = λ s i v h e. ap (form .to) (f .back s i (form .from v) (good v h) e) ∙ undo v h;
+}
+
 pub lawful-formed : {A B : Type 0} {goodA : A → Type 0} {goodB : B → Type 0} {a : Layout A} (form : Fields A B) → ((v : B) → form .to (form .from v) ≡ v)
     → ((v : B) → goodB v → goodA (form .from v)) → Lawful goodA a → Lawful goodB (formed form a)
-lawful-formed form undo good f = record {
-  sized = λ v h. f .sized (form .from v) (good v h);
-  back = λ s i v h e. ap (form .to) (f .back s i (form .from v) (good v h) e) ∙ undo v;
-}
+lawful-formed form undo good f = lawful-held form (λ v h. undo v) good f
+
+-- ---- so many values
+
+-- what holds of each
+abbrev pub Each : {A : Type 0} → (A → Type 0) → List A → Type 0
+Each good [] = Unit
+Each good (v ∷ vs) = good v × Each good vs
+
+module _ {A : Type 0} {good : A → Type 0} {l : Layout A} (f : Lawful good l) where
+  each-length : (vs : List A) → Each good vs → length (outEach l vs) ≡ length vs * l .size
+  each-length [] h = sym (zero-times (l .size))
+    where
+      zero-times : (n : ℕ) → 0 * n ≡ 0
+      zero-times n = omega arith
+  each-length (v ∷ vs) h =
+      let head = f .sized v (h .0) in
+      let rest = each-length vs (h .1) in
+      omega (arith, length-append (l .out v) (outEach l vs), head, rest, suc-mul (length vs) (l .size))
+
+  -- from the value k on
+  each-back : (s : List ℕ) (i k n : ℕ) (vs : List A) → length vs ≡ n → Each good vs → part (n * l .size) s (i + k * l .size) ≡ outEach l vs
+      → indexed (λ (j : ℕ). l .at s (i + j * l .size)) k n ≡ vs
+  each-back s i k zero [] size h e = refl
+  each-back s i k (suc n) [] size h e = absurd (omega (arith, size))
+  each-back s i k zero (v ∷ vs) size h e = absurd (omega (arith, size))
+  each-back s i k (suc n) (v ∷ vs) size h e =
+      let whole : suc n * l .size ≡ l .size + n * l .size = omega (arith, suc-mul n (l .size)) in
+      let next : i + k * l .size + l .size ≡ i + (k + 1) * l .size = omega (arith, suc-mul k (l .size), add-one k) in
+      let joint = ap (λ (m : ℕ). part m s (i + k * l .size)) (sym whole) ∙ e in
+      let parts = part-both (l .size) (n * l .size) s (i + k * l .size) (l .out v) (outEach l vs) (f .sized v (h .0)) joint in
+      let head = f .back s (i + k * l .size) v (h .0) (parts .0) in
+      let behind = ap (part (n * l .size) s) (sym next) ∙ parts .1 in
+      let rest = each-back s i (k + 1) n vs (omega (arith, size)) (h .1) behind in
+      λ x. head x ∷ rest x
+
+  pub lawful-repeated : (n : ℕ) → Lawful (λ (vs : List A). (length vs ≡ n) × Each good vs) (repeated n l)
+  lawful-repeated n = record {
+    sized = λ vs h. each-length vs (h .1) ∙ ap (λ (k : ℕ). k * l .size) (h .0);
+    back = λ s i vs h e. each-back s i 0 n vs (h .0) (h .1) (ap (part (n * l .size) s) (from-first i (l .size)) ∙ e);
+  }
+    where
+      from-first : (i n : ℕ) → i + 0 * n ≡ i
+      from-first i n = omega arith
+
+-- ---- of an index
+
+module _ {A : Type 0} (f : ℕ → A) where
+  -- one more
+  indexed-next : (i n : ℕ) → indexed f i (suc n) ≡ indexed f i n ++ (f (i + n) ∷ [])
+  indexed-next i zero = ap (λ (k : ℕ). f k ∷ []) (sym (add-zero i))
+  indexed-next i (suc n) =
+      let e : i + 1 + n ≡ i + suc n = omega arith in
+      ap (λ (vs : List A). f i ∷ vs) (indexed-next (i + 1) n ∙ ap (λ (k : ℕ). indexed f (i + 1) n ++ (f k ∷ [])) e)
+
+  -- what holds of each
+  pub each-indexed : (P : A → Type 0) → ((j : ℕ) → P (f j)) → (i n : ℕ) → Each P (indexed f i n)
+  each-indexed P h i zero = tt
+  each-indexed P h i (suc n) = (h i, each-indexed P h (i + 1) n)
+
+  pub indexed-holds : (P : A → Type 0) (d : A) → P d → (i n : ℕ) → ((j : ℕ) → j < i + n → P (f j)) → (k : ℕ) → P (getD (indexed f i n) k d)
+  indexed-holds P d p i zero h k = p
+  indexed-holds P d p i (suc n) h zero = h i (omega arith)
+  indexed-holds P d p i (suc n) h (suc k) = indexed-holds P d p (i + 1) n (λ j low. h j (omega arith)) k
+
+out-both : {A : Type 0} (l : Layout A) (xs ys : List A) → outEach l (xs ++ ys) ≡ outEach l xs ++ outEach l ys
+out-both l [] ys = refl
+out-both l (x ∷ xs) ys =
+    ap (λ (r : List ℕ). l .out x ++ r) (out-both l xs ys) ∙ sym (append-assoc (l .out x) (outEach l xs) (outEach l ys))
+
+-- one value more was stored behind the others
+pub stored-next : {A : Type 0} (l : Layout A) (f : ℕ → A) {m n i : ℕ} {room before after : List ℕ} (k : ℕ)
+    → Stored m (outEach l (indexed f 0 k)) room i before → Stored n (l .out (f k)) before (i + m) after
+    → Stored (m + n) (outEach l (indexed f 0 (suc k))) room i after
+stored-next {A} l f {m} {n} {i} {room} {before} {after} k first next =
+    let more : outEach l (indexed f 0 (suc k)) ≡ outEach l (indexed f 0 k) ++ l .out (f k) =
+    ap (outEach l) (indexed-next f 0 k) ∙ out-both l (indexed f 0 k) (f (0 + k) ∷ [])
+    ∙ ap (λ (r : List ℕ). outEach l (indexed f 0 k) ++ r) (append-nil (l .out (f (0 + k))))
+    ∙ ap (λ (j : ℕ). outEach l (indexed f 0 k) ++ l .out (f j)) (zero-add k) in
+    subst (λ (vs : List ℕ). Stored (m + n) vs room i after) (sym more) (stored-then first next)

@@ -1,5 +1,9 @@
 pub mod Laws
+pub mod TrayLaws
 pub mod Undoing
+pub mod TrayUndoing
 pub mod Kept
+pub mod TrayKept
 pub mod Stepping
+pub mod TrayStepping
 pub mod Unique

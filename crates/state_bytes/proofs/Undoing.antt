@@ -299,15 +299,19 @@ passed b e =
 pub in-size : (b : List ℕ) → stateIn b .number ≡ 0 → length b ≡ stateSize
 in-size b e = passed b e .size
 
+-- the arrays of a gauge that was read have their sizes
+pub gauge-sized : (b : List ℕ) (at : ℕ) → at + 170 ≤ length b → Sized (gaugeLayout .at b at)
+gauge-sized b at h =
+    let size : (n i : ℕ) → i + n ≤ at + 170 → length (part n b i) ≡ n = λ n i inside. part-length n b i (omega arith) in
+    record {
+      address = size 8 (at + 32) (omega arith);
+      label = record { shadow = size 16 at (omega arith); eeprom = size 16 (at + 16) (omega arith) };
+      block = record { shadow = size 32 (at + 32 + 9 + 4 + 1 + 2) (omega arith); eeprom = size 32 (at + 32 + 9 + 4 + 1 + 2 + 32) (omega arith) };
+    }
+
 at-sized : (b : List ℕ) → length b ≡ stateSize → Sized (sessionAt b .gauge)
 unfolding sessionAt
-at-sized b e =
-    let size : (n at : ℕ) → at + n ≤ 172 → length (part n b at) ≡ n = λ n at h. part-length n b at (omega (arith, e)) in
-    record {
-      address = size 8 34 (omega arith);
-      label = record { shadow = size 16 2 (omega arith); eeprom = size 16 18 (omega arith) };
-      block = record { shadow = size 32 50 (omega arith); eeprom = size 32 82 (omega arith) };
-    }
+at-sized b e = gauge-sized b 2 (omega (arith, e))
 
 pub undoing : Undoing
 undoing = record {

@@ -1,7 +1,7 @@
 -- Layouts: how a value stands in bytes, put together from a few parts. What a layout of the state needs besides is one line for each field.
 use mathlib.Core.Bool.{Bool}
 use mathlib.Core.List.{List, [], _∷_, _++_}
-use Prim.Native.Nat.{ℕ, _+_, _/_, _%_}
+use Prim.Native.Nat.{ℕ, zero, suc, _+_, _*_, _/_, _%_}
 use lib.Dec.{eqb}
 use lib.ListN.{getD}
 use Rattle.numbers.specs.Choice.{pick}
@@ -51,6 +51,20 @@ a then b = record {
   at = λ s i. (a .at s i, b .at s (i + a .size));
   out = λ v. a .out (v .0) ++ b .out (v .1);
 }
+
+-- ---- so many values of one layout, each behind the one before it
+
+-- what stands at an index, of so many indices from i on
+abbrev pub indexed : {A : Type 0} → (ℕ → A) → ℕ → ℕ → List A
+indexed f i zero = []
+indexed f i (suc n) = f i ∷ indexed f (i + 1) n
+
+abbrev pub outEach : {A : Type 0} → Layout A → List A → List ℕ
+outEach l [] = []
+outEach l (v ∷ vs) = l .out v ++ outEach l vs
+
+abbrev pub repeated : {A : Type 0} → ℕ → Layout A → Layout (List A)
+repeated n l = record { size = n * l .size; at = λ s i. indexed (λ j. l .at s (i + j * l .size)) 0 n; out = outEach l }
 
 -- ---- a struct by its fields
 

@@ -1,3 +1,4 @@
 pub mod Layout
 pub mod State
+pub mod TrayState
 pub mod Theorems

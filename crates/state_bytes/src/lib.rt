@@ -1,4 +1,4 @@
-// The state as bytes, out and in: `gaugeLayout` and those below it, in code.
+// The state as bytes, out and in, of a session and of a tray: `gaugeLayout` and those below it, in code.
 use gauge::Gauge;
 use runs::Session;
 use state::Average;
@@ -21,6 +21,7 @@ use state::Shown;
 use state::Since;
 use state::Tick;
 use state::Trace;
+use tray_record::Tray;
 ghost use mathlib.Core.Path.{_≡_};
 ghost use Prim.Native.Nat.{_+_, _≤_, _<_};
 ghost use lib.ListN.{length, getD};
@@ -28,12 +29,15 @@ ghost use Rattle.slices.specs.Slices.{Stored};
 ghost use Rattle.state.specs.State.{countsCycles};
 ghost use Rattle.bus.specs.Ask.{sameBytes};
 ghost use Rattle.runs.specs.SessionRecord.{SessionWF};
+ghost use Rattle.tray_record.specs.Tray.{TrayWF};
 ghost use Rattle.state_bytes.specs.Layout.{flagByte, flagIn};
 ghost use Rattle.state_bytes.specs.State.{profileIn, cellsLayout, chargeLayout, cyclesLayout, flowLayout, shownLayout, traceLayout, averageLayout};
 ghost use Rattle.state_bytes.specs.State.{resultsLayout, flagsLayout, meterLayout, gaugeLayout, labelLayout, commonLayout, headBytes};
 ghost use Rattle.state_bytes.specs.State.{fromCycles, fromFlow, fromCharge};
 ghost use Rattle.state_bytes.specs.State.{sessionAt, stateBytes, noState, stateIn, StateStepped};
 ghost use Rattle.state_bytes.specs.State.{soundCharge, soundAverage, soundShown, uncountedBy, soundMeter, StateOut};
+ghost use Rattle.state_bytes.specs.TrayState.{packsOut, trayAt, trayStateBytes, soundEach, soundTray, noTrayState, trayStateIn};
+ghost use Rattle.state_bytes.specs.TrayState.{TrayStateOut, TrayStateStepped};
 
 // ---- in
 
@@ -591,6 +595,171 @@ pub fn state_step(state: &mut [u8], bytes: &[u8], room: &mut [u8]) -> StateStep
         let done = session_run::step(session, bytes, room);
         let after = done.session;
         state_out(after, state);
+        return StateStep {
+            number: 0,
+            answer: done.answer,
+            replied: done.replied,
+        };
+    }
+    StateStep {
+        number: held.number,
+        answer: 0,
+        replied: 0,
+    }
+}
+
+// ---- the state of a tray
+
+// Every tray has eight places, which is told to a proof.
+fn eight_places(commons: [Common; 8], labels: [Label; 8], meters: [Meter; 8])
+    ensures { λ _. ⌜ (length commons ≡ 8) × (length labels ≡ 8) × (length meters ≡ 8) ⌝ }
+{}
+
+// The tray of as many bytes as a tray's state has: the gauge of each place is stored there.
+fn tray_at(bytes: &[u8]) -> Tray
+    requires { ⌜ length (now bytes) ≡ 1363 ⌝ }
+    ensures { λ r. ⌜ r ≡ trayAt (now (bytes .entry)) ⌝ }
+{
+    let mut tray = tray_record::empty();
+    tray.count = bytes[1];
+    tray.closed = flag_at(bytes, 2);
+    let mut i = 0;
+    while i < 8 {
+        let gauge = gauge_at(bytes, 3 + i * 170);
+        let common = gauge.common;
+        let label = gauge.label;
+        let meter = gauge.meter;
+        tray.commons[i] = common;
+        tray.labels[i] = label;
+        tray.meters[i] = meter;
+        i += 1;
+    }
+    tray
+}
+
+// Writes the gauges of the eight places, one behind the other.
+fn places_out(tray: Tray, room: &mut [u8])
+    requires { ⌜ 1363 ≤ length (now room) ⌝ }
+    ensures { λ _. ⌜ Stored 1360 (packsOut tray) (now (room .entry)) 3 (now (room .exit)) ⌝ }
+{
+    let commons = tray.commons;
+    let labels = tray.labels;
+    let meters = tray.meters;
+    eight_places(commons, labels, meters);
+    let mut i = 0;
+    while i < 8 {
+        let common = commons[i];
+        let label = labels[i];
+        let meter = meters[i];
+        let gauge = Gauge {
+            label: label,
+            common: common,
+            meter: meter,
+        };
+        gauge_out(gauge, room, 3 + i * 170);
+        i += 1;
+    }
+}
+
+fn put_tray_state(tray: Tray, room: &mut [u8])
+    requires { ⌜ 1363 ≤ length (now room) ⌝ }
+    ensures { λ _. ⌜ Stored 1363 (trayStateBytes tray) (now (room .entry)) 0 (now (room .exit)) ⌝ }
+{
+    let head = [129u8, tray.count, flag(tray.closed)];
+    slices::store(&head, room, 0);
+    places_out(tray, room);
+}
+
+// The state of a tray goes to the first bytes of the room; false, and nothing is written, where they do not fit.
+pub fn tray_state_out(tray: Tray, room: &mut [u8]) -> bool
+    ensures { λ r. ⌜ TrayStateOut tray (now (room .entry)) r (now (room .exit)) ⌝ }
+{
+    if room.len() < 1363 {
+        return false;
+    }
+    put_tray_state(tray, room);
+    true
+}
+
+fn sound_each(meters: [Meter; 8]) -> bool
+    ensures { λ r. ⌜ r ≡ soundEach meters ⌝ }
+{
+    let mut i = 0;
+    while i < 8 {
+        let meter = meters[i];
+        if sound(meter) {
+            i += 1;
+        } else {
+            return false;
+        }
+    }
+    true
+}
+
+fn sound_tray(tray: Tray) -> bool
+    ensures { λ r. ⌜ r ≡ soundTray tray ⌝ }
+{
+    let meters = tray.meters;
+    numbers::and(tray.count <= 8, sound_each(meters))
+}
+
+// Whether a tray is written as these bytes.
+fn tray_written_as(tray: Tray, bytes: &[u8]) -> bool
+    requires { ⌜ length (now bytes) ≡ 1363 ⌝ }
+    ensures { λ r. ⌜ r ≡ sameBytes (trayStateBytes tray) (now (bytes .entry)) ⌝ }
+{
+    let mut again = [0u8; 1363];
+    put_tray_state(tray, &mut again);
+    same(&again, bytes)
+}
+
+// What was read: the tray, or the number of the refusal and the tray before the first record.
+pub struct TrayStateIn {
+    pub number: u8,
+    pub tray: Tray,
+}
+
+fn no_tray_state(number: u8) -> TrayStateIn
+    ensures { λ r. ⌜ r ≡ noTrayState number ⌝ }
+    ensures kept { λ r. ⌜ TrayWF (r .tray) ⌝ }
+{
+    TrayStateIn {
+        number: number,
+        tray: tray_record::empty(),
+    }
+}
+
+// The tray that the bytes are: 50 where they are too few or too many, 51 for another version, 52 where they are no well-formed tray.
+pub fn tray_state_in(bytes: &[u8]) -> TrayStateIn
+    ensures { λ r. ⌜ r ≡ trayStateIn (now (bytes .entry)) ⌝ }
+    ensures kept { λ r. ⌜ TrayWF (r .tray) ⌝ }
+{
+    if bytes.len() != 1363 {
+        return no_tray_state(50);
+    }
+    if bytes[0] != 129 {
+        return no_tray_state(51);
+    }
+    let tray = tray_at(bytes);
+    if numbers::and(sound_tray(tray), tray_written_as(tray, bytes)) {
+        return TrayStateIn {
+            number: 0,
+            tray: tray,
+        };
+    }
+    no_tray_state(52)
+}
+
+// The record at the front of some bytes, run in the tray that a lent room holds. Bytes that are no tray stay, and nothing is run.
+pub fn tray_state_step(state: &mut [u8], bytes: &[u8], room: &mut [u8]) -> StateStep
+    ensures { λ r. ⌜ TrayStateStepped (now (state .entry)) (now (bytes .entry)) (now (room .entry)) r (now (state .exit)) (now (room .exit)) ⌝ }
+{
+    let held = tray_state_in(state);
+    if held.number == 0 {
+        let tray = held.tray;
+        let done = tray_run::step(tray, bytes, room);
+        let after = done.tray;
+        tray_state_out(after, state);
         return StateStep {
             number: 0,
             answer: done.answer,
