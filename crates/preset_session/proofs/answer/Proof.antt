@@ -14,17 +14,26 @@ enum-told→judged c = c .before .before
 abbrev enum-told→start : tie.After-enum-told → tie.Start
 enum-told→start c = enum-told→judged c .before .before .before
 
+abbrev accepted-answer→enum-told : tie.After-accepted-answer → tie.After-enum-told
+accepted-answer→enum-told c = c .before
+
+abbrev accepted-answer→judged : tie.After-accepted-answer → tie.After-judged
+accepted-answer→judged c = enum-told→judged (accepted-answer→enum-told c)
+
+abbrev known-told→judged2 : tie.After-known-told → tie.After-judged2
+known-told→judged2 c = c .before
+
 accepted-answer-requires : tie.Need-accepted-answer-requires
 accepted-answer-requires c κs =
     judged-sized Ds2781 (now (enum-told→start c .args .image)) (sym (enum-told→judged c .judged .ensures) ∙ c .enum-told .given .1)
 
 returns : tie.Need-returns
 unfolding presetAnswer
-returns c = rw (sym (c .before .before .before .judged .ensures) ∙ c .before .enum-told .given .1) (c .accepted-answer .ensures)
+returns c = rw (sym (accepted-answer→judged c .judged .ensures) ∙ accepted-answer→enum-told c .enum-told .given .1) (c .accepted-answer .ensures)
 
 returns-2 : tie.Need-returns-2
 unfolding presetAnswer
-returns-2 c = rw (sym (c .before .before .before .judged .ensures) ∙ c .before .judged2 .given .1)
+returns-2 c = rw (sym (known-told→judged2 c .before .before .judged .ensures) ∙ known-told→judged2 c .judged2 .given .1)
 
 pub answer-spec : {M : Type 1} → statement M
 answer-spec =

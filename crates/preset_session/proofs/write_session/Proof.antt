@@ -15,14 +15,20 @@ use Rattle.preset_session.proofs.write_session.Statement.{statement}
 use Rattle.preset_session.proofs.write_session.Tie as tie
 
 -- places: `a→b` leads from the record of the place a back to that of the place b
-abbrev slice-known→start : tie.After-slice-known → tie.Start
-slice-known→start c = c .before .before .before
+abbrev answer→shared-slice-known : tie.After-answer → tie.After-shared-slice-known
+answer→shared-slice-known c = c .before .before .before
 
 abbrev answer→start : tie.After-answer → tie.Start
-answer→start c = slice-known→start (c .before)
+answer→start c = answer→shared-slice-known c .before
+
+abbrev enum-told→answer : tie.After-enum-told → tie.After-answer
+enum-told→answer c = c .before .before
+
+abbrev known-told→found : tie.After-known-told → tie.After-found
+known-told→found c = c .before
 
 abbrev put-session-arg→answer : tie.After-put-session-arg → tie.After-answer
-put-session-arg→answer c = c .before .before .before
+put-session-arg→answer c = enum-told→answer (c .before)
 
 abbrev put-session-arg→start : tie.After-put-session-arg → tie.Start
 put-session-arg→start c = answer→start (put-session-arg→answer c)
@@ -38,7 +44,7 @@ returns : tie.Need-returns
 returns c =
     let at-put-session = c .before .before in
     let at-enum-told = at-put-session .before .before in
-    let at-answer = at-enum-told .before .before in
+    let at-answer = enum-told→answer at-enum-told in
     let found = sym (at-answer .answer .ensures) ∙ at-enum-told .enum-told .given .1 in
     record { number = ap writtenNumber (sym found); answer = sym found; written = rw found (at-put-session .put-session .ensures) }
 
@@ -48,15 +54,14 @@ untouched why image wanted room = refl
 
 returns-2 : tie.Need-returns-2
 returns-2 c =
-    let at-answer = c .before .before .before in
-    let at-shared-slice-known = at-answer .before .before .before in
-    let at-start = at-shared-slice-known .before in
+    let at-answer = known-told→found c .before .before in
+    let at-start = answer→start at-answer in
     let a = at-start .args in
-    let found = sym (at-answer .answer .ensures) ∙ c .before .found .given .1 in
+    let found = sym (at-answer .answer .ensures) ∙ known-told→found c .found .given .1 in
     record {
       number = ap writtenNumber (sym found);
       answer = sym found;
-      written = rw found (sym (untouched (c .before .found .given .0 .0) (now (a .image)) (now (a .wanted)) (now (a .room))));
+      written = rw found (sym (untouched (known-told→found c .found .given .0 .0) (now (a .image)) (now (a .wanted)) (now (a .room))));
     }
 
 pub write-session-spec : {M : Type 1} → statement M
