@@ -20,17 +20,29 @@ shared-slice-known→start c = c .before
 abbrev enum-told5→start : tie.After-enum-told5 → tie.Start
 enum-told5→start c = shared-slice-known→start (c .before .before)
 
+abbrev conversion-taken→enum-told2 : tie.After-conversion-taken → tie.After-enum-told2
+conversion-taken→enum-told2 c = c .before
+
 abbrev conversion-taken→start : tie.After-conversion-taken → tie.Start
-conversion-taken→start c = shared-slice-known→start (c .before .before .before)
+conversion-taken→start c = shared-slice-known→start (conversion-taken→enum-told2 c .before .before)
+
+abbrev power-on-taken→enum-told3 : tie.After-power-on-taken → tie.After-enum-told3
+power-on-taken→enum-told3 c = c .before
 
 abbrev power-on-taken→start : tie.After-power-on-taken → tie.Start
-power-on-taken→start c = shared-slice-known→start (c .before .before .before)
+power-on-taken→start c = shared-slice-known→start (power-on-taken→enum-told3 c .before .before)
+
+abbrev reading-taken→enum-told : tie.After-reading-taken → tie.After-enum-told
+reading-taken→enum-told c = c .before
 
 abbrev reading-taken→start : tie.After-reading-taken → tie.Start
-reading-taken→start c = shared-slice-known→start (c .before .before .before)
+reading-taken→start c = shared-slice-known→start (reading-taken→enum-told c .before .before)
+
+abbrev sample-taken→enum-told4 : tie.After-sample-taken → tie.After-enum-told4
+sample-taken→enum-told4 c = c .before
 
 abbrev sample-taken→start : tie.After-sample-taken → tie.Start
-sample-taken→start c = shared-slice-known→start (c .before .before .before)
+sample-taken→start c = shared-slice-known→start (sample-taken→enum-told4 c .before .before)
 
 abbrev image-taken→kind : tie.After-image-taken → tie.After-kind
 image-taken→kind c = c .before .before
@@ -67,12 +79,13 @@ read c = c .reading-taken .ensures
 returns-2 : tie.Need-returns-2
 returns-2 c =
     let a = reading-taken→start c .args in
-    stateless (a .room) (a .last) (a .again) (a .loaded) (now (a .payload)) _ _ _ (c .before .enum-told .given .1) tt (read c)
+    stateless (a .room) (a .last) (a .again) (a .loaded) (now (a .payload)) _ _ _ (reading-taken→enum-told c .enum-told .given .1) tt (read c)
 
 returns-3 : tie.Need-returns-3
 returns-3 c =
     let a = conversion-taken→start c .args in
-    stateless (a .room) (a .last) (a .again) (a .loaded) (now (a .payload)) _ _ _ (c .before .enum-told2 .given .1) tt (c .conversion-taken .ensures)
+    stateless (a .room) (a .last) (a .again) (a .loaded) (now (a .payload)) _ _ _ (conversion-taken→enum-told2 c .enum-told2 .given .1) tt
+    (c .conversion-taken .ensures)
 
 returns-4 : tie.Need-returns-4
 returns-4 c =
@@ -84,12 +97,13 @@ returns-4 c =
 returns-5 : tie.Need-returns-5
 returns-5 c =
     let a = power-on-taken→start c .args in
-    stateless (a .room) (a .last) (a .again) (a .loaded) (now (a .payload)) _ _ _ (c .before .enum-told3 .given .1) tt (c .power-on-taken .ensures)
+    stateless (a .room) (a .last) (a .again) (a .loaded) (now (a .payload)) _ _ _ (power-on-taken→enum-told3 c .enum-told3 .given .1) tt
+    (c .power-on-taken .ensures)
 
 returns-6 : tie.Need-returns-6
 returns-6 c =
     let a = sample-taken→start c .args in
-    arm (a .room) (a .last) (a .again) (a .loaded) (now (a .payload)) _ _ _ (c .before .enum-told4 .given .1)
+    arm (a .room) (a .last) (a .again) (a .loaded) (now (a .payload)) _ _ _ (sample-taken→enum-told4 c .enum-told4 .given .1)
     (c .sample-taken .ensures ∙ sample-fits (a .last) (a .again) (a .loaded) (now (a .payload)) (a .room))
 
 returns-7 : tie.Need-returns-7

@@ -30,8 +30,17 @@ else3→start c = addressed→then1 (then2→addressed (else3→then2 c)) .befor
 abbrev then3→then2 : tie.Then3 → tie.Then2
 then3→then2 c = c .before .before
 
+abbrev then4→then3 : tie.Then4 → tie.Then3
+then4→then3 c = c .before
+
+abbrev thirty-two→then4 : tie.After-thirty-two → tie.Then4
+thirty-two→then4 c = c .before
+
 abbrev of→thirty-two : tie.After-of → tie.After-thirty-two
 of→thirty-two c = c .before .before
+
+abbrev ordered→of : tie.After-ordered → tie.After-of
+ordered→of c = c .before
 
 -- what is told of the breakpoints of a block, by the calls that lead there
 told : {block part : List ℕ} {b : Breaks} {t u : Bool} → block ≡ part → b ≡ breaksOf block → t ≡ orderedOf b → t ≡ u →
@@ -42,10 +51,10 @@ returns : tie.Need-returns
 unfolding judgedAmong
 returns c =
     let c1 = c .before in
-    let c2 = c1 .before in
+    let c2 = ordered→of c1 in
     let c4 = of→thirty-two c2 in
-    let c5 = c4 .before in
-    let c6 = c5 .before in
+    let c5 = thirty-two→then4 c4 in
+    let c6 = then4→then3 c5 in
     let c8 = then3→then2 c6 in
     let c9 = then2→addressed c8 in
     let c11 = addressed→then1 c9 in
@@ -62,10 +71,10 @@ returns-2 : tie.Need-returns-2
 unfolding judgedAmong
 returns-2 c =
     let c1 = c .before in
-    let c2 = c1 .before in
+    let c2 = ordered→of c1 in
     let c4 = of→thirty-two c2 in
-    let c5 = c4 .before in
-    let c6 = c5 .before in
+    let c5 = thirty-two→then4 c4 in
+    let c6 = then4→then3 c5 in
     let c8 = then3→then2 c6 in
     let c9 = then2→addressed c8 in
     let c11 = addressed→then1 c9 in

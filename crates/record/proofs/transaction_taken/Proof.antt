@@ -41,8 +41,14 @@ then1→head c = limit→head (then1→limit c)
 abbrev then1→start : tie.Then1 → tie.Start
 then1→start c = limit→start (then1→limit c)
 
+abbrev else2→else1 : tie.Else2 → tie.Else1
+else2→else1 c = c .before
+
+abbrev then2→else1 : tie.Then2 → tie.Else1
+then2→else1 c = c .before
+
 abbrev then2→limit : tie.Then2 → tie.After-limit
-then2→limit c = else1→limit (c .before)
+then2→limit c = else1→limit (then2→else1 c)
 
 abbrev then2→head : tie.Then2 → tie.After-head
 then2→head c = limit→head (then2→limit c)
@@ -50,8 +56,11 @@ then2→head c = limit→head (then2→limit c)
 abbrev then2→start : tie.Then2 → tie.Start
 then2→start c = limit→start (then2→limit c)
 
+abbrev else3→else2 : tie.Else3 → tie.Else2
+else3→else2 c = c .before
+
 abbrev else3→else1 : tie.Else3 → tie.Else1
-else3→else1 c = c .before .before
+else3→else1 c = else2→else1 (else3→else2 c)
 
 abbrev else3→limit : tie.Else3 → tie.After-limit
 else3→limit c = else1→limit (else3→else1 c)
@@ -66,7 +75,7 @@ abbrev then3→else2 : tie.Then3 → tie.Else2
 then3→else2 c = c .before
 
 abbrev then3→else1 : tie.Then3 → tie.Else1
-then3→else1 c = then3→else2 c .before
+then3→else1 c = else2→else1 (then3→else2 c)
 
 abbrev then3→head : tie.Then3 → tie.After-head
 then3→head c = limit→head (else1→limit (then3→else1 c))
@@ -74,8 +83,14 @@ then3→head c = limit→head (else1→limit (then3→else1 c))
 abbrev read-count→then3 : tie.After-read-count → tie.Then3
 read-count→then3 c = c .before
 
+abbrev else4→read-count : tie.Else4 → tie.After-read-count
+else4→read-count c = c .before
+
+abbrev then4→read-count : tie.Then4 → tie.After-read-count
+then4→read-count c = c .before
+
 abbrev then4→then3 : tie.Then4 → tie.Then3
-then4→then3 c = read-count→then3 (c .before)
+then4→then3 c = read-count→then3 (then4→read-count c)
 
 abbrev then4→else2 : tie.Then4 → tie.Else2
 then4→else2 c = then3→else2 (then4→then3 c)
@@ -92,8 +107,11 @@ then4→head c = then3→head (then4→then3 c)
 abbrev then4→start : tie.Then4 → tie.Start
 then4→start c = limit→start (then4→limit c)
 
+abbrev then5→else4 : tie.Then5 → tie.Else4
+then5→else4 c = c .before
+
 abbrev then5→read-count : tie.Then5 → tie.After-read-count
-then5→read-count c = c .before .before
+then5→read-count c = else4→read-count (then5→else4 c)
 
 abbrev then5→then3 : tie.Then5 → tie.Then3
 then5→then3 c = read-count→then3 (then5→read-count c)
@@ -116,8 +134,11 @@ then5→start c = limit→start (then5→limit c)
 abbrev asked→else5 : tie.After-asked → tie.Else5
 asked→else5 c = c .before .before
 
+abbrev asked→else4 : tie.After-asked → tie.Else4
+asked→else4 c = asked→else5 c .before
+
 abbrev asked→read-count : tie.After-asked → tie.After-read-count
-asked→read-count c = asked→else5 c .before .before
+asked→read-count c = else4→read-count (asked→else4 c)
 
 abbrev asked→then3 : tie.After-asked → tie.Then3
 asked→then3 c = read-count→then3 (asked→read-count c)
@@ -190,34 +211,34 @@ returns-2 : tie.Need-returns-2
 returns-2 c =
     let a = then2→start c .args in
     long (a .form) (a .loaded) (a .room) (now (a .payload)) (then2→head c .head .ensures .0) (then2→limit c .limit .ensures .0)
-    (c .before .if1 .left) (c .if2 .taken)
+    (then2→else1 c .if1 .left) (c .if2 .taken)
 
 returns-3 : tie.Need-returns-3
 returns-3 c =
     let a = then4→start c .args in
     over (a .form) (a .loaded) (a .room) (now (a .payload)) (then4→head c .head .ensures .0) (then4→limit c .limit .ensures .0)
-    (then4→else1 c .if1 .left) (then4→else2 c .if2 .left) (then4→then3 c .if3 .taken) (c .before .read-count .ensures) (c .if4 .taken)
+    (then4→else1 c .if1 .left) (then4→else2 c .if2 .left) (then4→then3 c .if3 .taken) (then4→read-count c .read-count .ensures) (c .if4 .taken)
 
 returns-4 : tie.Need-returns-4
 returns-4 c =
     let a = then5→start c .args in
     full (a .form) (a .loaded) (a .room) (now (a .payload)) (then5→head c .head .ensures .0) (then5→limit c .limit .ensures .0)
     (then5→else1 c .if1 .left) (then5→else2 c .if2 .left) (then5→then3 c .if3 .taken) (then5→read-count c .read-count .ensures)
-    (c .before .if4 .left) (c .if5 .taken)
+    (then5→else4 c .if4 .left) (c .if5 .taken)
 
 returns-5 : tie.Need-returns-5
 returns-5 c =
     let a = asked→start c .args in
     taken (a .form) (a .loaded) (a .room) (now (a .payload)) (asked→head c .head .ensures .0) (asked→limit c .limit .ensures .0)
     (asked→else1 c .if1 .left) (asked→else2 c .if2 .left) (asked→then3 c .if3 .taken) (asked→read-count c .read-count .ensures)
-    (asked→else5 c .before .if4 .left) (asked→else5 c .if5 .left)
+    (asked→else4 c .if4 .left) (asked→else5 c .if5 .left)
     (c .asked .ensures) (part-rest (now (a .payload)) _)
 
 returns-6 : tie.Need-returns-6
 returns-6 c =
     let a = else3→start c .args in
     early (a .form) (a .loaded) (a .room) (now (a .payload)) (else3→head c .head .ensures .0) (else3→limit c .limit .ensures .0)
-    (else3→else1 c .if1 .left) (c .before .if2 .left) (c .if3 .left)
+    (else3→else1 c .if1 .left) (else3→else2 c .if2 .left) (c .if3 .left)
 
 read-count-requires : tie.Need-read-count-requires
 read-count-requires c κs = omega (arith, then3→head c .head .ensures .0, then3→else1 c .if1 .left)
