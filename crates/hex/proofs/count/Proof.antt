@@ -21,14 +21,26 @@ abbrev μ-loop : tie.MeasureT-loop
 μ-loop text address n₀ at₀ n at = length text - at
 
 -- places: `a→b` leads from the record of the place a back to that of the place b
+abbrev loop→start : tie.At-loop Inv-loop μ-loop → tie.Start Inv-loop μ-loop
+loop→start c = c .before .before
+
+abbrev after-loop→loop : tie.After-loop Inv-loop μ-loop → tie.At-loop Inv-loop μ-loop
+after-loop→loop c = c .before
+
+abbrev after-loop→start : tie.After-loop Inv-loop μ-loop → tie.Start Inv-loop μ-loop
+after-loop→start c = loop→start (after-loop→loop c)
+
+abbrev one→address-in : tie.After-one Inv-loop μ-loop → tie.After-address-in Inv-loop μ-loop
+one→address-in c = c .before
+
 abbrev one→line-end : tie.After-one Inv-loop μ-loop → tie.After-line-end Inv-loop μ-loop
-one→line-end c = c .before .before .before
+one→line-end c = one→address-in c .before .before
 
 abbrev one→loop : tie.After-one Inv-loop μ-loop → tie.At-loop Inv-loop μ-loop
 one→loop c = one→line-end c .before .before
 
 abbrev one→start : tie.After-one Inv-loop μ-loop → tie.Start Inv-loop μ-loop
-one→start c = one→loop c .before .before
+one→start c = loop→start (one→loop c)
 
 loop-holds : tie.Need-loop-holds Inv-loop μ-loop
 loop-holds c = (omega arith, omega arith, zero-add _)
@@ -60,14 +72,14 @@ loop-less c = omega (arith, one→line-end c .line-end .ensures .onward, one→l
 
 loop-again : tie.Need-loop-again Inv-loop μ-loop
 loop-again c =
-    let here = ap {B = ℕ} (λ (x : ℕ). pick (eqb x (one→start c .args .address)) 1 0) (c .before .address-in .ensures) in (
+    let here = ap {B = ℕ} (λ (x : ℕ). pick (eqb x (one→start c .args .address)) 1 0) (one→address-in c .address-in .ensures) in (
       one→line-end c .line-end .ensures .within,
       omega (arith, one→line-end c .line-end .ensures .onward, c .one .ensures .1, one→loop c .loop .inv .1),
       omega (arith, c .one .ensures .0, here, count-more (one→line-end c .line-end .ensures) (one→start c .args .address), one→loop c .loop .inv .2),
     )
 
 returns : tie.Need-returns Inv-loop μ-loop
-returns c = omega (arith, rw (drop-of-length-le (now (c .before .before .before .args .text)) (c .loop-test .left)) at (c .before .loop .inv .2))
+returns c = omega (arith, rw (drop-of-length-le (now (after-loop→start c .args .text)) (c .loop-test .left)) at (after-loop→loop c .loop .inv .2))
 
 pub count-spec : {M : Type 1} → statement M
 count-spec =

@@ -20,6 +20,9 @@ then1→both-accepted c = c .before
 abbrev then1→start : tie.Then1 → tie.Start
 then1→start c = then1→both-accepted c .before .before .before
 
+abbrev result3→else1 : tie.After-result3 → tie.Else1
+result3→else1 c = c .before
+
 abbrev shared-slice-known3→then1 : tie.After-shared-slice-known3 → tie.Then1
 shared-slice-known3→then1 c = c .before
 
@@ -47,17 +50,23 @@ then2→both-accepted c = then1→both-accepted (then2→then1 c)
 abbrev then2→start : tie.Then2 → tie.Start
 then2→start c = then1→start (then2→then1 c)
 
+abbrev result→then2 : tie.After-result → tie.Then2
+result→then2 c = c .before
+
 abbrev result→then1 : tie.After-result → tie.Then1
-result→then1 c = then2→then1 (c .before)
+result→then1 c = then2→then1 (result→then2 c)
 
 abbrev result→both-accepted : tie.After-result → tie.After-both-accepted
-result→both-accepted c = then1→both-accepted (result→then1 c)
+result→both-accepted c = then2→both-accepted (result→then2 c)
 
 abbrev result→start : tie.After-result → tie.Start
-result→start c = then1→start (result→then1 c)
+result→start c = then2→start (result→then2 c)
+
+abbrev result2→else2 : tie.After-result2 → tie.Else2
+result2→else2 c = c .before
 
 abbrev result2→then1 : tie.After-result2 → tie.Then1
-result2→then1 c = else2→then1 (c .before)
+result2→then1 c = else2→then1 (result2→else2 c)
 
 both-accepted-requires : tie.Need-both-accepted-requires
 both-accepted-requires c κs = search needs
@@ -96,7 +105,7 @@ locked c = eq-eqb _ _ (c .if2 .taken)
 returns : tie.Need-returns
 returns c =
     let a = result→start c .args in
-    sym (own (now (a .pack)) (now (a .factory)) (sym (result→both-accepted c .both-accepted .ensures) ∙ result→then1 c .if1 .taken) (locked (c .before)))
+    sym (own (now (a .pack)) (now (a .factory)) (sym (result→both-accepted c .both-accepted .ensures) ∙ result→then1 c .if1 .taken) (locked (result→then2 c)))
 
 sub-result-2 : tie.Need-sub-result-2
 sub-result-2 c = search needs
@@ -116,7 +125,7 @@ returns-2 : tie.Need-returns-2
 unfolding exportLabel
 returns-2 c =
     let at-then1 = result2→then1 c in
-    rw (sym (then1→both-accepted at-then1 .both-accepted .ensures) ∙ at-then1 .if1 .taken, ne-eqb _ _ (c .before .if2 .left)) refl
+    rw (sym (then1→both-accepted at-then1 .both-accepted .ensures) ∙ at-then1 .if1 .taken, ne-eqb _ _ (result2→else2 c .if2 .left)) refl
 
 sub-result-3 : tie.Need-sub-result-3
 sub-result-3 c = search needs
@@ -129,7 +138,7 @@ part-result-end-3 c = search needs
 
 returns-3 : tie.Need-returns-3
 unfolding exportLabel
-returns-3 c = rw (sym (c .before .before .both-accepted .ensures) ∙ c .before .if1 .left) refl
+returns-3 c = rw (sym (result3→else1 c .before .both-accepted .ensures) ∙ result3→else1 c .if1 .left) refl
 
 pub export-label-spec : {M : Type 1} → statement M
 export-label-spec =

@@ -17,6 +17,15 @@ abbrev μ-loop : tie.MeasureT-loop
 μ-loop text address₀ at₀ address at = length text - at
 
 -- places: `a→b` leads from the record of the place a back to that of the place b
+abbrev loop→start : tie.At-loop Inv-loop μ-loop → tie.Start Inv-loop μ-loop
+loop→start c = c .before .before
+
+abbrev after-loop→loop : tie.After-loop Inv-loop μ-loop → tie.At-loop Inv-loop μ-loop
+after-loop→loop c = c .before
+
+abbrev after-loop→start : tie.After-loop Inv-loop μ-loop → tie.Start Inv-loop μ-loop
+after-loop→start c = loop→start (after-loop→loop c)
+
 abbrev address-in→line-end : tie.After-address-in Inv-loop μ-loop → tie.After-line-end Inv-loop μ-loop
 address-in→line-end c = c .before .before
 
@@ -24,7 +33,7 @@ abbrev address-in→loop : tie.After-address-in Inv-loop μ-loop → tie.At-loop
 address-in→loop c = address-in→line-end c .before .before
 
 abbrev address-in→start : tie.After-address-in Inv-loop μ-loop → tie.Start Inv-loop μ-loop
-address-in→start c = address-in→loop c .before .before
+address-in→start c = loop→start (address-in→loop c)
 
 loop-holds : tie.Need-loop-holds Inv-loop μ-loop
 loop-holds c = (omega arith, refl)
@@ -56,7 +65,7 @@ loop-again c =
     )
 
 returns : tie.Need-returns Inv-loop μ-loop
-returns c = rw (drop-of-length-le (now (c .before .before .before .args .text)) (c .loop-test .left)) at (c .before .loop .inv .1)
+returns c = rw (drop-of-length-le (now (after-loop→start c .args .text)) (c .loop-test .left)) at (after-loop→loop c .loop .inv .1)
 
 pub last-address-spec : {M : Type 1} → statement M
 last-address-spec =

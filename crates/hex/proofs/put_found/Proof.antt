@@ -38,8 +38,11 @@ line-end→loop c = c .before .before
 abbrev address-in→line-end : tie.After-address-in Inv-loop μ-loop → tie.After-line-end Inv-loop μ-loop
 address-in→line-end c = c .before .before
 
+abbrev else1→address-in : tie.Else1 Inv-loop μ-loop → tie.After-address-in Inv-loop μ-loop
+else1→address-in c = c .before
+
 abbrev else1→line-end : tie.Else1 Inv-loop μ-loop → tie.After-line-end Inv-loop μ-loop
-else1→line-end c = address-in→line-end (c .before)
+else1→line-end c = address-in→line-end (else1→address-in c)
 
 abbrev else1→loop : tie.Else1 Inv-loop μ-loop → tie.At-loop Inv-loop μ-loop
 else1→loop c = line-end→loop (else1→line-end c)
@@ -47,11 +50,17 @@ else1→loop c = line-end→loop (else1→line-end c)
 abbrev else1→start : tie.Else1 Inv-loop μ-loop → tie.Start Inv-loop μ-loop
 else1→start c = loop→start (else1→loop c)
 
+abbrev then1→address-in : tie.Then1 Inv-loop μ-loop → tie.After-address-in Inv-loop μ-loop
+then1→address-in c = c .before
+
 abbrev then1→line-end : tie.Then1 Inv-loop μ-loop → tie.After-line-end Inv-loop μ-loop
-then1→line-end c = address-in→line-end (c .before)
+then1→line-end c = address-in→line-end (then1→address-in c)
 
 abbrev put-data-arg2→then1 : tie.After-put-data-arg2 Inv-loop μ-loop → tie.Then1 Inv-loop μ-loop
 put-data-arg2→then1 c = c .before .before
+
+abbrev put-data-arg2→address-in : tie.After-put-data-arg2 Inv-loop μ-loop → tie.After-address-in Inv-loop μ-loop
+put-data-arg2→address-in c = then1→address-in (put-data-arg2→then1 c)
 
 abbrev put-data-arg2→line-end : tie.After-put-data-arg2 Inv-loop μ-loop → tie.After-line-end Inv-loop μ-loop
 put-data-arg2→line-end c = then1→line-end (put-data-arg2→then1 c)
@@ -67,6 +76,9 @@ slice-known2→put-data c = c .before .before
 
 abbrev slice-known2→then1 : tie.After-slice-known2 Inv-loop μ-loop → tie.Then1 Inv-loop μ-loop
 slice-known2→then1 c = put-data-arg2→then1 (slice-known2→put-data c .before)
+
+abbrev slice-known2→address-in : tie.After-slice-known2 Inv-loop μ-loop → tie.After-address-in Inv-loop μ-loop
+slice-known2→address-in c = then1→address-in (slice-known2→then1 c)
 
 abbrev slice-known2→line-end : tie.After-slice-known2 Inv-loop μ-loop → tie.After-line-end Inv-loop μ-loop
 slice-known2→line-end c = then1→line-end (slice-known2→then1 c)
@@ -108,7 +120,7 @@ put-data-requires : tie.Need-put-data-requires Inv-loop μ-loop
 put-data-requires c κs =
     let text = now (put-data-arg2→start c .args .text) in
     let line = part (put-data-arg2→line-end c .line-end .result - put-data-arg2→loop c .loop .at) text (put-data-arg2→loop c .loop .at) in
-    let same = ap (λ (x : ℕ). eqb x (put-data-arg2→start c .args .address)) (sym (put-data-arg2→then1 c .before .address-in .ensures))
+    let same = ap (λ (x : ℕ). eqb x (put-data-arg2→start c .args .address)) (sym (put-data-arg2→address-in c .address-in .ensures))
     ∙ eq-eqb _ _ (put-data-arg2→then1 c .if1 .taken) in
     let found = sym (data-here (put-data-arg2→line-end c .line-end .ensures) (put-data-arg2→start c .args .address) same)
     ∙ put-data-arg2→loop c .loop .inv .2 in (
@@ -121,7 +133,7 @@ same-length c = slice-known2→put-data c .put-data .kept .1 .0 ∙ ap length (s
 
 returns : tie.Need-returns Inv-loop μ-loop
 returns c =
-    let same = ap (λ (x : ℕ). eqb x (slice-known2→start c .args .address)) (sym (slice-known2→then1 c .before .address-in .ensures))
+    let same = ap (λ (x : ℕ). eqb x (slice-known2→start c .args .address)) (sym (slice-known2→address-in c .address-in .ensures))
     ∙ eq-eqb _ _ (slice-known2→then1 c .if1 .taken) in
     let found = sym (data-here (slice-known2→line-end c .line-end .ensures) (slice-known2→start c .args .address) same)
     ∙ slice-known2→loop c .loop .inv .2 in
@@ -135,7 +147,7 @@ loop-less c = omega (arith, else1→line-end c .line-end .ensures .onward, else1
 
 loop-again : tie.Need-loop-again Inv-loop μ-loop
 loop-again c =
-    let other = ap (λ (x : ℕ). eqb x (else1→start c .args .address)) (sym (c .before .address-in .ensures)) ∙ ne-eqb _ _ (c .if1 .left) in (
+    let other = ap (λ (x : ℕ). eqb x (else1→start c .args .address)) (sym (else1→address-in c .address-in .ensures)) ∙ ne-eqb _ _ (c .if1 .left) in (
       else1→line-end c .line-end .ensures .within,
       else1→loop c .loop .inv .1,
       sym (data-later (else1→line-end c .line-end .ensures) (else1→start c .args .address) other) ∙ else1→loop c .loop .inv .2,
