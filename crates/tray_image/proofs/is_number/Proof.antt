@@ -21,25 +21,46 @@ abbrev μ-loop : tie.MeasureT-loop
 abbrev loop→start : tie.At-loop Inv-loop μ-loop → tie.Start Inv-loop μ-loop
 loop→start c = c .before .before
 
+abbrev after-loop→loop : tie.After-loop Inv-loop μ-loop → tie.At-loop Inv-loop μ-loop
+after-loop→loop c = c .before
+
+abbrev after-loop→start : tie.After-loop Inv-loop μ-loop → tie.Start Inv-loop μ-loop
+after-loop→start c = loop→start (after-loop→loop c)
+
+abbrev and→loop : tie.After-and Inv-loop μ-loop → tie.At-loop Inv-loop μ-loop
+and→loop c = c .before .before .before
+
+abbrev else1→and : tie.Else1 Inv-loop μ-loop → tie.After-and Inv-loop μ-loop
+else1→and c = c .before
+
+abbrev else1→loop : tie.Else1 Inv-loop μ-loop → tie.At-loop Inv-loop μ-loop
+else1→loop c = and→loop (else1→and c)
+
+abbrev then1→and : tie.Then1 Inv-loop μ-loop → tie.After-and Inv-loop μ-loop
+then1→and c = c .before
+
+abbrev then1→loop : tie.Then1 Inv-loop μ-loop → tie.At-loop Inv-loop μ-loop
+then1→loop c = and→loop (then1→and c)
+
 loop-again : tie.Need-loop-again Inv-loop μ-loop
 unfolding isDigit
 loop-again c =
-    let at-loop = c .before .before .before .before in
+    let at-loop = then1→loop c in
     let word = now (loop→start at-loop .args .word) in
-    (omega arith, digit-more word (at-loop .loop .i) (omega arith) (sym (c .before .and .ensures) ∙ c .if1 .taken) ∙ at-loop .loop .inv .1)
+    (omega arith, digit-more word (at-loop .loop .i) (omega arith) (sym (then1→and c .and .ensures) ∙ c .if1 .taken) ∙ at-loop .loop .inv .1)
 
 returns : tie.Need-returns Inv-loop μ-loop
 unfolding isDigit
 returns c =
-    let at-loop = c .before .before .before .before in
+    let at-loop = else1→loop c in
     let word = now (loop→start at-loop .args .word) in
-    no-number word (sym (at-loop .loop .inv .1) ∙ no-digit word (at-loop .loop .i) (omega arith) (sym (c .before .and .ensures) ∙ c .if1 .left))
+    no-number word (sym (at-loop .loop .inv .1) ∙ no-digit word (at-loop .loop .i) (omega arith) (sym (else1→and c .and .ensures) ∙ c .if1 .left))
 
 returns-2 : tie.Need-returns-2 Inv-loop μ-loop
 returns-2 c =
-    let word = now (c .before .before .before .args .word) in
+    let word = now (after-loop→start c .args .word) in
     let none = drop-of-length-le word (c .loop-test .left) in
-    let all : allDigits word ≡ true = sym (rw none at (c .before .loop .inv .1)) in
+    let all : allDigits word ≡ true = sym (rw none at (after-loop→loop c .loop .inv .1)) in
     number-told word all
 
 pub is-number-spec : {M : Type 1} → statement M

@@ -16,6 +16,19 @@ Inv-loop word n₀ i₀ n i = (i ≤ length word) × ((n ≤ 8) × (min (valueFr
 abbrev μ-loop : tie.MeasureT-loop
 μ-loop word n₀ i₀ n i = length word - i
 
+-- places: `a→b` leads from the record of the place a back to that of the place b
+abbrev loop→start : tie.At-loop Inv-loop μ-loop → tie.Start Inv-loop μ-loop
+loop→start c = c .before .before
+
+abbrev after-loop→loop : tie.After-loop Inv-loop μ-loop → tie.At-loop Inv-loop μ-loop
+after-loop→loop c = c .before
+
+abbrev after-loop→start : tie.After-loop Inv-loop μ-loop → tie.Start Inv-loop μ-loop
+after-loop→start c = loop→start (after-loop→loop c)
+
+abbrev wide→loop : tie.After-wide Inv-loop μ-loop → tie.At-loop Inv-loop μ-loop
+wide→loop c = c .before .before .before
+
 loop-holds : tie.Need-loop-holds Inv-loop μ-loop
 unfolding slotOf
 loop-holds c = search needs
@@ -23,9 +36,9 @@ loop-holds c = search needs
 loop-again : tie.Need-loop-again Inv-loop μ-loop
 loop-again c =
     let at-wide = c .before .before in
-    let loop-place = at-wide .before .before .before in
+    let loop-place = wide→loop at-wide in
     let at-loop = loop-place in
-    let word = now (at-loop .before .before .args .word) in (
+    let word = now (loop→start at-loop .args .word) in (
       omega arith,
       (
         omega (arith, c .at-most .ensures),
@@ -36,10 +49,10 @@ loop-again c =
 
 returns : tie.Need-returns Inv-loop μ-loop
 returns c =
-    let none = drop-of-length-le (now (c .before .before .before .args .word)) (c .loop-test .left) in
-    let n = c .before .loop .n in
-    let few : min n 8 ≡ n = omega (arith, c .before .loop .inv .1 .0) in
-    sym few ∙ rw none at (c .before .loop .inv .1 .1)
+    let none = drop-of-length-le (now (after-loop→start c .args .word)) (c .loop-test .left) in
+    let n = after-loop→loop c .loop .n in
+    let few : min n 8 ≡ n = omega (arith, after-loop→loop c .loop .inv .1 .0) in
+    sym few ∙ rw none at (after-loop→loop c .loop .inv .1 .1)
 
 pub slot-of-spec : {M : Type 1} → statement M
 slot-of-spec =
