@@ -14,20 +14,29 @@ use Rattle.mending.proofs.changes.Statement.{statement}
 use Rattle.mending.proofs.changes.Tie as tie
 
 -- places: `a→b` leads from the record of the place a back to that of the place b
-abbrev answer→start : tie.After-answer → tie.Start
-answer→start c = c .before .before
-
 abbrev enum-told→answer : tie.After-enum-told → tie.After-answer
 enum-told→answer c = c .before .before
 
 abbrev enum-told→start : tie.After-enum-told → tie.Start
-enum-told→start c = answer→start (enum-told→answer c)
+enum-told→start c = enum-told→answer c .before .before
+
+abbrev known-told→found : tie.After-known-told → tie.After-found
+known-told→found c = c .before
+
+abbrev mended-image→enum-told : tie.After-mended-image → tie.After-enum-told
+mended-image→enum-told c = c .before
 
 abbrev put-changes-arg→mended-image : tie.After-put-changes-arg → tie.After-mended-image
 put-changes-arg→mended-image c = c .before .before
 
 abbrev put-changes-arg→enum-told : tie.After-put-changes-arg → tie.After-enum-told
-put-changes-arg→enum-told c = put-changes-arg→mended-image c .before
+put-changes-arg→enum-told c = mended-image→enum-told (put-changes-arg→mended-image c)
+
+abbrev put-changes→mended-image : tie.After-put-changes → tie.After-mended-image
+put-changes→mended-image c = put-changes-arg→mended-image (c .before)
+
+abbrev put-changes→enum-told : tie.After-put-changes → tie.After-enum-told
+put-changes→enum-told c = mended-image→enum-told (put-changes→mended-image c)
 
 -- the answer, where the image is mended
 done : (c : tie.After-enum-told) → mendingAnswer (now (enum-told→start c .args .image)) imageSize ≡ Done
@@ -45,7 +54,7 @@ put-changes-requires c κs =
 
 returns : tie.Need-returns
 returns c =
-    listed _ (done (put-changes-arg→enum-told (c .before))) (put-changes-arg→mended-image (c .before) .mended-image .ensures) (c .put-changes .ensures)
+    listed _ (done (put-changes→enum-told c)) (put-changes→mended-image c .mended-image .ensures) (c .put-changes .ensures)
 
 -- a refusal has the number that it has in mending
 numbered : (why : MendRefusal) → listedNumber (lines.Refused why) ≡ mendedNumber (Refused why)
@@ -53,8 +62,8 @@ numbered why = refl
 
 returns-2 : tie.Need-returns-2
 returns-2 c =
-    let found = sym (c .before .before .before .answer .ensures) ∙ c .before .found .given .1 in
-    record { number = rw found (numbered (c .before .found .given .0 .0)); answer = rw found; written = rw found }
+    let found = sym (known-told→found c .before .before .answer .ensures) ∙ known-told→found c .found .given .1 in
+    record { number = rw found (numbered (known-told→found c .found .given .0 .0)); answer = rw found; written = rw found }
 
 pub changes-spec : {M : Type 1} → statement M
 changes-spec =

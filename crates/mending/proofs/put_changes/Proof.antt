@@ -19,29 +19,29 @@ abbrev μ-loop : tie.MeasureT-loop
 μ-loop old new room₀ table next₀ i₀ room next i = length old - i
 
 -- places: `a→b` leads from the record of the place a back to that of the place b
-abbrev slice-known→start : tie.After-slice-known Inv-loop μ-loop → tie.Start Inv-loop μ-loop
-slice-known→start c = c .before .before .before
-
 abbrev lower-pairs→start : tie.After-lower-pairs Inv-loop μ-loop → tie.Start Inv-loop μ-loop
-lower-pairs→start c = slice-known→start (c .before)
+lower-pairs→start c = c .before .before .before .before
+
+abbrev loop→lower-pairs : tie.At-loop Inv-loop μ-loop → tie.After-lower-pairs Inv-loop μ-loop
+loop→lower-pairs c = c .before
 
 abbrev after-loop→loop : tie.After-loop Inv-loop μ-loop → tie.At-loop Inv-loop μ-loop
 after-loop→loop c = c .before
 
 abbrev after-loop→start : tie.After-loop Inv-loop μ-loop → tie.Start Inv-loop μ-loop
-after-loop→start c = lower-pairs→start (after-loop→loop c .before)
+after-loop→start c = lower-pairs→start (loop→lower-pairs (after-loop→loop c))
 
-abbrev put-change-arg→table : tie.After-put-change-arg Inv-loop μ-loop → tie.After-table Inv-loop μ-loop
-put-change-arg→table c = c .before .before .before
+abbrev in-loop→loop : tie.In-loop Inv-loop μ-loop → tie.At-loop Inv-loop μ-loop
+in-loop→loop c = c .before
 
 abbrev put-change-arg→in-loop : tie.After-put-change-arg Inv-loop μ-loop → tie.In-loop Inv-loop μ-loop
-put-change-arg→in-loop c = put-change-arg→table c .before
+put-change-arg→in-loop c = c .before .before .before .before
 
 abbrev put-change-arg→loop : tie.After-put-change-arg Inv-loop μ-loop → tie.At-loop Inv-loop μ-loop
-put-change-arg→loop c = put-change-arg→in-loop c .before
+put-change-arg→loop c = in-loop→loop (put-change-arg→in-loop c)
 
 abbrev put-change-arg→lower-pairs : tie.After-put-change-arg Inv-loop μ-loop → tie.After-lower-pairs Inv-loop μ-loop
-put-change-arg→lower-pairs c = put-change-arg→loop c .before
+put-change-arg→lower-pairs c = loop→lower-pairs (put-change-arg→loop c)
 
 abbrev put-change-arg→start : tie.After-put-change-arg Inv-loop μ-loop → tie.Start Inv-loop μ-loop
 put-change-arg→start c = lower-pairs→start (put-change-arg→lower-pairs c)
@@ -52,8 +52,11 @@ slice-known2→put-change c = c .before .before
 abbrev slice-known2→in-loop : tie.After-slice-known2 Inv-loop μ-loop → tie.In-loop Inv-loop μ-loop
 slice-known2→in-loop c = put-change-arg→in-loop (slice-known2→put-change c .before)
 
+abbrev slice-known2→loop : tie.After-slice-known2 Inv-loop μ-loop → tie.At-loop Inv-loop μ-loop
+slice-known2→loop c = in-loop→loop (slice-known2→in-loop c)
+
 abbrev slice-known2→start : tie.After-slice-known2 Inv-loop μ-loop → tie.Start Inv-loop μ-loop
-slice-known2→start c = put-change-arg→start (slice-known2→put-change c .before)
+slice-known2→start c = lower-pairs→start (loop→lower-pairs (slice-known2→loop c))
 
 loop-holds : tie.Need-loop-holds Inv-loop μ-loop
 loop-holds c = (omega arith, none (now (lower-pairs→start c .args .room)) 0)
@@ -75,7 +78,7 @@ loop-again : tie.Need-loop-again Inv-loop μ-loop
 loop-again c = (
   omega arith,
   changes-then _ _ _ (slice-known2→in-loop c .loop-test .taken)
-      (slice-known2→start c .pre .0 ∙ sym (slice-known2→start c .pre .1 .0)) (slice-known2→in-loop c .before .loop .inv .1)
+      (slice-known2→start c .pre .0 ∙ sym (slice-known2→start c .pre .1 .0)) (slice-known2→loop c .loop .inv .1)
       (slice-known2→put-change c .put-change .ensures),
 )
 
