@@ -11,11 +11,14 @@ use Rattle.block1.proofs.meter_written.Statement.{statement}
 use Rattle.block1.proofs.meter_written.Tie as tie
 
 -- places: `a→b` leads from the record of the place a back to that of the place b
-abbrev then1→start : tie.Then1 → tie.Start
-then1→start c = c .before .before .before
+abbrev cells-written→start : tie.After-cells-written → tie.Start
+cells-written→start c = c .before .before
+
+abbrev cycles-written→cells-written : tie.After-cycles-written → tie.After-cells-written
+cycles-written→cells-written c = c .before .before
 
 abbrev acr-written→start : tie.After-acr-written → tie.Start
-acr-written→start c = then1→start (c .before .before)
+acr-written→start c = cells-written→start (cycles-written→cells-written (c .before))
 
 -- the charge is that after a write of ACR, and nothing of the flow is written
 charged : (c : tie.After-acr-written) → let a = acr-written→start c .args in
@@ -33,8 +36,8 @@ returns c =
     let c1 = c .before in
     let c2 = c1 .before in
     let c3 = c2 .before in
-    let c5 = c3 .before .before in
-    let c7 = c5 .before .before in
+    let c5 = cycles-written→cells-written c3 in
+    let c7 = cells-written→start c5 in
     let m = c7 .args .meter in
     let a = c7 .args .a in
     let bytes = now (c7 .args .bytes) in
@@ -53,7 +56,7 @@ returns c =
 returns-2 : tie.Need-returns-2
 returns-2 c =
     let c1 = c .before in
-    let c3 = c1 .before .before in
+    let c3 = cells-written→start c1 in
     let w = c3 .pre .0 in (
       rw (written-above (c3 .args .meter) (c3 .args .a) (now (c3 .args .bytes)) (c .if1 .left)) (simp (c1 .cells-written .ensures)),
       record { charge = w .charge; average = w .average; full = w .full; volt = w .volt; temp = w .temp },
