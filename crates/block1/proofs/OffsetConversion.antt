@@ -1,120 +1,21 @@
--- Request [7] in figures, in the form of Figures of the meter: one table, one statement, closed by computation; and what a write does to the
--- mark and to the count of conversions.
-use mathlib.Core.Path.{_≡_, refl}
+-- Request [7], proved of the meter: the figures, closed by computation, and the rules.
+use mathlib.Core.Path.{_≡_, refl, ap, _∙_}
 use mathlib.Core.Bool.{true, false}
-use mathlib.Core.List.{List, [], _∷_}
-use Prim.Native.Nat.{ℕ, zero, suc, _+_, _-_, _*_}
-use Rattle.numbers.specs.Choice.{pick, both}
-use Rattle.numbers.specs.Offset.{zeroAt}
-use Rattle.numbers.proofs.Bounds.{picked}
+use mathlib.Core.List.{List}
+use Prim.Native.Nat.{ℕ}
 use Rattle.slices.specs.Slices.{laidOf}
-use Rattle.state.specs.declared.Charge.{Charge}
-use Rattle.conversion.specs.Conversion.{countedOf, averagedOf, foundOf, settledOf, withCharge, withFlow, flowedOf, convertOf}
+use Rattle.conversion.specs.Conversion.{countedOf, averagedOf, foundOf, settledOf, flowedOf, convertOf, correctsFull}
+use Rattle.conversion.proofs.Corrections.{converted-charge}
+use Rattle.conversion.proofs.OffsetConversion.{convert-made, every-1024th, raw-ignored, all-others, convert-mark, powered-mark}
 use Rattle.reading.specs.Reading.{emptiedOf, seenOf, drainedOf, resultsShown, readOf}
+use Rattle.reading.specs.Figures.{Hold}
+use Rattle.reading.proofs.OffsetConversion.{read-mark, read-made}
+use Rattle.state.specs.declared.Cells.{Cells}
+use Rattle.state.specs.declared.Charge.{Charge}
 use Rattle.state.specs.declared.Meter.{Meter}
-use Rattle.state.specs.State.{noFlow, poweredOf}
-use Rattle.reading.proofs.Figures.{M, withByte, plus, powered, readAt, Figure, _is_, Hold}
+use Rattle.state.specs.State.{poweredOf}
 use Rattle.block1.specs.Block1.{reachesOf, acrWrittenOf, blockWrittenOf, meterWrittenOf}
-
--- ---- the meters
-
--- M with COB 5 and AB 3
-abbrev block : List ℕ
-block = withByte (withByte M 0x7b 5) 0x61 3
-
--- a conversion whose raw value and COB come to c
-abbrev current : ℕ → Meter → Meter
-current c m = convertOf m (plus c - 5)
-
-abbrev currents : ℕ → ℕ → Meter → Meter
-currents zero c m = m
-currents (suc n) c m = currents n c (current c m)
-
--- ACR 1234h written over the bus
-abbrev written : Meter → Meter
-written m = meterWrittenOf m 0x10 (0x12 ∷ 0x34 ∷ [])
-
--- 1,022 conversions, the last six of 1,000; then one of 2,000, the 1024th with an outlier, and one of 3,000
-abbrev at1022 : Meter
-at1022 =
-    withFlow (powered block 5000 128) (record {
-      trace = record { last = zeroAt 15 + 1000; before = zeroAt 15 + 1000; any = true; two = true };
-      average = record { made = 1022; sum = 6 * (zeroAt 15 + 1000); iavg = zeroAt 15 + 1000; known = true };
-      since = noFlow .since;
-      tick = noFlow .tick;
-    })
-
-abbrev at1023 : Meter
-at1023 = current 2000 at1022
-
-abbrev at1024 : Meter
-at1024 = current 20000 at1023
-
-abbrev at1025 : Meter
-at1025 = current 3000 at1024
-
--- the write, the conversion after it, and the one after that
-abbrev wrote : Meter
-wrote = written (currents 3 1000 (powered block 5000 128))
-
-abbrev after1 : Meter
-after1 = current 1000 wrote
-
-abbrev after2 : Meter
-after2 = current 1000 after1
-
--- the write comes before the 1024th
-abbrev both1024 : Meter
-both1024 = current 20000 (written at1023)
-
--- AC 1 and an age counter of 32
-abbrev old : Meter
-old = withCharge (powered (withByte block 0x63 1) 5000 128) (record { count = 5000 * 4096; age = 32; aging = 128; learnf = false; mark = false })
-
--- what a meter has
-abbrev shown : Meter → ℕ
-shown m = m .flow .trace .last
-
-abbrev count : Meter → ℕ
-count m = m .charge .count
-
-abbrev made : Meter → ℕ
-made m = m .flow .average .made
-
-abbrev mark : Meter → ℕ
-mark m = pick (m .charge .mark) 1 0
-
--- ---- the table
-
--- ACR 1234h, fraction 0
-abbrev set : ℕ
-set = 0x1234 * 4096
-
-abbrev pub offsetFigures : List Figure
-offsetFigures =
-    -- W7.1. So many conversions since a power-on; then the 1023rd, 1024th and 1025th, modulo 1,024
-    (made (currents 1022 1000 (powered block 5000 128)) ∷ made at1022 ∷ [] is 1022 ∷ 1022 ∷ []) ∷
-    (made at1023 ∷ made at1024 ∷ made at1025 ∷ [] is 1023 ∷ 0 ∷ 1 ∷ []) ∷
-    -- W7.5. The 1024th shows what the 1023rd did: neither its raw value nor COB is used
-    (shown at1023 ∷ shown at1024 ∷ shown at1025 ∷ [] is (zeroAt 15 + 2000) ∷ (zeroAt 15 + 2000) ∷ (zeroAt 15 + 3000) ∷ []) ∷
-    -- W7.6. It is counted, with AB, and averaged: six c of 1,000 and two of 2,000; and it is one of the last two
-    (count at1023 ∷ count at1024 ∷ count at1025 ∷ [] is (5000 * 4096 + 2003) ∷ (5000 * 4096 + 2003 + 2003)
-    ∷ (5000 * 4096 + 2003 + 2003 + 3003) ∷ []) ∷
-    (at1024 .flow .average .iavg ∷ at1025 .flow .trace .before ∷ [] is (zeroAt 15 + 1250) ∷ (zeroAt 15 + 2000) ∷ []) ∷
-    -- W7.2, W7.9. The write sets the mark and the conversion after it uses it up
-    (mark wrote ∷ mark after1 ∷ mark after2 ∷ [] is 1 ∷ 0 ∷ 0 ∷ []) ∷
-    -- W7.7. That conversion adds neither c nor AB, and the one after it adds both
-    (count wrote ∷ count after1 ∷ count after2 ∷ [] is set ∷ set ∷ (set + 1000 + 3) ∷ []) ∷
-    -- W7.8. It shows and averages its c, and ageing is looked at
-    (shown after1 ∷ after1 .flow .average .sum ∷ [] is (zeroAt 15 + 1000) ∷ (4 * (zeroAt 15 + 1000)) ∷ []) ∷
-    (current 1000 (written old) .charge .aging ∷ current 1000 (written old) .charge .age ∷ [] is 127 ∷ 0 ∷ []) ∷
-    -- W7.3. A reading leaves the mark, and 11h without 10h sets none
-    (mark (readAt (plus 320) wrote) ∷ mark (meterWrittenOf after2 0x11 (0x34 ∷ [])) ∷ [] is 1 ∷ 0 ∷ []) ∷
-    -- W7.10. Both together: the c before is shown and nothing is added; the next adds its own
-    (shown both1024 ∷ count both1024 ∷ count (current 3000 both1024) ∷ [] is (zeroAt 15 + 2000) ∷ set ∷ (set + 3000 + 3) ∷ []) ∷
-    -- W7.11. The write does not restart the count of conversions, and the conversion after it is one of them
-    (made wrote ∷ made after1 ∷ made (written at1023) ∷ made both1024 ∷ [] is 3 ∷ 4 ∷ 1023 ∷ 0 ∷ []) ∷
-    []
+use Rattle.block1.specs.OffsetConversion.{madeIn, offsetFigures, setsAcr, leavesAcr, OffsetRules}
 
 pub offset-figures-hold : Hold offsetFigures
 unfolding laidOf reachesOf acrWrittenOf blockWrittenOf meterWrittenOf poweredOf countedOf averagedOf foundOf settledOf flowedOf convertOf emptiedOf seenOf
@@ -125,16 +26,43 @@ offset-figures-hold = (refl, (refl, (refl, (refl, (refl, (refl, (refl, (refl, (r
 
 module _ (m : Meter) (a : ℕ) (bytes : List ℕ) where
   -- W7.2. 11h after 10h sets the mark, whatever ACR was
-  pub written-mark : both (reachesOf a bytes 0x10) (reachesOf a bytes 0x11) ≡ true → meterWrittenOf m a bytes .charge .mark ≡ true
+  pub written-mark : setsAcr a bytes → meterWrittenOf m a bytes .charge .mark ≡ true
   unfolding meterWrittenOf acrWrittenOf
   written-mark e = simp e
 
   -- W7.3. No other write sets or clears it
-  pub unwritten-mark : both (reachesOf a bytes 0x10) (reachesOf a bytes 0x11) ≡ false → meterWrittenOf m a bytes .charge .mark ≡ m .charge .mark
+  pub unwritten-mark : leavesAcr a bytes → meterWrittenOf m a bytes .charge .mark ≡ m .charge .mark
   unfolding meterWrittenOf acrWrittenOf
   unwritten-mark e = simp e
 
   -- W7.11. No write restarts the count of conversions
-  pub written-made : made (meterWrittenOf m a bytes) ≡ made m
+  pub written-made : madeIn (meterWrittenOf m a bytes) ≡ madeIn m
   unfolding meterWrittenOf
   written-made = refl
+
+-- ---- all of them
+
+powered-none : (c : Cells) → madeIn (poweredOf c) ≡ 0
+unfolding poweredOf
+powered-none c = refl
+
+adds-none : (m : Meter) (raw : ℕ) → m .charge .mark ≡ true → correctsFull m raw ≡ false → convertOf m raw .charge .count ≡ m .charge .count
+unfolding countedOf settledOf
+adds-none m raw mark found = ap (λ (g : Charge). g .count) (converted-charge m raw) ∙ rw (found, mark) refl
+
+pub offset-rules : OffsetRules
+offset-rules = record {
+  counts = convert-made;
+  read-counts-none = read-made;
+  write-counts-none = written-made;
+  previous = every-1024th;
+  ignored = raw-ignored;
+  own = all-others;
+  marks = written-mark;
+  marks-only = unwritten-mark;
+  read-leaves-mark = read-mark;
+  used = convert-mark;
+  adds-nothing = adds-none;
+  power-on-count = powered-none;
+  power-on-mark = powered-mark;
+}

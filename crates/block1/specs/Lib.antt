@@ -1,1 +1,2 @@
 pub mod Block1
+pub mod OffsetConversion

@@ -4,7 +4,7 @@ use mathlib.Core.Bool.{Bool, false}
 use mathlib.Core.List.{List, [], _∷_}
 use Prim.Native.Nat.{ℕ, _+_, _-_, _%_}
 use lib.ListN.{length}
-use Rattle.conversion.specs.Conversion.{countedOf, filledOf, settledOf, flowedOf, convertOf, currentOf, nextMade, convertedOf}
+use Rattle.conversion.specs.Conversion.{countedOf, filledOf, settledOf, flowedOf, convertOf, allConverted, currentOf, nextMade, convertedOf}
 use Rattle.state.specs.declared.Charge.{Charge}
 use Rattle.state.specs.State.{poweredOf}
 use Rattle.state.specs.declared.Meter.{Meter}
@@ -14,11 +14,6 @@ use Rattle.numbers.proofs.Bounds.{picked}
 use Rattle.params.specs.Params.{countingOf}
 use Rattle.conversion.proofs.FullLaws.{averaged-made}
 use Rattle.state.specs.declared.Cells.{Cells}
-
--- conversions, one after the other
-abbrev pub converted : List ℕ → Meter → Meter
-converted [] m = m
-converted (raw ∷ more) m = converted more (convertOf m raw)
 
 abbrev pub made : Meter → ℕ
 made m = m .flow .average .made
@@ -33,13 +28,13 @@ pub convert-made : (m : Meter) (raw : ℕ) → made (convertOf m raw) ≡ nextMa
 unfolding convertOf flowedOf
 convert-made m raw = averaged-made (m .flow .average) _
 
-counted-on : (raws : List ℕ) (m : Meter) (n : ℕ) → made m ≡ n % 1024 → made (converted raws m) ≡ (n + length raws) % 1024
+counted-on : (raws : List ℕ) (m : Meter) (n : ℕ) → made m ≡ n % 1024 → made (allConverted raws m) ≡ (n + length raws) % 1024
 counted-on [] m n e = e ∙ ap (λ (x : ℕ). x % 1024) (omega arith)
 counted-on (raw ∷ more) m n e =
     counted-on more (convertOf m raw) (n + 1) (omega (arith, convert-made m raw, e)) ∙ ap (λ (x : ℕ). x % 1024) (omega arith)
 
 -- a power-on starts it
-pub powered-made : (c : Cells) (raws : List ℕ) → made (converted raws (poweredOf c)) ≡ length raws % 1024
+pub powered-made : (c : Cells) (raws : List ℕ) → made (allConverted raws (poweredOf c)) ≡ length raws % 1024
 unfolding poweredOf
 powered-made c raws = counted-on raws (poweredOf c) 0 refl ∙ ap (λ (x : ℕ). x % 1024) (omega arith)
 

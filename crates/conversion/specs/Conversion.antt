@@ -326,3 +326,9 @@ abbrev pub correctsFull : Meter → ℕ → Bool
 correctsFull meter raw =
     let f = meter .flow in
     both (eighth (f .average)) (foundOf (f .average) (f .since) (limitsOf (meter .cells .block .shadow)) (currentIn meter raw))
+
+-- ---- conversions, one after the other
+
+abbrev pub allConverted : List ℕ → Meter → Meter
+allConverted [] meter = meter
+allConverted (raw ∷ more) meter = allConverted more (convertOf meter raw)

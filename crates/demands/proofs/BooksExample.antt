@@ -20,7 +20,6 @@ use Rattle.bus.specs.Ask.{romBy, commandOf, askedAt, askedOf, ownOf}
 use Rattle.gauge.specs.Gauge.{conversionOf, samplingOf, readingOf, powerOnOf, writtenOf, copiedOf, recalledOf, lockedOf}
 use Rattle.replies.specs.Reply.{selectedOf}
 use Rattle.gauge.specs.Act.{ranOf, actOf, replyOf}
-use Rattle.gauge.specs.declared.Gauge.{Gauge}
 use Rattle.gauge.specs.Image.{imageOf}
 use Rattle.record.specs.Record.{kindOf, addressedOf, orderedOf, judgedAmong, takenOf}
 use Rattle.runs.specs.Record.{Rec, whole, wholeOf, recOf, sizeOf}
@@ -31,7 +30,7 @@ use Rattle.tray_record.specs.declared.Tray.{Tray}
 use Rattle.tray_record.specs.Tray.{emptyTray, searchOf, trayKindOf, matchedOf, trayDid}
 use Rattle.demands.specs.Call.{Call, Within, firstOf}
 use Rattle.demands.specs.History.{Happening, transacted, ofGauge, ofSlot, heardSince, leftBy}
-use Rattle.demands.specs.Books.{sumOver, BooksMet, BooksOver1024th}
+use Rattle.demands.specs.Books.{sumOver, BooksMet}
 use Rattle.demands.specs.Stored.{block0, block1, EepromMet}
 use Rattle.demands.proofs.Called.{packed, called, called-within, called-stopped}
 
@@ -252,33 +251,3 @@ slot-eeprom-met =
       since = refl;
       copies = (refl, refl, refl);
     }
-
--- a gauge of which 1,023 conversions were made
-abbrev with1023 : Gauge → Gauge
-with1023 g =
-    let m = g .meter in
-    let f = m .flow in
-    let a = f .average in
-    record {
-      common = g .common;
-      label = g .label;
-      meter = record {
-        cells = m .cells;
-        charge = m .charge;
-        cycles = m .cycles;
-        flow = record { trace = f .trace; since = f .since; average = record { sum = a .sum; made = 1023; known = a .known; iavg = a .iavg }; tick = f .tick };
-        shown = m .shown;
-      };
-    }
-
--- the one before was of -1,000, and the 1,024th is of 40
-pub books-over-1024th : BooksOver1024th
-unfolding imageOf poweredOf conversionOf convertOf flowedOf countedOf averagedOf foundOf settledOf
-books-over-1024th = record {
-  gauge = with1023 (conversionOf (imageOf Ds2781 image) (2147483648 - 1000));
-  made = refl;
-  last = λ e. pos-ne-negsuc 0 996 (sym e);
-  raw = 2147483648 + 40;
-  kept = (refl, tt);
-  sum = refl;
-}

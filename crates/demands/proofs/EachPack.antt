@@ -5,12 +5,12 @@ use mathlib.Core.List.{List, [], _∷_}
 use Prim.Native.Nat.{ℕ, zero, suc, _<_}
 use native.Mathlib.Nat.{mod-eq-of-lt}
 use native.Mathlib.Omega.{arith}
-use borrow.Author.Tests.{lt-ltb, eqb-true, eqb-false}
+use borrow.Author.Tests.{lt-ltb, ne-eqb, eqb-true, eqb-false}
 use lib.Bits.{bitAnd, and-comm, and-mask}
 use lib.Dec.{eqb}
 use lib.ListN.{length, getD}
 use lib.Seq.{ext-getD}
-use Rattle.numbers.specs.Choice.{pick}
+use Rattle.numbers.specs.Choice.{pick, either}
 use Rattle.bus.specs.declared.Transaction.{Transaction}
 use Rattle.params.specs.Params.{rnaopOf}
 use Rattle.replies.specs.Reply.{sourceByte}
@@ -24,7 +24,8 @@ use Rattle.record.specs.declared.Refusal.the-variants as refusal
 use Rattle.record.specs.declared.Event.the-variants.{Image, Change, Transact}
 use Rattle.record.specs.declared.Taken.{Taken}
 use Rattle.record.specs.declared.Taken.the-variants.{Run, Refused}
-use Rattle.record.specs.Record.{masterOf, fittedOf}
+use Rattle.record.specs.Record.{refusalNumber, masterOf, fittedOf}
+use Rattle.record.proofs.Fits.{refusal-range}
 use Rattle.runs.proofs.AnyRecord.{reply-length}
 use Rattle.runs.specs.Record.{whole, recsOf}
 use Rattle.runs.specs.Run.{Did}
@@ -34,13 +35,13 @@ use Rattle.runs.specs.SessionRecord.{loadedWith, takenDid, didOf}
 use Rattle.tray_record.proofs.Hearing.{wired-length, tray-reply-length}
 use Rattle.tray_record.specs.declared.Tray.{Tray}
 use Rattle.tray_record.specs.Wire.{andBytes}
-use Rattle.tray_record.specs.Tray.{emptyTray, packOf, wiredFirst, Reach, one, every, nobody, trayReach, trayActed, trayReply, trayTold, ofTray, trayDid}
+use Rattle.tray_record.specs.Tray.{emptyTray, packOf, wiredFirst, Reach, one, every, trayReach, trayActed, trayReply, trayTold, ofTray, trayDid}
 use Rattle.demands.specs.Longer.{formKind}
 use Rattle.demands.specs.Slots.{andOver, EachAsPlain, TransactionsAsPlain}
-use Rattle.demands.proofs.Choice.{contrary}
+use Rattle.demands.proofs.Choice.{contrary, either-none, either-true}
 use Rattle.demands.proofs.Moments.{running}
 use Rattle.demands.proofs.Fitted.{fitted-has}
-use Rattle.demands.proofs.Packs.{Eight, acted-pack}
+use Rattle.demands.proofs.Packs.{Eight, acted-pack, acted-count}
 use Rattle.demands.proofs.Asked.{Asks, tray-asks}
 use Rattle.demands.proofs.Alone.{transaction-kind}
 use Rattle.demands.proofs.Slots.{asks-plain}
@@ -143,23 +144,34 @@ and-same zero f g e = refl
 and-same (suc n) f g e = rw (and-same n f g (λ i low. e i (omega arith)), e n (omega arith)) refl
 
 -- what each pack does is asked of the packs that are there alone
-each-same : {n : ℕ} {d : Did Tray} (f g : ℕ → Did Session) → ((i : ℕ) → i < n → f i ≡ g i) → EachAsPlain n d f → EachAsPlain n d g
-each-same {n} {d} f g e h = record {
+each-same : {τ : Tray} {d : Did Tray} (f g : ℕ → Did Session) → ((i : ℕ) → i < τ .count → f i ≡ g i) → EachAsPlain τ d f → EachAsPlain τ d g
+each-same {τ} {d} f g e h = record {
   answer = λ i low. h .answer i low ∙ ap (λ (x : Did Session). x .answer) (e i low);
   pack = λ i low. h .pack i low ∙ ap (λ (x : Did Session). x .state .gauge) (e i low);
+  count = h .count;
+  closed = h .closed;
   size = λ i low. h .size i low ∙ ap (λ (x : Did Session). length (x .reply)) (e i low);
   byte = λ k less bytes.
-      let same : (i : ℕ) → i < n → getD (f i .reply) k 0 ≡ getD (g i .reply) k 0 = λ i low. ap (λ (x : Did Session). getD (x .reply) k 0) (e i low) in
+      let same : (i : ℕ) → i < τ .count → getD (f i .reply) k 0 ≡ getD (g i .reply) k 0 = λ i low. ap (λ (x : Did Session). getD (x .reply) k 0) (e i low) in
       h .byte k less (λ i low. rw (same i low) (bytes i low))
-      ∙ and-same n (λ i. getD (f i .reply) k 0) (λ i. getD (g i .reply) k 0) same;
+      ∙ and-same (τ .count) (λ i. getD (f i .reply) k 0) (λ i. getD (g i .reply) k 0) same;
 }
 
 module _ (τ : Tray) (h : Distinct τ) (f : Form) (p : List ℕ) where
   abbrev Each : Taken → Type 0
-  Each t = EachAsPlain (τ .count) (answeredBy ofTray τ p t) (λ i. takenDid (loadedWith (packOf τ i)) p t)
+  Each t = EachAsPlain τ (answeredBy ofTray τ p t) (λ i. takenDid (loadedWith (packOf τ i)) p t)
 
   refused-each : (r : Refusal) → Each (Refused r)
-  refused-each r = record { answer = λ i low. refl; pack = λ i low. refl; size = λ i low. refl; byte = λ k less bytes. absurd (omega arith) }
+  refused-each r = record {
+    answer = λ i low. refl;
+    pack = λ i low. refl;
+    count = refl;
+    closed =
+        let z : refusalNumber r ≡ 0 → ⊥ = λ e. omega (arith, refusal-range r) in
+        sym (ap (either (τ .closed)) (ne-eqb (refusalNumber r) 0 z) ∙ either-none (τ .closed));
+    size = λ i low. refl;
+    byte = λ k less bytes. absurd (omega arith);
+  }
 
   transact-each : (t : Transaction) → Each (Run (Transact t))
   transact-each t =
@@ -170,6 +182,8 @@ module _ (τ : Tray) (h : Distinct τ) (f : Form) (p : List ℕ) where
       record {
         answer = λ i low. refl;
         pack = λ i low. each-acts t master τ (h .eight) reach w i low;
+        count = acted-count t master τ reach;
+        closed = sym (either-true (τ .closed));
         size = λ i low. long ∙ sym (reply-length (packOf τ i) t master);
         byte = λ k less bytes. each-byte t master τ (h .eight) reach w k (rw long at less) bytes;
       }
@@ -181,7 +195,7 @@ module _ (τ : Tray) (h : Distinct τ) (f : Form) (p : List ℕ) where
   taken-each (Refused r) a = refused-each r
 
   pub did-each : (room : ℕ)
-      → EachAsPlain (τ .count) (trayDid τ room (whole (formKind f) p)) (λ i. didOf (loadedWith (packOf τ i)) room (whole (formKind f) p))
+      → EachAsPlain τ (trayDid τ room (whole (formKind f) p)) (λ i. didOf (loadedWith (packOf τ i)) room (whole (formKind f) p))
   unfolding trayDid didOf
   did-each room =
       let told = trayTold τ (formKind f) p in

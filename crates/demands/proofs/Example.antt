@@ -36,7 +36,7 @@ use Rattle.demands.specs.Demand2.{Fresh, eepromBreaks, Crossed, AnswersI
 use Rattle.demands.specs.Sections.{last, more}
 use Rattle.demands.specs.Class.{blockOf, touchedOf, labelsOf, touchedClass, sessionAsked}
 use Rattle.demands.specs.Demand3.{asksAll, Starts, Demand3Met}
-use Rattle.demands.specs.Programming.{Bench}
+use Rattle.demands.specs.Programming.{Bench, BenchMet}
 use Rattle.demands.proofs.Called.{packed, called, called-within}
 use Rattle.demands.proofs.Demand2.{demand-2}
 
@@ -243,4 +243,16 @@ bench-met = record {
   session = refl;
   run = called-within didOf emptyOf (programmingOf image wanted) (replicate 32 0) (replicate 30 0) (omega arith) (omega arith) .allowed;
   lent = omega arith;
+}
+
+pub bench-example : BenchMet
+bench-example = record {
+  image = image;
+  wanted = wanted;
+  room = replicate 120 0;
+  after = programmingOf image wanted;
+  call = programmed;
+  granted = granted-met;
+  bench = bench-met;
+  new = λ e. let z : _≡_ {A = ℕ} 0x5a 0 = ap (λ (l : List ℕ). getD l 31 0) e in omega arith;
 }

@@ -60,6 +60,7 @@ round-trip-met = record {
   pack-bytes = pack-small;
   factory-bytes = factory-small;
   labels = λ e. let z : _≡_ {A = ℕ} 0x41 0x42 = ap (λ (l : List ℕ). getD l 0 0) e in absurd (omega arith);
+  locked = refl;
   room = replicate 144 0;
   after = exportText (exportLabel pack factory) (imageBlock pack);
   wrote = record { number = refl; answer = refl; written = refl };

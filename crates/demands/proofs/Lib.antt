@@ -44,10 +44,13 @@ pub mod History
 pub mod Lives
 pub mod Slow
 pub mod BooksExample
+pub mod OffsetExample
 pub mod HundredExample
 pub mod Mending
 pub mod HexExample
 pub mod Functions
+pub mod NoSlack
+pub mod Crc
 pub mod Edges
 pub mod Stepwise
 pub mod Theorems

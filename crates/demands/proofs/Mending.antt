@@ -1,14 +1,16 @@
 -- Mended images, proved: the first record of a session, which the judge of `mending` accepts.
-use mathlib.Core.Path.{_≡_, ap, _∙_}
+use mathlib.Core.Path.{_≡_, sym, ap, _∙_}
 use mathlib.Core.List.{List, _∷_}
 use Prim.Native.Nat.{ℕ}
 use native.Mathlib.Nat.{sub-zero}
-use lib.ListN.{length, take}
+use lib.ListN.{length, take, replicate}
 use Rattle.state.specs.declared.Profile.the-variants.{Ds2781}
 use Rattle.gauge.specs.Image.{imageOf}
 use Rattle.record.specs.Image.{imageSize}
 use Rattle.mending.specs.Worth.{Accepted}
 use Rattle.mending.proofs.Worth.{accepted, by-call}
+use Rattle.mending.proofs.Example.{damaged, damaged-refused, mendable-met, sound-met, done-met}
+use Rattle.mending.proofs.Example as example
 use Rattle.runs.specs.Record.{whole, recsOf}
 use Rattle.runs.specs.Run.{silently}
 use Rattle.runs.proofs.Records.{recs-record}
@@ -16,7 +18,8 @@ use Rattle.runs.specs.declared.Session.{Session}
 use Rattle.runs.specs.SessionRecord.{loadedWith, didOf}
 use Rattle.session_run.specs.SessionRun.{emptyOf}
 use Rattle.demands.specs.Call.{Call}
-use Rattle.demands.specs.Mending.{MendedFirst, MendedTheorem}
+use Rattle.demands.specs.Mending.{MendedFirst, MendedTheorem, MendingMet}
+use Rattle.demands.proofs.Choice.{contrary}
 use Rattle.demands.proofs.Moments.{tells}
 use Rattle.demands.proofs.Demand2.{did-image}
 
@@ -35,3 +38,15 @@ module _ {image room after rest : List ℕ} {c : Call Session} (f : MendedFirst 
 
 pub mended-first : MendedTheorem
 mended-first image room after rest c f = record { told = tells didOf emptyOf (f .run); lines = rw (records f) (simp (does f, sub-zero)) }
+
+-- THE HYPOTHESES CAN BE MET
+pub mending-met : MendingMet
+mending-met = record {
+  damaged = damaged;
+  sound = example.whole;
+  refused = λ e. let z = sym damaged-refused ∙ e in contrary cc;
+  mendable = mendable-met;
+  room = replicate 60 0;
+  mended = done-met;
+  is-sound = sound-met;
+}

@@ -2,7 +2,7 @@
 use mathlib.Core.Path.{_≡_, refl, sym, ap, _∙_}
 use mathlib.Core.Bool.{Bool, true, false, not}
 use mathlib.Core.List.{List, [], _∷_}
-use Prim.Native.Nat.{ℕ, zero, suc, _+_, _-_, _*_, _<_, zero-le}
+use Prim.Native.Nat.{ℕ, zero, suc, _+_, _-_, _*_, _≤_, _<_, zero-le}
 use native.Mathlib.Omega.{arith}
 use borrow.Author.Tests.{ltb-true, ltb-false, eqb-true, eqb-false, le-ltb, le-leb, lt-leb, eq-eqb, ne-eqb, not-true}
 use lib.Dec.{ltb, leb, eqb}
@@ -36,16 +36,18 @@ use Rattle.record.specs.Image.{imageAddress, imageBreaks}
 use Rattle.record.specs.Record.{refusalNumber, takenNumber, kindOf, headOf, limitOf, readCount, addressedOf, lockableOf, orderedOf, judgedAmong, countAt}
 use Rattle.record.specs.Record.{transactionIn, transactionOf, sizedOf, takenOf, changeTimely, eventTimely, timedOf, asksOf, fittedOf}
 use Rattle.runs.specs.Record.{Rec, whole, cut, wholeOf, recOf}
-use Rattle.runs.specs.Run.{Line, outcomeNumber}
+use Rattle.runs.specs.Run.{Did, Line, outcomeNumber, Running}
 use Rattle.runs.specs.AnyRecord.{Steps, answeredBy}
 use Rattle.runs.specs.declared.Session.{Session}
 use Rattle.runs.specs.SessionRecord.{lastTick, ofSession, didOf}
+use Rattle.runs.proofs.Ends.{within-done}
 use Rattle.runs.proofs.AnyRecord.{Replying, session-replying}
 use Rattle.session_run.specs.SessionRun.{emptyOf}
 use Rattle.tray_record.specs.declared.Tray.{Tray}
 use Rattle.tray_record.specs.declared.Found.the-variants.{At}
 use Rattle.tray_record.specs.Tray.{emptyTray, packOf, searchFrom, searchOf, isFound, noGauge, trayKindOf, slotIn, againOf, slotTick, trayTold, ofTray, trayDid}
 use Rattle.tray_record.proofs.Hearing.{tray-replying}
+use Rattle.demands.specs.Call.{Call, Allowed}
 use Rattle.demands.specs.Images.{imageKind}
 use Rattle.demands.specs.Numbers.{Case, OnlyWhen, runsShort, misaddressed, lockedAbove3, someSlot, breaksRise, breaksCross, sessionCases}
 use Rattle.demands.specs.Numbers.{trayCases, frontCases, Numbers, EachNumber}
@@ -277,6 +279,22 @@ module _ (σ : Session) (room : ℕ) (p : List ℕ) where
   session-image Ds2781 = image-number room (lastTick σ) p Ds2781 false (σ .loaded)
   session-image Ds2775 = image-number room (lastTick σ) p Ds2775 false (σ .loaded)
 
+  short-given : Given 4
+  unfolding takenOf kindOf firstNumber
+  short-given =
+      due-number room (lastTick σ) p (sizedOf (kind.Transaction Short) (length p)) (σ .loaded) (transactionOf Short p) _
+      (short-number room (lastTick σ) p)
+
+  sample-given : Given 6
+  unfolding takenOf kindOf firstNumber
+  sample-given = due-number room (lastTick σ) p (eqb (length p) 6) (σ .loaded) _ _ (sample-number room (lastTick σ) p (countAt p 0) (pairAt p 4))
+
+  long-given : Given 7
+  unfolding takenOf kindOf firstNumber
+  long-given =
+      due-number room (lastTick σ) p (sizedOf (kind.Transaction Long) (length p)) (σ .loaded) (transactionOf Long p) _
+      (transaction-number room (lastTick σ) p Long)
+
   known-given : Each Given (1 ∷ 2 ∷ 3 ∷ 4 ∷ 5 ∷ 6 ∷ 7 ∷ 8 ∷ [])
   unfolding takenOf kindOf firstNumber
   known-given =
@@ -285,11 +303,8 @@ module _ (σ : Session) (room : ℕ) (p : List ℕ) where
       let quiet = quiet-change room last p in
       let reading : Given 2 = due (eqb (length p) 8) (σ .loaded) _ 0 (quiet (Reading (countAt p 0) (countAt p 4)) refl) in
       let conversion : Given 3 = due (eqb (length p) 4) (σ .loaded) _ 0 (quiet (Conversion (countAt p 0)) refl) in
-      let short : Given 4 = due (sizedOf (kind.Transaction Short) (length p)) (σ .loaded) (transactionOf Short p) _ (short-number room last p) in
       let power-on : Given 5 = due (eqb (length p) 0) (σ .loaded) _ 0 (quiet PowerOn refl) in
-      let sample : Given 6 = due (eqb (length p) 6) (σ .loaded) _ _ (sample-number room last p (countAt p 0) (pairAt p 4)) in
-      let long : Given 7 = due (sizedOf (kind.Transaction Long) (length p)) (σ .loaded) (transactionOf Long p) _ (transaction-number room last p Long) in
-      (session-image Ds2781, (reading, (conversion, (short, (power-on, (sample, (long, (session-image Ds2775, tt))))))))
+      (session-image Ds2781, (reading, (conversion, (short-given, (power-on, (sample-given, (long-given, (session-image Ds2775, tt))))))))
 
   session-number : (n : ℕ) → didOf σ room (whole n p) .answer ≡ firstNumber (sessionCases σ room n p)
   unfolding didOf
@@ -397,6 +412,11 @@ module _ (τ : Tray) (room : ℕ) (p : List ℕ) where
   tick-later : pairAt (drop 1 p) 4 ≡ pairAt p 5
   tick-later = λ i. getD-drop 1 p 4 0 i + 256 * getD-drop 1 p 5 0 i
 
+  tray-image : (f : Profile) → TrayGiven (imageKind f)
+  unfolding trayKindOf firstNumber
+  tray-image Ds2781 = image-given Ds2781
+  tray-image Ds2775 = image-given Ds2775
+
   known-tray : Each TrayGiven (1 ∷ 4 ∷ 7 ∷ 8 ∷ 18 ∷ 19 ∷ 21 ∷ 22 ∷ [])
   unfolding trayKindOf firstNumber
   known-tray =
@@ -409,7 +429,7 @@ module _ (τ : Tray) (room : ℕ) (p : List ℕ) where
       let power-on : TrayGiven 21 = slot-given 0 _ 0 (quiet PowerOn refl) in
       let sample : TrayGiven 22 = slot-given 6 _ _ (sample-number room slotLast p (countAt old 0) (pairAt old 4)
       ∙ ap (λ (tick : ℕ). pick (either (eqb (elapsedOf slotLast tick) 0) (ltb 64 (elapsedOf slotLast tick))) 11 0) tick-later) in
-      (image-given Ds2781, (short, (long, (image-given Ds2775, (reading, (conversion, (power-on, (sample, tt))))))))
+      (tray-image Ds2781, (short, (long, (tray-image Ds2775, (reading, (conversion, (power-on, (sample, tt))))))))
 
   tray-number : (n : ℕ) → trayDid τ room (whole n p) .answer ≡ firstNumber (trayCases τ room n p)
   unfolding trayDid
@@ -439,12 +459,18 @@ module _ (s : List ℕ) where
 
 -- 1, 2 and all others
 
+within-number : {S : Type 0} (did : S → ℕ → Rec → Did S) (start : S) (c : Call S) → Allowed did start c → length (c .bytes) ≤ 32768
+    → outcomeNumber (c .ran .outcome) ≡ 0
+within-number did start c a short =
+    let r : Running did start (c .bytes) (c .room) (c .answers) (c .ran) (c .replies) (c .told) = rw (within-done (length (c .bytes)) short) at a in
+    r .number
+
 session-numbers : Numbers didOf emptyOf sessionCases
 unfolding didOf distinct apartFrom
 session-numbers = record {
   over = λ c a long. demand-1 .over c a long .0;
-  within = λ c w. ap outcomeNumber (demand-1 .answers c w .told .done);
-  records = λ σ room s.
+  within = within-number didOf emptyOf;
+  records = λ σ room s some.
       only-when (frontCases didOf emptyOf sessionCases σ room s) refl (didOf σ room (recOf s) .answer)
       (front-number s (λ r. didOf σ room r .answer) refl _ (session-number σ room (part (pairAt s 0) s 4) (pairAt s 2)));
   lines = λ c w kind p l a b t.
@@ -459,8 +485,8 @@ tray-numbers : Numbers trayDid emptyTray trayCases
 unfolding trayDid distinct apartFrom
 tray-numbers = record {
   over = λ c a long. tray-demand-1 .over c a long .0;
-  within = λ c w. ap outcomeNumber (tray-demand-1 .answers c w .told .done);
-  records = λ τ room s.
+  within = within-number trayDid emptyTray;
+  records = λ τ room s some.
       only-when (frontCases trayDid emptyTray trayCases τ room s) refl (trayDid τ room (recOf s) .answer)
       (front-number s (λ r. trayDid τ room r .answer) refl _ (tray-number τ room (part (pairAt s 0) s 4) (pairAt s 2)));
   lines = λ c w kind p l a b t.

@@ -7,7 +7,7 @@ use native.Mathlib.Omega.{arith}
 use borrow.Author.Tests.{ltb-true, eqb-true}
 use lib.Dec.{ltb}
 use lib.ListN.{length, getD, take, drop}
-use Rattle.numbers.specs.Choice.{pick, either}
+use Rattle.numbers.specs.Choice.{pick}
 use Rattle.bus.specs.declared.Rom.{Rom}
 use Rattle.bus.specs.declared.Rom.the-variants as rom
 use Rattle.bus.specs.declared.Transaction.{Transaction}
@@ -19,16 +19,12 @@ use Rattle.tray_record.specs.declared.Found.the-variants.{At, Nowhere}
 use Rattle.tray_record.specs.Tray.{noGauge, packOf, searchOf, reachFound, matchedOf, nobody, reachBy, trayReach}
 use Rattle.demands.specs.Class.{someSelected}
 use Rattle.demands.specs.History.{hearsOf}
-use Rattle.demands.proofs.Choice.{contrary}
+use Rattle.demands.proofs.Choice.{contrary, either-true}
 use Rattle.demands.proofs.Packs.{search-none}
 use Rattle.demands.proofs.Asked.{matched-found}
 use Rattle.demands.proofs.Shut.{Owns}
 
 -- Whom a transaction selects among the packs that hear it: all, or none
-
-either-true : (b : Bool) → either b true ≡ true
-either-true true = refl
-either-true false = refl
 
 module _ (t : Transaction) (master : List ℕ) where
   some-true : (addresses : List (List ℕ)) (j : ℕ) → j < length addresses → selectedOf (getD addresses j []) t master ≡ true →

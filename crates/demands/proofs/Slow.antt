@@ -45,7 +45,7 @@ use Rattle.runs.specs.Run.{Did, silently, Line, lineOf, linesAfter, endAfter}
 use Rattle.runs.specs.AnyRecord.{answeredBy}
 use Rattle.runs.specs.declared.Session.{Session}
 use Rattle.runs.specs.SessionRecord.{loadedWith, ofSession, didOf}
-use Rattle.demands.specs.Slow.{Sample, tickIn, sampling, converting, Slowly, sample, other, NoSamples, slowRecord, sampleFits, isPowerOn}
+use Rattle.demands.specs.Slow.{Sample, tickIn, sampling, converting, Slowly, sample, other, isSample, NoSamples, slowRecord, sampleFits, isPowerOn}
 use Rattle.demands.specs.Slow.{oneByOne, doneLine, oneByOneLines, untickedGauge, unticked, lastOf, Slow}
 use Rattle.session_run.specs.SessionRun.{emptyOf}
 use Rattle.tray_record.specs.Tray.{emptyTray, trayDid}
@@ -53,7 +53,7 @@ use Rattle.gauge.specs.Image.{imageOf}
 use Rattle.demands.specs.Slow.{unsampledBy, tickHeard, unsampled, SlowPack}
 use Rattle.demands.specs.History.{Happening, imaged, changed, transacted, happened, lived, Pack, ofGauge, ofSlot, heardSince, leftBy}
 use Rattle.demands.proofs.History.{lived-append, Known, session-known, slot-known}
-use Rattle.demands.proofs.Choice.{contrary, Each, NoneOf, among}
+use Rattle.demands.proofs.Choice.{Each, NoneOf, among}
 
 -- One record
 
@@ -186,7 +186,7 @@ Other on (Refused r) = on ≡ false
 
 module _ (p : List ℕ) where
   abbrev OtherKind : ℕ → Type 0
-  OtherKind n = eqb n 6 ≡ false → Other (isPowerOn (whole n p)) (takenOf n true p)
+  OtherKind n = isSample (whole n p) ≡ false → Other (isPowerOn (whole n p)) (takenOf n true p)
 
   -- refused for its size, or not
   sized-other : (sized : Bool) (t : Taken) → Other false t → Other false (pick sized t (Refused refusal.Size))
@@ -215,7 +215,7 @@ module _ (p : List ℕ) where
             λ e. conversion,
             (
               λ e. transaction Short,
-              (λ e. power-on-other (eqb (length p) 0), (λ e. contrary cc, (λ e. transaction Long, (λ e. image 61, tt)))),
+              (λ e. power-on-other (eqb (length p) 0), (λ e. rw e refl, (λ e. transaction Long, (λ e. image 61, tt)))),
             ),
           ),
         ),
@@ -295,7 +295,7 @@ module _ (g h : Gauge) (e : untickedGauge g ≡ untickedGauge h) (p : List ℕ) 
       }
   taken-alike on (Refused r) o = record { one = g; another = h; left = refl; right = refl; same = e; tick = rw o refl; answer = refl; reply = refl }
 
-other-did : (g : Gauge) (room n : ℕ) (p : List ℕ) → eqb n 6 ≡ false
+other-did : (g : Gauge) (room n : ℕ) (p : List ℕ) → isSample (whole n p) ≡ false
     → didOf (loadedWith g) room (whole n p) ≡ answeredBy ofSession (loadedWith g) p (fittedOf room (takenOf n true p))
 unfolding didOf
 other-did g room n p z =
@@ -313,7 +313,7 @@ module _ (g h : Gauge) (e : untickedGauge g ≡ untickedGauge h) (room : ℕ) wh
   alike-did on r d f x y a =
       subst (λ (z : Did Session). Alike on g h z (didOf (loadedWith h) room r)) (sym x) (subst (λ (z : Did Session). Alike on g h d z) (sym y) a)
 
-  other-alike : (r : Rec) → eqb (kindIn r) 6 ≡ false → Alike (isPowerOn r) g h (didOf (loadedWith g) room r) (didOf (loadedWith h) room r)
+  other-alike : (r : Rec) → isSample r ≡ false → Alike (isPowerOn r) g h (didOf (loadedWith g) room r) (didOf (loadedWith h) room r)
   other-alike (whole n p) z =
       let on = isPowerOn (whole n p) in
       let t = fittedOf room (takenOf n true p) in

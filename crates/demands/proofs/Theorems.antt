@@ -1,5 +1,7 @@
 -- All theorems, as one value.
 use mathlib.Core.Path.{sym, _∙_}
+use Rattle.reading.proofs.Figures.{figures-hold}
+use Rattle.block1.proofs.OffsetConversion.{offset-figures-hold, offset-rules}
 use Rattle.reading.proofs.Product.{product-lines}
 use Rattle.reading.proofs.Hundred.{hundred-holds}
 use Rattle.gauge.proofs.Profiles.{only-two}
@@ -11,18 +13,22 @@ use Rattle.session_run.specs.SessionRun.{emptyOf}
 use Rattle.tray_record.specs.Tray.{emptyTray, trayDid}
 use Rattle.mending.proofs.Worth as worth
 use Rattle.hex.proofs.RoundTrip as hex
-use Rattle.demands.specs.Theorems.{OfSessions, OfTrays, EnginesEqual, OfGauges, OfBench, OfBooks, OfSteps, Theorems}
+use Rattle.demands.specs.Engines.{EnginesEqual}
+use Rattle.demands.specs.Theorems.{OfSessions, OfTrays, OfGauges, OfBench, OfBooks, OfSteps, Theorems}
 use Rattle.demands.proofs.Functions.{contracts}
+use Rattle.demands.proofs.NoSlack.{no-slack}
+use Rattle.demands.proofs.Crc.{crc-rule}
+use Rattle.demands.proofs.Cases.{classes-hold}
 use Rattle.demands.proofs.Called.{within-or-over, runs-exist}
 use Rattle.demands.proofs.Demand1.{demand-1, tray-demand-1}
 use Rattle.demands.proofs.Numbers.{each-number-holds}
 use Rattle.demands.proofs.Demand2.{demand-2, tray-demand-2}
 use Rattle.demands.proofs.Demand3.{demand-3}
 use Rattle.demands.proofs.TrayDemand3.{tray-demand-3}
-use Rattle.demands.proofs.Example.{demand-3-met}
+use Rattle.demands.proofs.Example.{demand-3-met, bench-example}
 use Rattle.demands.proofs.WholeTrays.{whole-tray-demand-3}
 use Rattle.demands.proofs.EveryOpening.{every-tray-opens}
-use Rattle.demands.proofs.TrayExample.{tray-demand-3-met, whole-tray-demand-3-met, isolation-met, single-met}
+use Rattle.demands.proofs.TrayExample.{tray-demand-3-met, whole-tray-demand-3-met, whole-tray-refused-met, isolation-met, single-met}
 use Rattle.demands.proofs.Alone.{alone}
 use Rattle.demands.proofs.Slots.{slots-as-old}
 use Rattle.demands.proofs.EachPack.{transactions-as-plain}
@@ -31,14 +37,15 @@ use Rattle.demands.proofs.Isolation.{isolation, isolated-throughout}
 use Rattle.demands.proofs.Slow.{slow}
 use Rattle.demands.proofs.Longer.{longer, longer-met}
 use Rattle.demands.proofs.Programming.{bench, bench-done}
-use Rattle.demands.proofs.Mending.{mended-first}
+use Rattle.demands.proofs.Mending.{mended-first, mending-met}
 use Rattle.demands.proofs.HexExample.{round-trip-met}
 use Rattle.demands.proofs.Blind.{from-events}
 use Rattle.demands.proofs.Booked.{no-wider}
 use Rattle.demands.proofs.History.{session-history, session-books, session-eeprom, slot-history, slot-books, slot-eeprom}
 use Rattle.demands.proofs.Lives.{saved-cells-hold, own-as-holds, full-pack-holds}
 use Rattle.demands.proofs.HundredExample.{hundred-met}
-use Rattle.demands.proofs.BooksExample.{books-met, books-over-1024th, slot-books-met, eeprom-met, slot-eeprom-met}
+use Rattle.demands.proofs.OffsetExample.{books-over-1024th}
+use Rattle.demands.proofs.BooksExample.{books-met, slot-books-met, eeprom-met, slot-eeprom-met}
 use Rattle.demands.proofs.Stepwise.{sessions-stepwise, trays-stepwise}
 
 sessions : OfSessions
@@ -50,6 +57,9 @@ sessions = record {
   demand-2 = demand-2;
   demand-3 = demand-3;
   demand-3-met = demand-3-met;
+  classes = classes-hold;
+  crc = crc-rule;
+  figures = figures-hold;
 }
 
 trays : OfTrays
@@ -62,6 +72,7 @@ trays = record {
   demand-3-met = tray-demand-3-met;
   whole-demand-3 = whole-tray-demand-3;
   whole-demand-3-met = whole-tray-demand-3-met;
+  whole-demand-3-refused = whole-tray-refused-met;
   opens = every-tray-opens;
   slots = slots-as-old;
   transactions = transactions-as-plain;
@@ -84,6 +95,8 @@ gauges = record {
   product = product-lines;
   engines = both-engines;
   slow = slow;
+  offset = offset-rules;
+  offset-figures = offset-figures-hold;
   longer = longer;
   longer-met = longer-met;
   profiles = only-two;
@@ -96,6 +109,7 @@ at-bench : OfBench
 at-bench = record {
   programmed = bench;
   programmed-done = bench-done;
+  programmed-met = bench-example;
   mended = mended-first;
   mended-calls = worth.by-call;
   accepted = worth.accepted;
@@ -104,6 +118,7 @@ at-bench = record {
   arranged = worth.arranged;
   capped = worth.capped;
   kept = worth.kept;
+  mending-met = mending-met;
   lines = hex.good-lines;
   exported = hex.unchanged;
   round-trip = hex.round-trip;
@@ -128,4 +143,13 @@ steps : OfSteps
 steps = record { divided = divided; sessions = sessions-stepwise; trays = trays-stepwise }
 
 pub theorems : Theorems
-theorems = record { contracts = contracts; sessions = sessions; trays = trays; gauges = gauges; bench = at-bench; books = books; steps = steps }
+theorems = record {
+  contracts = contracts;
+  no-slack = no-slack;
+  sessions = sessions;
+  trays = trays;
+  gauges = gauges;
+  bench = at-bench;
+  books = books;
+  steps = steps;
+}

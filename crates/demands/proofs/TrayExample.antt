@@ -33,7 +33,7 @@ use Rattle.demands.specs.Call.{Call, Within, linesIn, firstOf, Stopped}
 use Rattle.demands.specs.Sections.{last, more}
 use Rattle.demands.specs.Class.{blockOf, touchedOf, labelsOf, touchedClass}
 use Rattle.demands.specs.Demand2.{SlotCarried, SlotPowersOn}
-use Rattle.demands.specs.Demand3.{imageRecords, TrayDemand3Met, WholeTrayDemand3Met}
+use Rattle.demands.specs.Demand3.{imageRecords, TrayDemand3Met, WholeTrayDemand3Met, WholeTrayRefusedMet}
 use Rattle.demands.specs.Single.{inTray, SingleMet}
 use Rattle.demands.specs.Isolation.{none, held, here, images, IsolationMet}
 use Rattle.demands.proofs.Called.{packed, called, called-within}
@@ -127,6 +127,36 @@ tray-demand-3-met = record {
   differ = λ e. let z : _≡_ {A = ℕ} 4 19 = ap (λ (l : List Rec). kindIn (getD l 0 cut)) e in omega arith;
 }
 
+-- THE HYPOTHESIS OF DEMAND 3 FOR WHOLE TRAY SESSIONS CAN BE MET
+pub whole-tray-demand-3-met : WholeTrayDemand3Met
+unfolding zip zipWith recOf sizeOf wholeOf trayDid trayKindOf searchOf matchedOf judgedAmong addressedOf orderedOf crc.bitOf crc.eightOf crc.nextOf imageOf
+    askedOf askedAt romBy commandOf touchedClass labelsOf touchedOf selectedOf ownOf inLabel blockOf timelyOf
+    actOf ranOf writtenOf powerOnOf conversionOf replyOf
+whole-tray-demand-3-met = record {
+  images = packs;
+  opening = 2;
+  one = call (opened ones);
+  other = call (opened others);
+  mixed = record {
+    one = call-within (opened ones) (omega arith);
+    other = call-within (opened others) (omega arith);
+    opens = record { images = refl; packs = refl };
+    other-opens = record { images = refl; packs = refl };
+    room = omega arith;
+    other-room = omega arith;
+    sections =
+        more {xs = []} {ys = []} (record { one = refl; other = refl; labels = refl; gauges = refl }) refl
+        (more {xs = []} {ys = []} (record { one = refl; other = refl; labels = refl; gauges = refl }) refl
+        (more {xs = writing ∷ converting 1 ∷ []} {ys = converting 1 ∷ writing ∷ []}
+        (record { one = refl; other = refl; labels = refl; gauges = refl })
+        refl
+        (last (record { one = refl; other = refl; labels = refl; gauges = refl }))));
+  };
+  first = refl;
+  other-first = refl;
+  differ = λ e. let z : _≡_ {A = ℕ} 4 19 = ap (λ (l : List Rec). kindIn (getD l 0 cut)) e in omega arith;
+}
+
 -- and with records before the first image: a write, which is refused with 5, and an unknown kind
 abbrev stranger : Rec
 stranger = whole 0x63 []
@@ -137,12 +167,11 @@ whole-ones = writing ∷ stranger ∷ reopened ones
 abbrev whole-others : List Rec
 whole-others = stranger ∷ writing ∷ reopened others
 
--- THE HYPOTHESIS OF DEMAND 3 FOR WHOLE TRAY SESSIONS CAN BE MET
-pub whole-tray-demand-3-met : WholeTrayDemand3Met
+pub whole-tray-refused-met : WholeTrayRefusedMet
 unfolding zip zipWith recOf sizeOf wholeOf trayDid trayKindOf searchOf matchedOf judgedAmong addressedOf orderedOf crc.bitOf crc.eightOf crc.nextOf imageOf
     askedOf askedAt romBy commandOf touchedClass labelsOf touchedOf selectedOf ownOf inLabel blockOf timelyOf
     actOf ranOf writtenOf powerOnOf conversionOf replyOf
-whole-tray-demand-3-met = record {
+whole-tray-refused-met = record {
   images = packs;
   opening = 5;
   one = call whole-ones;
@@ -196,8 +225,12 @@ isolation-met = record {
   matched = 1;
   first = call (both-measuring longer);
   second = call (both-measuring shorter);
-  one-within = call-within (both-measuring longer) (omega arith);
-  other-within = call-within (both-measuring shorter) (omega arith);
+  twins = record {
+    one = call-within (both-measuring longer) (omega arith);
+    other = call-within (both-measuring shorter) (omega arith);
+    room = refl;
+    differs = images Ds2781 Ds2775 refl refl refl (images Ds2781 Ds2781 refl refl refl (held refl (here refl refl (held refl (held refl none)))));
+  };
   form = Short;
   payload = measured;
   line = line 4 0 (0xfc ∷ 0x18 ∷ []);
@@ -220,12 +253,7 @@ isolation-met = record {
     before = stops shorter (omega arith) 4 (call (both-measuring shorter)) refl refl refl;
     after = stops (both-measuring shorter) (omega arith) 5 (call (both-measuring shorter)) refl refl refl;
   };
-  twins = record {
-    one = call-within longer (omega arith);
-    other = call-within shorter (omega arith);
-    room = refl;
-    differs = images Ds2781 Ds2775 refl refl refl (images Ds2781 Ds2781 refl refl refl (held refl (here refl refl (held refl none))));
-  };
+  place = tt;
   differ = λ e. let z : _≡_ {A = ℕ} 0x3c 7 = ap (λ (g : Gauge). getD (g .label .shadow) 0 0) e in omega arith;
   reached = refl;
   away = λ e. omega arith;

@@ -224,12 +224,19 @@ module _ {S : Type 0} (did : S → ℕ → Rec → Did S) (start : S) (pack : Pa
     pub kept : BooksKept (leftBy pack first) (heardSince pack did taken first second)
     pub sum : sumOver (leftBy pack first) (heardSince pack did taken first second) ≡ pos 0 → ⊥
 
--- and of the 1,024th conversion since power-on, over which the books are kept too: it counts the c before it, whatever its raw current is
-pub record BooksOver1024th : Type 0 where
-  pub gauge : Gauge
-  pub made : gauge .meter .flow .average .made ≡ 1023
-  pub last : value 15 (gauge .meter .flow .trace .last) ≡ pos 0 → ⊥
-  pub raw : ℕ
-  pub kept : BooksKept gauge (changed (Conversion raw) ∷ [])
-  pub sum : sumOver gauge (changed (Conversion raw) ∷ [])
-      ≡ value 15 (gauge .meter .flow .trace .last) +ℤ value 7 (countingOf (gauge .meter .cells .block .shadow) .ab)
+  -- and such moments between which there is the 1,024th conversion since power-on alone: it is booked by the c before it, plus AB, and not by its own
+  -- raw current
+  pub record BooksOver1024th : Type 0 where
+    pub taken : ℕ
+    pub first : Call S
+    pub second : Call S
+    pub run : Within did start second
+    pub stopped : Stopped did start taken second first
+    pub raw : ℕ
+    pub since : heardSince pack did taken first second ≡ changed (Conversion raw) ∷ []
+    pub made : leftBy pack first .meter .flow .average .made ≡ 1023
+    pub kept : BooksKept (leftBy pack first) (heardSince pack did taken first second)
+    pub sum : sumOver (leftBy pack first) (heardSince pack did taken first second)
+        ≡ value 15 (leftBy pack first .meter .flow .trace .last) +ℤ value 7 (countingOf (leftBy pack first .meter .cells .block .shadow) .ab)
+    pub other : currentZ (value 31 raw) (value 7 (countingOf (leftBy pack first .meter .cells .block .shadow) .cob))
+        ≡ value 15 (leftBy pack first .meter .flow .trace .last) → ⊥

@@ -1,6 +1,7 @@
 -- THE FUNCTIONS. What the theorems are stated of is what a caller learns from the contracts of the public functions, as the check reads them of the
 -- code (`Reads.Learnt`): no more, and no less.
 use contract.Lifetimes.{Lfts}
+use mathlib.Core.Path.{_≡_}
 use denote.Ref.{now}
 use denote.Triple.Entry.{Args, Res}
 use denote.Triple.Clauses.{Ended, AtExit, Lasts, atExit}
@@ -10,16 +11,22 @@ use Rattle.session_run.specs.SessionRun.{emptyOf, resultOf, TakenOut}
 use Rattle.tray_record.specs.declared.Tray.{Tray}
 use Rattle.tray_record.specs.Tray.{emptyTray, trayDid}
 use Rattle.tray_run.specs.TrayRun.{trayResultOf, SlotOut}
+use Rattle.state.specs.State.{MeterWF}
+use Rattle.samples.specs.Samples.{sampledOf}
 use Rattle.preset_session.specs.PresetSession.{Programming}
-use Rattle.mending.specs.Mending.{Mending}
-use Rattle.hex.specs.Export.{Exporting}
+use Rattle.mending.specs.Mending.{Mending, Listing}
+use Rattle.hex.specs.Export.{exportLabel, Exporting}
 use Rattle.hex.specs.Import.{Importing}
 use Rattle.session_run.proofs.run as session
 use Rattle.session_run.proofs.take_out as image
 use Rattle.tray_run.proofs.run as tray
 use Rattle.tray_run.proofs.take_out as slot
 use Rattle.preset_session.proofs.write_session as programmer
+use Rattle.samples.proofs.plain as repeater
+use Rattle.samples.proofs.quick as stretcher
 use Rattle.mending.proofs.mend as mender
+use Rattle.mending.proofs.changes as lister
+use Rattle.hex.proofs.export_label as labeller
 use Rattle.hex.proofs.write_text as exporter
 use Rattle.hex.proofs.read_text as importer
 use Rattle.demands.specs.Call.{Call, Allowed}
@@ -59,9 +66,14 @@ pub record Contracts : Type 0 where
   -- `preset_session::write_session`
   pub write-session : ContractIs programmer.ended programmer.Reads.Learnt
       (λ κs a r w. Programming (now (a .0)) (now (a .1 .0)) (now (a .1 .1 .0)) r (w .1 .1 .0))
-  -- `mending::mend`
+  -- `samples::plain` and `samples::quick`
+  pub plain : ContractIs repeater.ended repeater.Reads.Learnt (λ κs a r w. (r ≡ sampledOf (a .0) (a .1 .0) (a .1 .1 .0)) × MeterWF r)
+  pub quick : ContractIs stretcher.ended stretcher.Reads.Learnt (λ κs a r w. (r ≡ sampledOf (a .0) (a .1 .0) (a .1 .1 .0)) × MeterWF r)
+  -- `mending::mend` and `mending::changes`
   pub mend : ContractIs mender.ended mender.Reads.Learnt (λ κs a r w. Mending (now (a .0)) (now (a .1 .0)) r (w .1 .0))
-  -- `hex::write_text` and `hex::read_text`
+  pub changes : ContractIs lister.ended lister.Reads.Learnt (λ κs a r w. Listing (now (a .0)) (now (a .1 .0)) r (w .1 .0))
+  -- `hex::export_label`, `hex::write_text` and `hex::read_text`
+  pub export-label : ContractIs labeller.ended labeller.Reads.Learnt (λ κs a r w. now r ≡ exportLabel (now (a .0)) (now (a .1 .0)))
   pub write-text : ContractIs exporter.ended exporter.Reads.Learnt
       (λ κs a r w. Exporting (now (a .0)) (now (a .1 .0)) (now (a .1 .1 .0)) r (w .1 .1 .0))
   pub read-text : ContractIs importer.ended importer.Reads.Learnt (λ κs a r w. Importing (now (a .0)) (now (a .1 .0)) r (w .1 .0))

@@ -177,8 +177,19 @@ pub record TrayDemand3Met : Type 0 where
   pub none-refused : map (λ e. e .1 .answer) (take other-opening (gotOf trayDid emptyTray other)) ≡ 0 ∷ 0 ∷ []
   pub differ : drop opening (recsOf (one .bytes)) ≡ drop other-opening (recsOf (other .bytes)) → ⊥
 
--- and two whole sessions, whose openings hold the same events, mixed differently: some are refused before the first image, one after it
+-- and two whole sessions by the letter: "the same accepted image first", here two of them, and then the same events, "mixed differently"
 pub record WholeTrayDemand3Met : Type 0 where
+  pub images : List (Profile × List ℕ)
+  pub opening : ℕ
+  pub one : Call Tray
+  pub other : Call Tray
+  pub mixed : WholeMixed images opening opening one other
+  pub first : take opening (recsOf (one .bytes)) ≡ imageRecords images
+  pub other-first : take opening (recsOf (other .bytes)) ≡ imageRecords images
+  pub differ : drop opening (recsOf (one .bytes)) ≡ drop opening (recsOf (other .bytes)) → ⊥
+
+-- and two whose openings hold the same events, mixed differently: some are refused before the first image, one after it
+pub record WholeTrayRefusedMet : Type 0 where
   pub images : List (Profile × List ℕ)
   pub opening : ℕ
   pub one : Call Tray

@@ -107,15 +107,14 @@ IsolationThroughout =
     (k : ℕ) (c d : Call Tray) (t : Twins k c d) (i j : ℕ) → Places (t .differs) i j
     → (a e : Call Tray) → Stopped trayDid emptyTray i c a → Stopped trayDid emptyTray j d e → SameAt k c d a e
 
--- and it speaks of something: two sessions with a transaction that is matched to another slot, and done; up to it they are two such sessions,
--- which differ in the slot's pack
+-- and it speaks of something: two such sessions, and in both a transaction that is matched to another slot, and done; it stands at a place in both, before
+-- which the slot's pack is not the same
 pub record IsolationMet : Type 0 where
   pub slot : ℕ
   pub matched : ℕ
   pub first : Call Tray
   pub second : Call Tray
-  pub one-within : Within trayDid emptyTray first
-  pub other-within : Within trayDid emptyTray second
+  pub twins : Twins slot first second
   pub form : Form
   pub payload : List ℕ
   pub line : Line
@@ -126,7 +125,7 @@ pub record IsolationMet : Type 0 where
   pub other-before : Call Tray
   pub other-after : Call Tray
   pub other-taking : Taking trayDid emptyTray second (whole (formKind form) payload) other-line other-before other-after
-  pub twins : Twins slot before other-before
+  pub place : Places (twins .differs) (taking .earlier) (other-taking .earlier)
   pub differ : packOf (before .ran .state) slot ≡ packOf (other-before .ran .state) slot → ⊥
   pub reached : reachIn (before .ran .state) form payload ≡ one matched
   pub away : matched ≡ slot → ⊥

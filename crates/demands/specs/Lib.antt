@@ -6,6 +6,7 @@ pub mod Demand1
 pub mod Demand2
 pub mod Demand3
 pub mod Longer
+pub mod Cases
 pub mod Alone
 pub mod Slots
 pub mod Single
@@ -21,6 +22,9 @@ pub mod Programming
 pub mod Slow
 pub mod Mending
 pub mod Contracts
+pub mod NoSlack
+pub mod Crc
+pub mod Engines
 pub mod RoundTrip
 pub mod Stepwise
 pub mod Theorems

@@ -13,6 +13,7 @@ use Rattle.record.specs.Image.{imageSize}
 use Rattle.gauge.specs.Image.{imageOf}
 use Rattle.mending.specs.declared.Mended.the-variants.{Done}
 use Rattle.mending.specs.Mending.{Mending}
+use Rattle.mending.specs.Worth.{Accepted, Mendable, SoundImage}
 use Rattle.runs.specs.Record.{recsOf, recordOf}
 use Rattle.runs.specs.Run.{linesAfter}
 use Rattle.runs.specs.declared.Session.{Session}
@@ -35,3 +36,13 @@ pub record AcceptedFirst (mended rest : List ℕ) (c : Call Session) : Type 0 wh
 abbrev pub MendedTheorem : Type 0
 MendedTheorem =
     (image room after rest : List ℕ) (c : Call Session) → MendedFirst image room after rest c → AcceptedFirst (take imageSize after) rest c
+
+-- and the theorems on mending speak of something: an image that is refused as it is, and is mended; and what it comes to, which is sound
+pub record MendingMet : Type 0 where
+  pub damaged : List ℕ
+  pub sound : List ℕ
+  pub refused : Accepted damaged → ⊥
+  pub mendable : Mendable damaged
+  pub room : List ℕ
+  pub mended : Mending damaged room Done sound
+  pub is-sound : SoundImage sound

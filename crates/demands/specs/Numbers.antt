@@ -5,11 +5,13 @@
 -- 6 first address byte not 3Dh, or the eighth not the CRC of the first seven. 7 lock byte above 3. 8 read count above 64. 9 reply room left is less
 -- than the read count. The first that applies is given."
 --
--- Each case is said here anew, from the bytes of the record and what the state remembers, and not by the definitions that the code follows.
+-- Each case is said here anew, from the bytes of the record and what the state remembers, with the papers' own numbers. What is shared with the definitions
+-- that the code follows are the CRC, the elapsed ticks, equality of eight bytes, the value of a signed byte, and what the state is: whether an image was
+-- accepted, the packs of a tray, their number and whether its opening is closed.
 use mathlib.Core.Path.{_≡_}
 use mathlib.Core.Bool.{Bool, true, false, not}
 use mathlib.Core.List.{List, [], _∷_}
-use Prim.Native.Nat.{ℕ, zero, suc, _+_, _-_, _<_}
+use Prim.Native.Nat.{ℕ, zero, suc, _+_, _-_, _≤_, _<_}
 use lib.Dec.{ltb, leb, eqb}
 use lib.IntN.{ℤ, pos}
 use lib.ListN.{length, getD, take}
@@ -45,7 +47,8 @@ OnlyWhen answer [] = answer ≡ 0
 OnlyWhen answer (c ∷ cs) =
     (c .applies ≡ true → answer ≡ c .number) × (answer ≡ c .number → c .applies ≡ true) × (c .applies ≡ false → OnlyWhen answer cs)
 
--- ---- 2: "1 to 3 bytes left where a header is due, or payload runs past the end", of the bytes that are left
+-- ---- 2: "1 to 3 bytes left where a header is due, or payload runs past the end", of the bytes that are left, one at least: where none is left there is
+-- no record
 
 abbrev pub runsShort : List ℕ → Bool
 runsShort s = either (ltb (length s) 4) (ltb (length s) (4 + pairAt s 0))
@@ -179,9 +182,9 @@ module _ {S : Type 0} (did : S → ℕ → Rec → Did S) (start : S) (cases : S
   pub record Numbers : Type 0 where
     -- 1: "session over 32,768 bytes", and no other
     pub over : (c : Call S) → Allowed did start c → 32768 < length (c .bytes) → outcomeNumber (c .ran .outcome) ≡ 1
-    pub within : (c : Call S) → Within did start c → outcomeNumber (c .ran .outcome) ≡ 0
+    pub within : (c : Call S) → Allowed did start c → length (c .bytes) ≤ 32768 → outcomeNumber (c .ran .outcome) ≡ 0
     -- in any state, with any room left
-    pub records : (σ : S) (room : ℕ) (s : List ℕ) → OnlyWhen (did σ room (recOf s) .answer) (frontCases σ room s)
+    pub records : (σ : S) (room : ℕ) (s : List ℕ) → 0 < length s → OnlyWhen (did σ room (recOf s) .answer) (frontCases σ room s)
     -- and so of each line of a run, by the state and the room that the records before it leave
     pub lines : (c : Call S) → Within did start c → (kind : ℕ) (p : List ℕ) (l : Line) (a b : Call S) → Taking did start c (whole kind p) l a b
         → OnlyWhen (l .answer) (cases (a .ran .state) (length (a .room) - a .ran .replied) kind p)

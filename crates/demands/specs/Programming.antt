@@ -14,7 +14,7 @@ use Rattle.gauge.specs.declared.Gauge.{Gauge}
 use Rattle.gauge.specs.Gauge.{withMeter}
 use Rattle.block1.specs.Block1.{reblockedOf}
 use Rattle.gauge.specs.Image.{imageOf}
-use Rattle.record.specs.Image.{imageAddress, imageLabel, imageAcr, imageAging, imageBl0, imageBl1}
+use Rattle.record.specs.Image.{imageAddress, imageLabel, imageBlock, imageAcr, imageAging, imageBl0, imageBl1}
 use Rattle.preset_session.specs.declared.Written.{Written}
 use Rattle.preset_session.specs.declared.Written.the-variants.{Done}
 use Rattle.preset_session.specs.PresetSession.{programmingSize, writtenNumber, Granted, Programming}
@@ -80,3 +80,14 @@ abbrev pub DoneTheorem : Type 0
 DoneTheorem =
     (image wanted room after : List ℕ) (c : Call Session) → Bench image wanted room Done after c
     → Granted image wanted (length room) × BenchHolds image wanted Done c
+
+-- and it speaks of something: an image, and bytes that are wanted and that it does not have in block 1
+pub record BenchMet : Type 0 where
+  pub image : List ℕ
+  pub wanted : List ℕ
+  pub room : List ℕ
+  pub after : List ℕ
+  pub call : Call Session
+  pub granted : Granted image wanted (length room)
+  pub bench : Bench image wanted room Done after call
+  pub new : wanted ≡ imageBlock image → ⊥

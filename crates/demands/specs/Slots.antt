@@ -6,7 +6,9 @@ use mathlib.Core.Path.{_≡_}
 use mathlib.Core.List.{List, _∷_}
 use Prim.Native.Nat.{ℕ, zero, suc, _<_}
 use lib.Bits.{bitAnd}
+use lib.Dec.{eqb}
 use lib.ListN.{length, getD}
+use Rattle.numbers.specs.Choice.{either}
 use Rattle.record.specs.declared.Form.{Form}
 use Rattle.runs.specs.Record.{whole}
 use Rattle.runs.specs.Run.{Did}
@@ -47,17 +49,20 @@ abbrev pub andOver : ℕ → (ℕ → ℕ) → ℕ
 andOver zero byte = 0xff
 andOver (suc n) byte = bitAnd (andOver n byte) (byte n)
 
--- what a tray of so many packs does, and what each pack does in a plain session
-pub record EachAsPlain (count : ℕ) (d : Did Tray) (plain : ℕ → Did Session) : Type 0 where
-  pub answer : (i : ℕ) → i < count → d .answer ≡ plain i .answer
-  pub pack : (i : ℕ) → i < count → packOf (d .state) i ≡ plain i .state .gauge
-  pub size : (i : ℕ) → i < count → length (d .reply) ≡ length (plain i .reply)
+-- what a tray does, and what each of its packs does in a plain session
+pub record EachAsPlain (τ : Tray) (d : Did Tray) (plain : ℕ → Did Session) : Type 0 where
+  pub answer : (i : ℕ) → i < τ .count → d .answer ≡ plain i .answer
+  pub pack : (i : ℕ) → i < τ .count → packOf (d .state) i ≡ plain i .state .gauge
+  -- as many packs, and a transaction that is done closes the opening
+  pub count : d .state .count ≡ τ .count
+  pub closed : d .state .closed ≡ either (τ .closed) (eqb (d .answer) 0)
+  pub size : (i : ℕ) → i < τ .count → length (d .reply) ≡ length (plain i .reply)
   -- where theirs are bytes, as they are in a reply room
-  pub byte : (k : ℕ) → k < length (d .reply) → ((i : ℕ) → i < count → getD (plain i .reply) k 0 < 256)
-      → getD (d .reply) k 0 ≡ andOver count (λ i. getD (plain i .reply) k 0)
+  pub byte : (k : ℕ) → k < length (d .reply) → ((i : ℕ) → i < τ .count → getD (plain i .reply) k 0 < 256)
+      → getD (d .reply) k 0 ≡ andOver (τ .count) (λ i. getD (plain i .reply) k 0)
 
 -- in the state that any run leaves, with any room: a transaction of either form
 abbrev pub TransactionsAsPlain : Type 0
 TransactionsAsPlain = (c : Call Tray) → Within trayDid emptyTray c → (room : ℕ) (f : Form) (p : List ℕ)
-    → EachAsPlain (c .ran .state .count) (trayDid (c .ran .state) room (whole (formKind f) p))
+    → EachAsPlain (c .ran .state) (trayDid (c .ran .state) room (whole (formKind f) p))
     (λ i. didOf (loadedWith (packOf (c .ran .state) i)) room (whole (formKind f) p))

@@ -15,7 +15,7 @@ use Rattle.conversion.specs.Conversion.{withFlow}
 use Rattle.samples.specs.Samples.{withTick}
 use Rattle.gauge.specs.declared.Gauge.{Gauge}
 use Rattle.gauge.specs.Gauge.{withMeter}
-use Rattle.runs.specs.Record.{Rec, whole, cut, kindIn}
+use Rattle.runs.specs.Record.{Rec, whole, cut}
 use Rattle.runs.specs.Run.{Did, Line, linesAfter, endAfter}
 use Rattle.runs.specs.declared.Session.{Session}
 use Rattle.runs.specs.SessionRecord.{loadedWith, didOf}
@@ -49,11 +49,16 @@ pub data Slowly : Type 0 where
   sample : Sample → Slowly
   other : Rec → Slowly
 
--- the others are of any kind but 6
+-- a sample by its kind and its size; of another size it is refused with 4
+abbrev pub isSample : Rec → Bool
+isSample (whole kind p) = both (eqb kind 6) (eqb (length p) 6)
+isSample cut = false
+
+-- the others are any records but samples, one of kind 6 that has another size too
 abbrev pub NoSamples : List Slowly → Type 0
 NoSamples [] = Unit
 NoSamples (sample s ∷ xs) = NoSamples xs
-NoSamples (other r ∷ xs) = (eqb (kindIn r) 6 ≡ false) × NoSamples xs
+NoSamples (other r ∷ xs) = (isSample r ≡ false) × NoSamples xs
 
 abbrev pub slowRecord : Slowly → Rec
 slowRecord (sample s) = sampling s

@@ -5,12 +5,12 @@
 use mathlib.Core.Path.{_≡_}
 use Prim.Native.Nat.{ℕ}
 use Rattle.params.specs.declared.Curves.{Curves}
-use Rattle.state.specs.declared.Meter.{Meter}
 use Rattle.state.specs.declared.Profile.{Profile}
 use Rattle.reading.specs.Reading.{modelLines}
 use Rattle.reading.specs.Product.{productOf}
 use Rattle.reading.specs.Hundred.{Hundred}
-use Rattle.samples.proofs.Engines.{plainly, quickly}
+use Rattle.reading.specs.Figures.{Hold, figures}
+use Rattle.block1.specs.OffsetConversion.{offsetFigures, OffsetRules}
 use Rattle.gauge.specs.Profiles.{OnlyTwo}
 use Rattle.gauge.specs.ImageAging.{PackAging}
 use Rattle.gauge.specs.ImageProfiles.{ImagesShare}
@@ -23,11 +23,16 @@ use Rattle.tray_record.specs.Tray.{emptyTray, trayDid}
 use Rattle.mending.specs.Worth.{AcceptedTheorem, UnchangedTheorem, TwiceTheorem, ArrangedTheorem, CappedTheorem, KeptTheorem, ByCallTheorem}
 use Rattle.hex.specs.Theorems.{GoodLines, RoundTrip, ExportedText}
 use Rattle.demands.specs.Contracts.{Contracts}
+use Rattle.demands.specs.NoSlack.{NoSlack}
+use Rattle.demands.specs.Crc.{CrcRule}
+use Rattle.demands.specs.Engines.{EnginesEqual}
+use Rattle.demands.specs.Cases.{ClassesHold}
 use Rattle.demands.specs.Call.{WithinOrOver, RunsExist}
 use Rattle.demands.specs.Demand1.{sessionMost, trayMost, Demand1}
 use Rattle.demands.specs.Demand2.{Demand2, TrayDemand2}
 use Rattle.demands.specs.Numbers.{EachNumber}
-use Rattle.demands.specs.Demand3.{Demand3, Demand3Met, TrayDemand3, TrayDemand3Met, WholeTrayDemand3, WholeTrayDemand3Met, EveryTrayOpens}
+use Rattle.demands.specs.Demand3.{Demand3, Demand3Met, TrayDemand3, TrayDemand3Met, WholeTrayDemand3, WholeTrayDemand3Met}
+use Rattle.demands.specs.Demand3.{WholeTrayRefusedMet, EveryTrayOpens}
 use Rattle.demands.specs.Slots.{SlotsAsOld, TransactionsAsPlain}
 use Rattle.demands.specs.Single.{SingleAsPlain, SingleMet}
 use Rattle.demands.specs.Alone.{Alone}
@@ -37,8 +42,8 @@ use Rattle.demands.specs.Slow.{Slow}
 use Rattle.demands.specs.Hundred.{FullPack, HundredMet}
 use Rattle.demands.specs.Aging.{OwnAs}
 use Rattle.demands.specs.Saved.{SavedCells}
-use Rattle.demands.specs.Programming.{BenchTheorem, DoneTheorem}
-use Rattle.demands.specs.Mending.{MendedTheorem}
+use Rattle.demands.specs.Programming.{BenchTheorem, DoneTheorem, BenchMet}
+use Rattle.demands.specs.Mending.{MendedTheorem, MendingMet}
 use Rattle.demands.specs.RoundTrip.{RoundTripMet}
 use Rattle.demands.specs.History.{Pack, ofGauge, ofSlot, HistoryHolds}
 use Rattle.demands.specs.Books.{FromEvents, NoWider, BooksClose, BooksMet, BooksOver1024th}
@@ -59,9 +64,17 @@ pub record OfSessions : Type 0 where
   -- "From an accepted pack image, every reply byte, register, flag and EEPROM byte after each event is what the DS2781 sheet, as condensed in
   -- document 01, works out. The image taken out at any moment, read into a fresh gauge, gives the state that a power-on would have given there."
   pub demand-2 : Demand2
-  -- "Labels and gauging keep apart." And there are such sessions of each profile
+  -- "Labels and gauging keep apart. Two sessions with the same accepted image first, room for all they ask and the same fences in the same order, which
+  -- between neighbouring fences and after the last hold the same label events in the same order and the same gauge events in the same order, mixed
+  -- differently: each event gets the same answer and reply bytes in both, those that demand 2 gives, and both end in the same state." And there are such
+  -- sessions of each profile; the classes are tried at their edges
   pub demand-3 : Demand3
   pub demand-3-met : (f : Profile) → Demand3Met f
+  pub classes : ClassesHold
+  -- "It uses a table of 256 entries, each checked against the bitwise rule."
+  pub crc : CrcRule
+  -- "Marked (*) are proved of the definitions, as one table under one statement."
+  pub figures : Hold figures
 
 -- ---- document 02, a tray: request [8]
 
@@ -76,6 +89,7 @@ pub record OfTrays : Type 0 where
   -- the third of whole sessions, in the paper's words; and every tray session has an opening
   pub whole-demand-3 : WholeTrayDemand3
   pub whole-demand-3-met : WholeTrayDemand3Met
+  pub whole-demand-3-refused : WholeTrayRefusedMet
   pub opens : EveryTrayOpens
   -- a slot's pack does what a gauge by itself does
   pub slots : SlotsAsOld
@@ -94,12 +108,9 @@ pub record OfTrays : Type 0 where
 
 -- ---- document 02, of what a gauge counts and shows
 
--- any two results that the contracts of `samples::plain` and `samples::quick` allow for one meter, one raw current and any n are equal
-abbrev pub EnginesEqual : Type 0
-EnginesEqual = (meter : Meter) (raw n : ℕ) (a b : Meter) → plainly meter raw n a → quickly meter raw n b → a ≡ b
-
 pub record OfGauges : Type 0 where
-  -- [1]: "A full pack should say 100."
+  -- [1]: "A full pack should say 100. .. 01 rounds the ACR down at full detection. It is to be rounded up .. Where D is above 0, a very small Full40 no
+  -- longer drops CHGTF at once." Of one reading after full, and over a run
   pub hundred : Hundred
   pub full-pack : FullPack
   pub full-pack-met : HundredMet didOf emptyOf ofGauge
@@ -111,11 +122,16 @@ pub record OfGauges : Type 0 where
   pub engines : EnginesEqual
   -- [5]: "A sample of n ticks means n conversions of that reading"
   pub slow : Slow
+  -- [7]: "On the 1024th, the previous c is shown, averaged and counted; the raw value is ignored. The first conversion after an ACR write, by bus only,
+  -- shows and averages its c but adds nothing to the count, AB included. .. power-on clears both"
+  pub offset : OffsetRules
+  pub offset-figures : Hold offsetFigures
   -- [11]: ".. a transaction allowed in both forms gives one answer"
   pub longer : Longer
   pub longer-met : LongerMet
-  -- [12]: "Only two things differ from 01 here"
+  -- [12]: "Only two things differ from 01 here .. negative blanking takes in 25 µV itself, so -16 counts as 0; and a cycle counter"
   pub profiles : OnlyTwo
+  -- [12]: "Image kind 8, its family code .. as in 000's full sheet, picks the profile for that pack. .. What both profiles share is proved once."
   pub images : ImagesShare
   -- [13]: "A write at 14h is from now on dropped ..; later results follow the gauge's own AS. Saved AS is honoured at power-on as before."
   pub aging : PackAging
@@ -127,6 +143,7 @@ pub record OfBench : Type 0 where
   -- "Run through the gauge it ends with exactly those EEPROM bytes in block 1, and block 0, saved cells and locks unchanged."
   pub programmed : BenchTheorem
   pub programmed-done : DoneTheorem
+  pub programmed-met : BenchMet
   -- "a tool which writes a 60-byte image that is accepted"; "An acceptable image with AS in range comes out unchanged with no lines. Mending twice is as
   -- mending once."
   pub mended : MendedTheorem
@@ -137,6 +154,7 @@ pub record OfBench : Type 0 where
   pub arranged : ArrangedTheorem
   pub capped : CappedTheorem
   pub kept : KeptTheorem
+  pub mending-met : MendingMet
   -- "Import reads just this layout, record order free, and gives back the 48 bytes of every export."
   pub lines : GoodLines
   pub exported : ExportedText
@@ -147,6 +165,7 @@ pub record OfBench : Type 0 where
 
 -- of a pack that a run holds
 pub record OfPack {S : Type 0} (did : S → ℕ → Rec → Did S) (start : S) (pack : Pack S) : Type 0 where
+  -- "the conversions in the history": what came to the pack between two moments of a run, worked out from the records alone, is what it went through
   pub history : HistoryHolds did start pack
   -- "Over any run of accepted events with no power-on, no ACR write, no full or empty correction and no clamp at either end, the final count .. less
   -- the first equals the sum .."
@@ -163,7 +182,7 @@ pub record OfBooks : Type 0 where
   pub session : OfPack didOf emptyOf ofGauge
   pub slots : (j : ℕ) → OfPack trayDid emptyTray (ofSlot j)
   pub books-met : BooksMet didOf emptyOf ofGauge
-  pub books-over-1024th : BooksOver1024th
+  pub books-over-1024th : BooksOver1024th didOf emptyOf ofGauge
   pub slot-books-met : BooksMet trayDid emptyTray (ofSlot 1)
   pub eeprom-met : EepromMet didOf emptyOf ofGauge
   pub slot-eeprom-met : EepromMet trayDid emptyTray (ofSlot 1)
@@ -181,6 +200,8 @@ pub record OfSteps : Type 0 where
 
 pub record Theorems : Type 0 where
   pub contracts : Contracts
+  -- "that any two results it allows are equal is proved"
+  pub no-slack : NoSlack
   pub sessions : OfSessions
   pub trays : OfTrays
   pub gauges : OfGauges

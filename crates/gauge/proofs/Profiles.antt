@@ -26,7 +26,8 @@ use Rattle.samples.specs.Samples.{sampledOf, tickedOf, sampleOf}
 use Rattle.samples.proofs.Laws.{neither}
 use Rattle.state.specs.declared.Common.{Common}
 use Rattle.state.specs.declared.Label.{Label}
-use Rattle.registers.specs.Registers.{registersOf, meterByte}
+use Rattle.label.specs.Label.{inLabel}
+use Rattle.registers.specs.Registers.{registersOf, meterByte, cycleByte}
 use Rattle.block1.specs.Block1.{meterWrittenOf, meterCopiedOf, meterRecalledOf, meterLockedOf}
 use Rattle.block1.proofs.Kept.{cycles-uncounted}
 use Rattle.bus.specs.declared.Command.{Command}
@@ -35,14 +36,14 @@ use Rattle.bus.specs.declared.Transaction.{Transaction}
 use Rattle.replies.specs.declared.Source.{Source}
 use Rattle.replies.specs.declared.Source.the-variants.{Address, Bytes, Idle}
 use Rattle.replies.specs.Reply.{selectedOf, readByte, sourceByte, listed}
-use Rattle.replies.proofs.Listed.{listed-length}
+use Rattle.replies.proofs.Listed.{listed-length, listed-at}
 use Rattle.record.specs.declared.Change.{Change}
 use Rattle.record.specs.declared.Change.the-variants.{Reading, Conversion, Sample, PowerOn}
 use Rattle.gauge.specs.declared.Gauge.{Gauge}
 use Rattle.gauge.specs.Gauge.{withMeter, conversionOf, samplingOf, readingOf, powerOnOf, writtenOf, copiedOf, recalledOf, lockedOf}
 use Rattle.gauge.specs.Change.{changedOf}
 use Rattle.gauge.specs.Act.{ranBy, ranOf, actOf, replyOf}
-use Rattle.gauge.specs.Profiles.{baseMeter, baseOf, edgeIn, chargeAs, chargeCounting, edgeOver, meetsEdge, fromCounter, OnlyTwo}
+use Rattle.gauge.specs.Profiles.{baseMeter, baseOf, edgeIn, chargeAs, chargeCounting, edgeOver, meetsEdge, fromCounter, readsCounter, OnlyTwo}
 
 -- ---- a conversion
 
@@ -191,12 +192,32 @@ module _ (k : Common) (l : Label) (m : Meter) where
   source-alike (Bytes a) i e = read-alike (a + i) e
   source-alike Idle i e = refl
 
+  -- and that one is the counter's
+  read-counter : readByte k l m 0x1e ≡ cycleByte (m .cells) (m .cycles)
+  unfolding readByte meterByte registersOf inLabel
+  read-counter = refl
+
+  source-counter : (s : Source) (i : ℕ) → fromCounter s i ≡ true → sourceByte k l m s i ≡ cycleByte (m .cells) (m .cycles)
+  unfolding sourceByte
+  source-counter Address i e = cc
+  source-counter (Bytes a) i e = ap (readByte k l m) (eqb-true (a + i) 0x1e e) ∙ read-counter
+  source-counter Idle i e = cc
+
 listed-alike : (f g : ℕ → ℕ) (i n j : ℕ) → f (i + j) ≡ g (i + j) → getD (listed f i n) j 0 ≡ getD (listed g i n) j 0
 listed-alike f g i zero j e = refl
 listed-alike f g i (suc n) zero e = let z : i + 0 ≡ i = omega arith in rw z at e
 listed-alike f g i (suc n) (suc j) e =
     let z : i + suc j ≡ i + 1 + j = omega arith in
     listed-alike f g (i + 1) n j (rw z at e)
+
+-- a byte of a reply that is read at 1Eh
+module _ (g : Gauge) (t : Transaction) (master : List ℕ) (i : ℕ) (h : i < t .count) (e : readsCounter g t master i ≡ true) where
+  counter-byte : getD (replyOf g t master) i 0 ≡ cycleByte (g .meter .cells) (g .meter .cycles)
+  unfolding replyOf
+  counter-byte = let z : 0 + i ≡ i = omega arith in listed-at _ 0 (t .count) i h ∙ rw z (source-counter (g .common) (g .label) (g .meter) _ i e)
+
+  counts-byte : (f : Profile) → g .meter .cells .profile ≡ f → getD (replyOf g t master) i 0 ≡ pick (countsCycles f) (g .meter .cycles .count) 0xff
+  counts-byte f same = counter-byte ∙ ap (λ (f : Profile). pick (countsCycles f) (g .meter .cycles .count) 0xff) same
 
 pub only-two : OnlyTwo
 unfolding replyOf
@@ -211,4 +232,6 @@ only-two = record {
   replies = λ g t master i e.
       let z : 0 + i ≡ i = omega arith in
       listed-alike _ _ 0 (t .count) i (rw z (source-alike (g .common) (g .label) (g .meter) _ i e));
+  counter = λ g t master i h e f. counts-byte g t master i h e Ds2775 f;
+  no-counter = λ g t master i h e f. counts-byte g t master i h e Ds2781 f;
 }

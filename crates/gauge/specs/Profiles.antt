@@ -121,3 +121,8 @@ pub record OnlyTwo : Type 0 where
   pub lengths : (g : Gauge) (t : Transaction) (master : List ℕ) → length (replyOf g t master) ≡ length (replyOf (baseOf g) t master)
   pub replies : (g : Gauge) (t : Transaction) (master : List ℕ) (i : ℕ) → readsCounter g t master i ≡ false
       → getD (replyOf g t master) i 0 ≡ getD (replyOf (baseOf g) t master) i 0
+  -- the byte of 1Eh is the counter of a DS2775; of a base, as of every DS2781, it is FFh
+  pub counter : (g : Gauge) (t : Transaction) (master : List ℕ) (i : ℕ) → i < t .count → readsCounter g t master i ≡ true
+      → g .meter .cells .profile ≡ Ds2775 → getD (replyOf g t master) i 0 ≡ g .meter .cycles .count
+  pub no-counter : (g : Gauge) (t : Transaction) (master : List ℕ) (i : ℕ) → i < t .count → readsCounter g t master i ≡ true
+      → g .meter .cells .profile ≡ Ds2781 → getD (replyOf g t master) i 0 ≡ 0xff

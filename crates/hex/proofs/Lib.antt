@@ -6,4 +6,3 @@ pub mod Flaws
 pub mod HexPairs
 pub mod Texts
 pub mod RoundTrip
-pub mod Functions

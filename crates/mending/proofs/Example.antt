@@ -25,11 +25,11 @@ imageWith check b34 b23 b12 aging locks =
     ∷ (replicate 16 0x20 ++ (replicate 28 7 ++ (b34 ∷ b23 ∷ b12 ∷ 9 ∷ 0x88 ∷ 0x13 ∷ aging ∷ locks ∷ [])))
 
 -- no CRC; TBP34 -12, TBP23 0 and TBP12 85; AS 200; lock byte feh
-abbrev damaged : List ℕ
+abbrev pub damaged : List ℕ
 damaged = imageWith 0x00 0xf4 0x00 0x55 200 0xfe
 
 -- TBP34 40, TBP23 0 and TBP12 -12; AS 128; BL1 alone
-abbrev whole : List ℕ
+abbrev pub whole : List ℕ
 whole = imageWith 0xac 0x28 0x00 0xf4 128 0x02
 
 pub damaged-refused : takenOf 1 false damaged ≡ Refused Address

@@ -1,6 +1,6 @@
 -- What the definitions keep: a charge is well-formed after step 3, and bounds of what is seen; and what a per cent is.
 use mathlib.Core.Path.{_≡_, refl, sym}
-use mathlib.Core.Bool.{Bool, true, false}
+use mathlib.Core.Bool.{Bool}
 use Prim.Native.Nat.{ℕ, _≤_, _*_, _/_, _<_}
 use native.Mathlib.Omega.{arith}
 use Rattle.numbers.specs.Choice.{pick, butNot}

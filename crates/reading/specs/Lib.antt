@@ -1,3 +1,4 @@
 pub mod Product
 pub mod Reading
 pub mod Hundred
+pub mod Figures

@@ -1,8 +1,8 @@
 -- Whom a transaction selects, and the bytes that it is answered with, by the parts of the gauge.
-use Prim.Native.Nat.{ℕ, zero, suc, _+_, _%_}
+use Prim.Native.Nat.{ℕ, zero, suc, _+_}
 use mathlib.Core.Bool.{Bool, true, false}
 use mathlib.Core.List.{List, [], _∷_}
-use lib.Dec.{ltb, eqb}
+use lib.Dec.{ltb}
 use lib.ListN.{length, getD}
 use Rattle.numbers.specs.Choice.{pick}
 use Rattle.slices.specs.Slices.{laidOf}
@@ -11,7 +11,6 @@ use Rattle.params.specs.Params.{rnaopOf}
 use Rattle.state.specs.declared.Common.{Common}
 use Rattle.state.specs.declared.Label.{Label}
 use Rattle.label.specs.Label.{inLabel, labelByte}
-use Rattle.registers.specs.declared.Pair.{Pair}
 use Rattle.registers.specs.Registers.{meterByte}
 use Rattle.bus.specs.declared.Rom.{Rom}
 use Rattle.bus.specs.declared.Rom.the-variants.{Net33, Net39, Skip, Match, Quiet}

@@ -2,5 +2,4 @@ pub mod Numbers
 pub mod Charge
 pub mod Run
 pub mod Laws
-pub mod Engines
 pub mod Unique

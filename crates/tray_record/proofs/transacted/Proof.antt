@@ -4,7 +4,7 @@ use mathlib.Core.List.{List, _++_}
 use Prim.Native.Nat.{ℕ}
 use lib.ListN.{drop}
 use denote.Ref.{now}
-use Rattle.tray_record.specs.declared.Found.the-variants.{At, Nowhere}
+use Rattle.tray_record.specs.declared.Found.the-variants.{Nowhere}
 use Rattle.tray_record.specs.Tray.{Reach, actedFirst, wiredFirst, trayActed, trayReply}
 use Rattle.tray_record.proofs.Laws.{aimed-below, goes}
 use Rattle.tray_record.proofs.Chosen.{found-selected}
