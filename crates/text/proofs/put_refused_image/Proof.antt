@@ -10,80 +10,35 @@ use Rattle.text.proofs.put_refused_image.Tie as tie
 abbrev put-decimal-arg→put-bytes : tie.After-put-decimal-arg → tie.After-put-bytes
 put-decimal-arg→put-bytes c = c .before .before .before
 
-abbrev slice-known3→put-bytes : tie.After-slice-known3 → tie.After-put-bytes
-slice-known3→put-bytes c = put-decimal-arg→put-bytes (c .before .before .before)
-
-abbrev put-bytes2→put-bytes : tie.After-put-bytes2 → tie.After-put-bytes
-put-bytes2→put-bytes c = slice-known3→put-bytes (c .before .before .before)
-
-abbrev put-decimal-arg2→put-bytes : tie.After-put-decimal-arg2 → tie.After-put-bytes
-put-decimal-arg2→put-bytes c = put-bytes2→put-bytes (c .before .before .before)
-
-abbrev slice-known5→put-bytes : tie.After-slice-known5 → tie.After-put-bytes
-slice-known5→put-bytes c = put-decimal-arg2→put-bytes (c .before .before .before)
-
-abbrev put-bytes3→put-bytes : tie.After-put-bytes3 → tie.After-put-bytes
-put-bytes3→put-bytes c = slice-known5→put-bytes (c .before .before .before)
-
-abbrev put-meaning-arg→put-bytes : tie.After-put-meaning-arg → tie.After-put-bytes
-put-meaning-arg→put-bytes c = put-bytes3→put-bytes (c .before .before .before)
-
-abbrev slice-known7→put-bytes : tie.After-slice-known7 → tie.After-put-bytes
-slice-known7→put-bytes c = put-meaning-arg→put-bytes (c .before .before .before)
-
-abbrev slice-known3→put-decimal : tie.After-slice-known3 → tie.After-put-decimal
-slice-known3→put-decimal c = c .before .before
-
-abbrev put-bytes2→put-decimal : tie.After-put-bytes2 → tie.After-put-decimal
-put-bytes2→put-decimal c = slice-known3→put-decimal (c .before .before .before)
-
-abbrev put-decimal-arg2→put-decimal : tie.After-put-decimal-arg2 → tie.After-put-decimal
-put-decimal-arg2→put-decimal c = put-bytes2→put-decimal (c .before .before .before)
-
-abbrev slice-known5→put-decimal : tie.After-slice-known5 → tie.After-put-decimal
-slice-known5→put-decimal c = put-decimal-arg2→put-decimal (c .before .before .before)
-
-abbrev put-bytes3→put-decimal : tie.After-put-bytes3 → tie.After-put-decimal
-put-bytes3→put-decimal c = slice-known5→put-decimal (c .before .before .before)
-
-abbrev put-meaning-arg→put-decimal : tie.After-put-meaning-arg → tie.After-put-decimal
-put-meaning-arg→put-decimal c = put-bytes3→put-decimal (c .before .before .before)
-
-abbrev slice-known7→put-decimal : tie.After-slice-known7 → tie.After-put-decimal
-slice-known7→put-decimal c = put-meaning-arg→put-decimal (c .before .before .before)
+abbrev put-bytes2→slice-known3 : tie.After-put-bytes2 → tie.After-slice-known3
+put-bytes2→slice-known3 c = c .before .before .before
 
 abbrev put-decimal-arg2→put-bytes2 : tie.After-put-decimal-arg2 → tie.After-put-bytes2
 put-decimal-arg2→put-bytes2 c = c .before .before .before
 
-abbrev slice-known5→put-bytes2 : tie.After-slice-known5 → tie.After-put-bytes2
-slice-known5→put-bytes2 c = put-decimal-arg2→put-bytes2 (c .before .before .before)
-
-abbrev put-bytes3→put-bytes2 : tie.After-put-bytes3 → tie.After-put-bytes2
-put-bytes3→put-bytes2 c = slice-known5→put-bytes2 (c .before .before .before)
-
-abbrev put-meaning-arg→put-bytes2 : tie.After-put-meaning-arg → tie.After-put-bytes2
-put-meaning-arg→put-bytes2 c = put-bytes3→put-bytes2 (c .before .before .before)
-
-abbrev slice-known7→put-bytes2 : tie.After-slice-known7 → tie.After-put-bytes2
-slice-known7→put-bytes2 c = put-meaning-arg→put-bytes2 (c .before .before .before)
-
 abbrev slice-known5→put-decimal2 : tie.After-slice-known5 → tie.After-put-decimal2
 slice-known5→put-decimal2 c = c .before .before
-
-abbrev put-bytes3→put-decimal2 : tie.After-put-bytes3 → tie.After-put-decimal2
-put-bytes3→put-decimal2 c = slice-known5→put-decimal2 (c .before .before .before)
-
-abbrev put-meaning-arg→put-decimal2 : tie.After-put-meaning-arg → tie.After-put-decimal2
-put-meaning-arg→put-decimal2 c = put-bytes3→put-decimal2 (c .before .before .before)
-
-abbrev slice-known7→put-decimal2 : tie.After-slice-known7 → tie.After-put-decimal2
-slice-known7→put-decimal2 c = put-meaning-arg→put-decimal2 (c .before .before .before)
 
 abbrev put-meaning-arg→put-bytes3 : tie.After-put-meaning-arg → tie.After-put-bytes3
 put-meaning-arg→put-bytes3 c = c .before .before .before
 
+abbrev slice-known7→put-meaning : tie.After-slice-known7 → tie.After-put-meaning
+slice-known7→put-meaning c = c .before .before
+
 abbrev slice-known7→put-bytes3 : tie.After-slice-known7 → tie.After-put-bytes3
-slice-known7→put-bytes3 c = put-meaning-arg→put-bytes3 (c .before .before .before)
+slice-known7→put-bytes3 c = put-meaning-arg→put-bytes3 (slice-known7→put-meaning c .before)
+
+abbrev slice-known7→put-decimal2 : tie.After-slice-known7 → tie.After-put-decimal2
+slice-known7→put-decimal2 c = slice-known5→put-decimal2 (slice-known7→put-bytes3 c .before .before .before)
+
+abbrev slice-known7→put-bytes2 : tie.After-slice-known7 → tie.After-put-bytes2
+slice-known7→put-bytes2 c = put-decimal-arg2→put-bytes2 (slice-known7→put-decimal2 c .before)
+
+abbrev slice-known7→put-decimal : tie.After-slice-known7 → tie.After-put-decimal
+slice-known7→put-decimal c = put-bytes2→slice-known3 (slice-known7→put-bytes2 c) .before .before
+
+abbrev slice-known7→put-bytes : tie.After-slice-known7 → tie.After-put-bytes
+slice-known7→put-bytes c = put-decimal-arg→put-bytes (slice-known7→put-decimal c .before)
 
 returns : tie.Need-returns
 returns c =
@@ -92,7 +47,7 @@ returns c =
     (then (slice-known7→put-decimal c .put-decimal .ensures)
     (then (slice-known7→put-bytes2 c .put-bytes2 .ensures)
     (then (slice-known7→put-decimal2 c .put-decimal2 .ensures)
-    (then (slice-known7→put-bytes3 c .put-bytes3 .ensures) (c .before .before .put-meaning .ensures))))))
+    (then (slice-known7→put-bytes3 c .put-bytes3 .ensures) (slice-known7→put-meaning c .put-meaning .ensures))))))
     (omega arith)
 
 pub put-refused-image-spec : {M : Type 1} → statement M
