@@ -17,56 +17,50 @@ abbrev μ-loop : tie.MeasureT-loop
 μ-loop codes out₀ at i₀ out i = length codes - i
 
 -- places: `a→b` leads from the record of the place a back to that of the place b
-abbrev shared-slice-known2→loop : tie.After-shared-slice-known2 Inv-loop μ-loop → tie.At-loop Inv-loop μ-loop
-shared-slice-known2→loop c = c .before .before
+abbrev loop→start : tie.At-loop Inv-loop μ-loop → tie.Start Inv-loop μ-loop
+loop→start c = c .before .before .before
 
-abbrev put-refused-image-arg→loop : tie.After-put-refused-image-arg Inv-loop μ-loop → tie.At-loop Inv-loop μ-loop
-put-refused-image-arg→loop c = shared-slice-known2→loop (c .before .before .before)
+abbrev after-loop→loop : tie.After-loop Inv-loop μ-loop → tie.At-loop Inv-loop μ-loop
+after-loop→loop c = c .before
 
-abbrev slice-known2→loop : tie.After-slice-known2 Inv-loop μ-loop → tie.At-loop Inv-loop μ-loop
-slice-known2→loop c = put-refused-image-arg→loop (c .before .before .before)
+abbrev after-loop→start : tie.After-loop Inv-loop μ-loop → tie.Start Inv-loop μ-loop
+after-loop→start c = loop→start (after-loop→loop c)
 
-abbrev slice-known→start : tie.After-slice-known Inv-loop μ-loop → tie.Start Inv-loop μ-loop
-slice-known→start c = c .before .before
+abbrev in-loop→loop : tie.In-loop Inv-loop μ-loop → tie.At-loop Inv-loop μ-loop
+in-loop→loop c = c .before
 
-abbrev shared-slice-known2→start : tie.After-shared-slice-known2 Inv-loop μ-loop → tie.Start Inv-loop μ-loop
-shared-slice-known2→start c = slice-known→start (c .before .before .before)
+abbrev refused-image→in-loop : tie.After-refused-image Inv-loop μ-loop → tie.In-loop Inv-loop μ-loop
+refused-image→in-loop c = c .before .before
 
-abbrev put-refused-image-arg→start : tie.After-put-refused-image-arg Inv-loop μ-loop → tie.Start Inv-loop μ-loop
-put-refused-image-arg→start c = shared-slice-known2→start (c .before .before .before)
-
-abbrev slice-known2→start : tie.After-slice-known2 Inv-loop μ-loop → tie.Start Inv-loop μ-loop
-slice-known2→start c = put-refused-image-arg→start (c .before .before .before)
-
-abbrev shared-slice-known2→in-loop : tie.After-shared-slice-known2 Inv-loop μ-loop → tie.In-loop Inv-loop μ-loop
-shared-slice-known2→in-loop c = c .before
-
-abbrev put-refused-image-arg→in-loop : tie.After-put-refused-image-arg Inv-loop μ-loop → tie.In-loop Inv-loop μ-loop
-put-refused-image-arg→in-loop c = shared-slice-known2→in-loop (c .before .before .before)
-
-abbrev slice-known2→in-loop : tie.After-slice-known2 Inv-loop μ-loop → tie.In-loop Inv-loop μ-loop
-slice-known2→in-loop c = put-refused-image-arg→in-loop (c .before .before .before)
-
-abbrev put-refused-image-arg→refused-image : tie.After-put-refused-image-arg Inv-loop μ-loop → tie.After-refused-image Inv-loop μ-loop
-put-refused-image-arg→refused-image c = c .before .before
-
-abbrev slice-known2→refused-image : tie.After-slice-known2 Inv-loop μ-loop → tie.After-refused-image Inv-loop μ-loop
-slice-known2→refused-image c = put-refused-image-arg→refused-image (c .before .before .before)
-
-abbrev put-refused-image-arg→then1 : tie.After-put-refused-image-arg Inv-loop μ-loop → tie.Then1 Inv-loop μ-loop
-put-refused-image-arg→then1 c = c .before
-
-abbrev slice-known2→then1 : tie.After-slice-known2 Inv-loop μ-loop → tie.Then1 Inv-loop μ-loop
-slice-known2→then1 c = put-refused-image-arg→then1 (c .before .before .before)
+abbrev else1→in-loop : tie.Else1 Inv-loop μ-loop → tie.In-loop Inv-loop μ-loop
+else1→in-loop c = refused-image→in-loop (c .before)
 
 abbrev else1→loop : tie.Else1 Inv-loop μ-loop → tie.At-loop Inv-loop μ-loop
-else1→loop c = shared-slice-known2→loop (c .before .before)
+else1→loop c = in-loop→loop (else1→in-loop c)
 
 abbrev else1→start : tie.Else1 Inv-loop μ-loop → tie.Start Inv-loop μ-loop
-else1→start c = shared-slice-known2→start (c .before .before)
+else1→start c = loop→start (else1→loop c)
 
-abbrev loop→start : tie.After-loop Inv-loop μ-loop → tie.Start Inv-loop μ-loop
-loop→start c = slice-known→start (c .before .before)
+abbrev put-refused-image-arg→loop : tie.After-put-refused-image-arg Inv-loop μ-loop → tie.At-loop Inv-loop μ-loop
+put-refused-image-arg→loop c = in-loop→loop (refused-image→in-loop (c .before .before))
+
+abbrev slice-known2→put-refused-image : tie.After-slice-known2 Inv-loop μ-loop → tie.After-put-refused-image Inv-loop μ-loop
+slice-known2→put-refused-image c = c .before .before
+
+abbrev slice-known2→then1 : tie.After-slice-known2 Inv-loop μ-loop → tie.Then1 Inv-loop μ-loop
+slice-known2→then1 c = slice-known2→put-refused-image c .before .before
+
+abbrev slice-known2→refused-image : tie.After-slice-known2 Inv-loop μ-loop → tie.After-refused-image Inv-loop μ-loop
+slice-known2→refused-image c = slice-known2→then1 c .before
+
+abbrev slice-known2→in-loop : tie.After-slice-known2 Inv-loop μ-loop → tie.In-loop Inv-loop μ-loop
+slice-known2→in-loop c = refused-image→in-loop (slice-known2→refused-image c)
+
+abbrev slice-known2→loop : tie.After-slice-known2 Inv-loop μ-loop → tie.At-loop Inv-loop μ-loop
+slice-known2→loop c = in-loop→loop (slice-known2→in-loop c)
+
+abbrev slice-known2→start : tie.After-slice-known2 Inv-loop μ-loop → tie.Start Inv-loop μ-loop
+slice-known2→start c = loop→start (slice-known2→loop c)
 
 loop-holds : tie.Need-loop-holds Inv-loop μ-loop
 loop-holds c = (omega arith, refl, refl)
@@ -75,25 +69,27 @@ put-refused-image-requires : tie.Need-put-refused-image-requires Inv-loop μ-loo
 put-refused-image-requires c κs = (omega arith, rw (put-refused-image-arg→loop c .loop .inv .1) (search needs))
 
 same-length : tie.Need-same-length Inv-loop μ-loop
-same-length c = c .before .before .put-refused-image .kept .1 .1 .0 ∙ ap length (slice-known2→loop c .loop .inv .1)
+same-length c = slice-known2→put-refused-image c .put-refused-image .kept .1 .1 .0 ∙ ap length (slice-known2→loop c .loop .inv .1)
 
 returns : tie.Need-returns Inv-loop μ-loop
 returns c =
     first-found (now (slice-known2→start c .args .codes)) (slice-known2→loop c .loop .i) (slice-known2→loop c .loop .inv .1)
     (slice-known2→loop c .loop .inv .2) (slice-known2→in-loop c .loop-test .taken)
     (sym (slice-known2→refused-image c .refused-image .ensures) ∙ slice-known2→then1 c .if1 .taken)
-    (c .before .before .put-refused-image .ensures)
+    (slice-known2→put-refused-image c .put-refused-image .ensures)
 
 loop-again : tie.Need-loop-again Inv-loop μ-loop
 loop-again c = (
   omega arith,
   else1→loop c .loop .inv .1,
-  sym (first-later (now (else1→start c .args .codes)) (else1→loop c .loop .i) (c .before .before .before .loop-test .taken)
+  sym (first-later (now (else1→start c .args .codes)) (else1→loop c .loop .i) (else1→in-loop c .loop-test .taken)
       (sym (c .before .refused-image .ensures) ∙ c .if1 .left)) ∙ else1→loop c .loop .inv .2,
 )
 
 returns-2 : tie.Need-returns-2 Inv-loop μ-loop
-returns-2 c = first-none (now (loop→start c .args .codes)) (c .before .loop .i) (c .before .loop .inv .1) (c .before .loop .inv .2) (c .loop-test .left)
+returns-2 c =
+    let l = after-loop→loop c .loop in
+    first-none (now (after-loop→start c .args .codes)) (l .i) (l .inv .1) (l .inv .2) (c .loop-test .left)
 
 pub put-first-refused-spec : {M : Type 1} → statement M
 put-first-refused-spec =
