@@ -9,23 +9,23 @@ use Rattle.replies.proofs.net_reply.Statement.{statement}
 use Rattle.replies.proofs.net_reply.Tie as tie
 
 -- places: `a→b` leads from the record of the place a back to that of the place b
-abbrev laid-arg→start : tie.After-laid-arg → tie.Start
-laid-arg→start c = c .before .before .before
+abbrev joined1→start : tie.Joined1 → tie.Start
+joined1→start c = c .before .before
 
-abbrev laid→start : tie.After-laid → tie.Start
-laid→start c = laid-arg→start (c .before .before)
+abbrev laid→joined1 : tie.After-laid → tie.Joined1
+laid→joined1 c = c .before .before .before
 
 abbrev slice-known3→laid : tie.After-slice-known3 → tie.After-laid
 slice-known3→laid c = c .before .before
 
 abbrev slice-known3→start : tie.After-slice-known3 → tie.Start
-slice-known3→start c = laid→start (slice-known3→laid c)
+slice-known3→start c = joined1→start (laid→joined1 (slice-known3→laid c))
 
 returns : tie.Need-returns
 returns c =
     let laid = slice-known3→laid c in
-    let join = laid .before .before .before in
-    let a = join .before .before .args in
+    let join = laid→joined1 laid in
+    let a = joined1→start join .args in
     ⊎-elim
     (λ w. net-listed (a .t1) (length (now (a .room))) _ (search needs) (w .5 ∙ w .2 .ensures) (laid .laid .ensures))
     (λ w. net-short (a .t1) (now (a .room)) (search needs) (w .0 .left) (laid .laid .ensures ∙ ap (overOf 0 (a .t1) 0) (w .1)))

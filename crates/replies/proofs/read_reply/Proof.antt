@@ -14,27 +14,30 @@ use Rattle.replies.proofs.read_reply.Tie as tie
 abbrev joined3→start : tie.Joined3 → tie.Start
 joined3→start c = c .before .before .before
 
-abbrev registers-laid→start : tie.After-registers-laid → tie.Start
-registers-laid→start c = joined3→start (c .before .before)
+abbrev then2→then1 : tie.Then2 → tie.Then1
+then2→then1 c = c .before
+
+abbrev registers-laid→joined3 : tie.After-registers-laid → tie.Joined3
+registers-laid→joined3 c = c .before .before
 
 abbrev slice-known6→registers-laid : tie.After-slice-known6 → tie.After-registers-laid
 slice-known6→registers-laid c = c .before .before
 
 abbrev slice-known6→start : tie.After-slice-known6 → tie.Start
-slice-known6→start c = registers-laid→start (slice-known6→registers-laid c)
+slice-known6→start c = joined3→start (registers-laid→joined3 (slice-known6→registers-laid c))
 
 returns : tie.Need-returns
 returns c =
     let reply = c .before .before in
     let shown = reply .before .before in
-    let a = shown .before .before .before .args in
+    let a = then2→then1 shown .before .before .args in
     reply .register-reply .ensures
-    ∙ register-listed (a .common) (a .label) (a .meter) (a .a) (length (now (a .room))) (shown .before .if1 .taken) (shown .if2 .taken)
+    ∙ register-listed (a .common) (a .label) (a .meter) (a .a) (length (now (a .room))) (then2→then1 shown .if1 .taken) (shown .if2 .taken)
 
 returns-2 : tie.Need-returns-2
 returns-2 c =
     let registers = slice-known6→registers-laid c in
-    let join = registers .before .before in
+    let join = registers-laid→joined3 registers in
     let a = joined3→start join .args in
     ⊎-elim
     (λ w. read-listed (a .common) (a .label) (a .meter) (a .a) (length (now (a .room))) _ _ _ _ (w .6 .ensures .1) (w .10 .ensures .1) (w .2 .ensures)

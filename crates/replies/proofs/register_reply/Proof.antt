@@ -9,21 +9,36 @@ use Rattle.replies.proofs.register_reply.Statement.{statement}
 use Rattle.replies.proofs.register_reply.Tie as tie
 
 -- places: `a→b` leads from the record of the place a back to that of the place b
+abbrev slice-known→start : tie.After-slice-known → tie.Start
+slice-known→start c = c .before
+
+abbrev register→start : tie.After-register → tie.Start
+register→start c = slice-known→start (c .before)
+
+abbrev then1→register : tie.Then1 → tie.After-register
+then1→register c = c .before
+
 abbrev then1→start : tie.Then1 → tie.Start
-then1→start c = c .before .before .before
+then1→start c = register→start (then1→register c)
+
+abbrev else2→start : tie.Else2 → tie.Start
+else2→start c = register→start (c .before .before)
+
+abbrev choose8→then2 : tie.After-choose8 → tie.Then2
+choose8→then2 c = c .before
 
 register-requires : tie.Need-register-requires
-register-requires c κs = (c .before .pre .0, (omega (arith, c .before .pre .1), omega arith))
+register-requires c κs = (slice-known→start c .pre .0, (omega (arith, slice-known→start c .pre .1), omega arith))
 
 slice-write-room-2 : tie.Need-slice-write-room-2
-slice-write-room-2 c = omega (arith, c .if1 .taken, length-set (now (then1→start c .args .room)) 0 (c .before .register .result .high))
+slice-write-room-2 c = omega (arith, c .if1 .taken, length-set (now (then1→start c .args .room)) 0 (then1→register c .register .result .high))
 
 returns : tie.Need-returns
 returns c =
     let start = then1→start c in
     let a = start .args in
     let room = now (a .room) in
-    let p = c .before .register .ensures in
+    let p = then1→register c .register .ensures in
     filling-end _ room _ 2
     (filling-more _ room _ 1 _
     (filling-more _ room room 0 _ (filling-start _ room) (omega (arith, c .if1 .taken))
@@ -34,18 +49,18 @@ returns c =
 
 returns-2 : tie.Need-returns-2
 returns-2 c =
-    let read = c .before .before .before in
-    let start = read .before .before in
+    let read = choose8→then2 c .before .before in
+    let start = register→start read in
     let a = start .args in
     let room = now (a .room) in
     filling-end _ room _ 1
-    (filling-more _ room room 0 _ (filling-start _ room) (omega (arith, c .before .if2 .taken))
+    (filling-more _ room room 0 _ (filling-start _ room) (omega (arith, choose8→then2 c .if2 .taken))
     (c .choose8 .ensures ∙ one-byte (a .common) (a .meter) (a .a) _ (read .register .ensures)))
-    (omega (arith, c .before .if2 .taken))
+    (omega (arith, choose8→then2 c .if2 .taken))
 
 returns-3 : tie.Need-returns-3
 returns-3 c =
-    let start = c .before .before .before .before in
+    let start = else2→start c in
     let room = now (start .args .room) in
     filling-end _ room _ 0 (filling-start _ room) (omega (arith, c .if2 .left, c .before .if1 .left, start .pre .1 .1))
 
