@@ -15,6 +15,16 @@ use borrow.Author.Needs.{needs}
 use Rattle.gauge.proofs.Gauge.ran.Statement.{statement}
 use Rattle.gauge.proofs.Gauge.ran.Tie as tie
 
+-- places: `a→b` leads from the record of the place a back to that of the place b
+abbrev wide→start : tie.After-wide → tie.Start
+wide→start c = c .before .before
+
+abbrev enum-told→start : tie.After-enum-told → tie.Start
+enum-told→start c = wide→start (c .before .before)
+
+abbrev enum-told6→start : tie.After-enum-told6 → tie.Start
+enum-told6→start c = wide→start (c .before .before)
+
 -- a command that did its work at the address and with the bytes of the transaction
 ran-by : (x : Command) (g r : Gauge) (t : Transaction) (master : List ℕ) (a : ℕ) →
     t .command ≡ x → a ≡ t .address → r ≡ ranBy x g a (drop (t .from) master) → r ≡ ranOf g t master
@@ -27,14 +37,14 @@ bytes-after master i from n e f = part-rest master n ∙ rw (f, e) (drop-lower f
 
 returns : tie.Need-returns
 unfolding ranOf
-returns c = (rw (c .enum-told .given .1) refl, c .before .before .before .before .pre)
+returns c = (rw (c .enum-told .given .1) refl, enum-told→start c .pre)
 
 returns-2 : tie.Need-returns-2
 returns-2 c =
     let lower = c .before .before in
     let told = lower .before .before in
     let wide = told .before .before in
-    let a = wide .before .before .args in (
+    let a = wide→start wide .args in (
       ran-by Write (a .self) _ (a .transaction) (now (a .master)) _ (told .enum-told2 .given .1) (wide .wide .ensures .0)
           (c .written .ensures .0 ∙ ap (writtenOf (a .self) _)
           (bytes-after (now (a .master)) _ (a .transaction .from) _ (lower .before .wide2 .ensures .0) (lower .lesser .ensures))),
@@ -64,7 +74,7 @@ returns-5 c =
 
 returns-6 : tie.Need-returns-6
 unfolding ranOf
-returns-6 c = (rw (c .enum-told6 .given .1) refl, c .before .before .before .before .pre)
+returns-6 c = (rw (c .enum-told6 .given .1) refl, enum-told6→start c .pre)
 
 pub ran-spec : {M : Type 1} → statement M
 ran-spec =

@@ -15,6 +15,19 @@ use borrow.Author.Needs.{needs}
 use Rattle.gauge.proofs.Gauge.transact.Statement.{statement}
 use Rattle.gauge.proofs.Gauge.transact.Tie as tie
 
+-- places: `a→b` leads from the record of the place a back to that of the place b
+abbrev selected→start : tie.After-selected → tie.Start
+selected→start c = c .before .before .before .before
+
+abbrev replied→selected : tie.After-replied → tie.After-selected
+replied→selected c = c .before .before
+
+abbrev can-change→replied : tie.After-can-change → tie.After-replied
+can-change→replied c = c .before .before .before
+
+abbrev and→replied : tie.After-and → tie.After-replied
+and→replied c = can-change→replied (c .before)
+
 -- what was replied, by whether the transaction selects
 replied : (g : Gauge) (t : Transaction) (master room after : List ℕ) (chosen : Bool) →
     chosen ≡ selectedOf (g .common .address) t master →
@@ -42,12 +55,12 @@ returns : tie.Need-returns
 unfolding actOf
 returns c =
     let c2 = c .before .before in
-    let reply = c2 .before .before .before .before in
-    let selected = reply .before .before in
+    let reply = and→replied c2 in
+    let selected = replied→selected reply in
     let chosen = both-true _ _ (sym (c2 .and .ensures) ∙ c .before .if1 .taken) .0 in (
       rw (sym (selected .selected .ensures) ∙ chosen) (c .ran .ensures .0),
       (
-        replied (selected .before .before .before .before .args .self) _ _ _ _ _ (selected .selected .ensures) (reply .replied .ensures),
+        replied (selected→start selected .args .self) _ _ _ _ _ (selected .selected .ensures) (reply .replied .ensures),
         c .ran .ensures .1,
       ),
     )
@@ -56,9 +69,9 @@ returns-2 : tie.Need-returns-2
 returns-2 c =
     let c1 = c .before in
     let c2 = c1 .before in
-    let reply = c2 .before .before .before in
-    let selected = reply .before .before in
-    let start = selected .before .before .before .before in
+    let reply = can-change→replied c2 in
+    let selected = replied→selected reply in
+    let start = selected→start selected in
     let g = start .args .self in (
       stays g _ _ ((λ i. both (sym (selected .selected .ensures) i) (sym (c2 .can-change .ensures) i)) ∙ sym (c1 .and .ensures) ∙ c .if1 .left),
       (
