@@ -129,8 +129,8 @@ pub fn read_off(kind: u16, used: usize, taken: Taken) -> Record
     }
 }
 
-// The record at the front of the rest, with a tick that is remembered and so many bytes of reply room left. Of a kind that is above all others nothing
-// more is asked.
+// The record at the front of the rest, with a tick that is remembered and so many bytes of reply room left. Kinds over 8 are unknown: nothing more is
+// asked of them.
 pub fn front(rest: &[u8], loaded: bool, last: Tick, room: usize) -> Record
     ensures { λ r. ⌜ r ≡ frontBy (toldOf loaded last) room (now (rest .entry)) ⌝ }
 {
