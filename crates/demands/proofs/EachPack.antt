@@ -41,6 +41,8 @@ use Rattle.demands.specs.Slots.{andOver, EachAsPlain, TransactionsAsPlai
 use Rattle.demands.proofs.Choice.{contrary, either-none, either-true}
 use Rattle.demands.proofs.Moments.{running}
 use Rattle.demands.proofs.Fitted.{fitted-has}
+use Rattle.demands.proofs.Small.{SmallGauge, reply-bytes}
+use Rattle.demands.proofs.SmallRuns.{slot-small}
 use Rattle.demands.proofs.Packs.{Eight, acted-pack, acted-count}
 use Rattle.demands.proofs.Asked.{Asks, tray-asks}
 use Rattle.demands.proofs.Alone.{transaction-kind}
@@ -151,13 +153,13 @@ each-same {τ} {d} f g e h = record {
   count = h .count;
   closed = h .closed;
   size = λ i low. h .size i low ∙ ap (λ (x : Did Session). length (x .reply)) (e i low);
-  byte = λ k less bytes.
+  byte = λ k less.
       let same : (i : ℕ) → i < τ .count → getD (f i .reply) k 0 ≡ getD (g i .reply) k 0 = λ i low. ap (λ (x : Did Session). getD (x .reply) k 0) (e i low) in
-      h .byte k less (λ i low. rw (same i low) (bytes i low))
+      h .byte k less
       ∙ and-same (τ .count) (λ i. getD (f i .reply) k 0) (λ i. getD (g i .reply) k 0) same;
 }
 
-module _ (τ : Tray) (h : Distinct τ) (f : Form) (p : List ℕ) where
+module _ (τ : Tray) (h : Distinct τ) (small : (i : ℕ) → SmallGauge (packOf τ i)) (f : Form) (p : List ℕ) where
   abbrev Each : Taken → Type 0
   Each t = EachAsPlain τ (answeredBy ofTray τ p t) (λ i. takenDid (loadedWith (packOf τ i)) p t)
 
@@ -170,7 +172,7 @@ module _ (τ : Tray) (h : Distinct τ) (f : Form) (p : List ℕ) where
         let z : refusalNumber r ≡ 0 → ⊥ = λ e. omega (arith, refusal-range r) in
         sym (ap (either (τ .closed)) (ne-eqb (refusalNumber r) 0 z) ∙ either-none (τ .closed));
     size = λ i low. refl;
-    byte = λ k less bytes. absurd (omega arith);
+    byte = λ k less. absurd (omega arith);
   }
 
   transact-each : (t : Transaction) → Each (Run (Transact t))
@@ -185,7 +187,7 @@ module _ (τ : Tray) (h : Distinct τ) (f : Form) (p : List ℕ) where
         count = acted-count t master τ reach;
         closed = sym (either-true (τ .closed));
         size = λ i low. long ∙ sym (reply-length (packOf τ i) t master);
-        byte = λ k less bytes. each-byte t master τ (h .eight) reach w k (rw long at less) bytes;
+        byte = λ k less. each-byte t master τ (h .eight) reach w k (rw long at less) (λ i low. reply-bytes (packOf τ i) (small i) t master k);
       }
 
   taken-each : (t : Taken) → Asks τ (kind.Transaction f) p t → Each t
@@ -206,5 +208,5 @@ module _ (τ : Tray) (h : Distinct τ) (f : Form) (p : List ℕ) where
       (fitted-has Each (refused-each refusal.Room) room told (taken-each told asks))
 
 pub transactions-as-plain : TransactionsAsPlain
-transactions-as-plain c w room f p =
-    did-each (c .ran .state) (rw (running trayDid emptyTray w .state) (end-distinct (length (c .room)) (recsOf (c .bytes)))) f p room
+transactions-as-plain c w bytes room f p =
+    did-each (c .ran .state) (rw (running trayDid emptyTray w .state) (end-distinct (length (c .room)) (recsOf (c .bytes)))) (slot-small c w bytes) f p room

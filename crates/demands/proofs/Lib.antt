@@ -41,6 +41,8 @@ pub mod Booked
 pub mod Blind
 pub mod Stored
 pub mod History
+pub mod Small
+pub mod SmallRuns
 pub mod Lives
 pub mod Slow
 pub mod BooksExample

@@ -50,6 +50,7 @@ use Rattle.demands.proofs.Asked.{Asks, tray-asks}
 use Rattle.demands.proofs.Filled.{event-pack, event-count, event-eight, empty-filled}
 use Rattle.demands.proofs.Distinct.{Distinct, whom}
 use Rattle.demands.proofs.EachPack.{each-acts, single-reply}
+use Rattle.demands.proofs.SmallRuns.{replies-bytes}
 
 -- The kinds
 
@@ -412,7 +413,7 @@ empty-alike = record { eight = empty-filled .eight; count = refl; opening = λ e
 
 single-alike : (c : Call Session) (d : Call Tray) → Translated c d → oneImage (linesIn didOf emptyOf c) ≡ true → AnswersAlike c d
 single-alike c d t once =
-    let h = runs-alike emptyOf emptyTray (length (c .room)) (recsOf (c .bytes)) empty-alike once (t .bytes) in
+    let h = runs-alike emptyOf emptyTray (length (c .room)) (recsOf (c .bytes)) empty-alike once (replies-bytes (c .bytes) (length (c .room)) (t .bytes)) in
     let left = running didOf emptyOf (t .plain) .state in
     let right : d .ran .state ≡ endAfter trayDid emptyTray (length (c .room)) (map inTray (recsOf (c .bytes))) =
     running trayDid emptyTray (t .tray) .state ∙ rw (t .records, t .room) refl in

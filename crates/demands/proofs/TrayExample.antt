@@ -1,12 +1,17 @@
 -- The theorems on trays speak of something: trays of two packs.
-use mathlib.Core.Path.{_≡_, refl, sym, ap, subst}
+use mathlib.Core.Path.{_≡_, refl, sym, ap}
+use mathlib.Core.Bool.{Bool, true, false}
 use mathlib.Core.List.{List, [], _∷_, _++_, map, zip, zipWith}
-use Prim.Native.Nat.{ℕ, zero, suc, _≤_, _<_}
+use Prim.Native.Nat.{ℕ, _≤_, _<_}
 use native.Mathlib.Omega.{arith}
-use lib.ListN.{length, getD, replicate}
+use borrow.Author.Tests.{ltb-true, ltb-false}
+use lib.Dec.{ltb, ltb→lt}
+use lib.ListN.{length, getD, replicate, List·getD-eq-default}
 use Rattle.state.specs.declared.Profile.{Profile}
 use Rattle.state.specs.declared.Profile.the-variants.{Ds2781, Ds2775}
 use Rattle.crc.specs.Crc as crc
+use Rattle.crc.proofs.Table.{at}
+use Rattle.hex.specs.Theorems.{Bytes}
 use Rattle.slices.specs.Slices.{laidOf}
 use Rattle.state.specs.State.{timelyOf, poweredOf}
 use Rattle.conversion.specs.Conversion.{flowedOf, convertOf}
@@ -319,13 +324,12 @@ unfolding recOf sizeOf wholeOf didOf takenOf kindOf judgedAmong addressedOf orde
     askedOf askedAt romBy commandOf selectedOf actOf ranOf replyOf sourceByte readByte inLabel meterByte registersOf
 plain-replies = refl
 
-two-bytes : (k : ℕ) → getD (0xfc ∷ 0x18 ∷ []) k 0 < 256
-two-bytes zero = omega arith
-two-bytes (suc zero) = omega arith
-two-bytes (suc (suc k)) = omega arith
-
-plain-bytes : (k : ℕ) → getD (repliesOf (linesIn didOf emptyOf plain-call)) k 0 < 256
-plain-bytes = subst (λ (l : List ℕ). (k : ℕ) → getD l k 0 < 256) (sym plain-replies) two-bytes
+plain-bytes : Bytes (packed plain)
+plain-bytes i = by (ltb i 152) refl
+  where
+    by : (inside : Bool) → ltb i 152 ≡ inside → getD (packed plain) i 0 < 256
+    by true e = ltb→lt (getD (packed plain) i 0) 256 (at (λ k x. ltb x 256) (packed plain) tt i (ltb-true i 152 e))
+    by false e = rw (List·getD-eq-default (packed plain) 0 (ltb-false i 152 e)) (omega arith)
 
 -- THE HYPOTHESES ON A TRAY OF ONE PACK CAN BE MET
 pub single-met : SingleMet

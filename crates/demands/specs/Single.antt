@@ -5,9 +5,9 @@
 use mathlib.Core.Path.{_≡_}
 use mathlib.Core.Bool.{Bool, true, not}
 use mathlib.Core.List.{List, [], _∷_, map}
-use Prim.Native.Nat.{ℕ, _<_}
+use Prim.Native.Nat.{ℕ}
 use lib.Dec.{eqb}
-use lib.ListN.{length, getD}
+use lib.ListN.{length}
 use Rattle.numbers.specs.Choice.{pick, both, either}
 use Rattle.runs.specs.Record.{Rec, whole, cut, recsOf}
 use Rattle.runs.specs.Run.{Line, repliesOf}
@@ -16,6 +16,7 @@ use Rattle.runs.specs.SessionRecord.{didOf}
 use Rattle.session_run.specs.SessionRun.{emptyOf}
 use Rattle.tray_record.specs.declared.Tray.{Tray}
 use Rattle.tray_record.specs.Tray.{emptyTray, packOf, trayDid}
+use Rattle.hex.specs.Theorems.{Bytes}
 use Rattle.demands.specs.Call.{Call, Within, linesIn, Told}
 
 -- ---- the same session for a tray with the pack in slot 0
@@ -58,13 +59,13 @@ oneImage (l ∷ ls) = pick (eqb (l .answer) 0) (noneAgain ls) (oneImage ls)
 
 -- ---- the theorem
 
--- a plain session and the same for a tray, with reply rooms of one size. Its replies are bytes, as every room of bytes holds them
+-- a plain session, of bytes, and the same for a tray, with reply rooms of one size
 pub record Translated (c : Call Session) (d : Call Tray) : Type 0 where
   pub plain : Within didOf emptyOf c
   pub tray : Within trayDid emptyTray d
   pub records : recsOf (d .bytes) ≡ map inTray (recsOf (c .bytes))
   pub room : length (d .room) ≡ length (c .room)
-  pub bytes : (k : ℕ) → getD (repliesOf (linesIn didOf emptyOf c)) k 0 < 256
+  pub bytes : Bytes (c .bytes)
 
 -- each record gets the same answer and reply, and the pack ends as the gauge does; it is there if the image was accepted
 pub record AnswersAlike (c : Call Session) (d : Call Tray) : Type 0 where

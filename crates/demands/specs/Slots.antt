@@ -16,6 +16,7 @@ use Rattle.runs.specs.declared.Session.{Session}
 use Rattle.runs.specs.SessionRecord.{loadedWith, didOf}
 use Rattle.tray_record.specs.declared.Tray.{Tray}
 use Rattle.tray_record.specs.Tray.{emptyTray, packOf, one, trayDid}
+use Rattle.hex.specs.Theorems.{Bytes}
 use Rattle.demands.specs.Call.{Call, Within}
 use Rattle.demands.specs.Longer.{formKind}
 use Rattle.demands.specs.Alone.{reachIn}
@@ -57,12 +58,11 @@ pub record EachAsPlain (τ : Tray) (d : Did Tray) (plain : ℕ → Did Session) 
   pub count : d .state .count ≡ τ .count
   pub closed : d .state .closed ≡ either (τ .closed) (eqb (d .answer) 0)
   pub size : (i : ℕ) → i < τ .count → length (d .reply) ≡ length (plain i .reply)
-  -- where theirs are bytes, as they are in a reply room
-  pub byte : (k : ℕ) → k < length (d .reply) → ((i : ℕ) → i < τ .count → getD (plain i .reply) k 0 < 256)
+  pub byte : (k : ℕ) → k < length (d .reply)
       → getD (d .reply) k 0 ≡ andOver (τ .count) (λ i. getD (plain i .reply) k 0)
 
--- in the state that any run leaves, with any room: a transaction of either form
+-- in the state that any run of bytes leaves, with any room: a transaction of either form
 abbrev pub TransactionsAsPlain : Type 0
-TransactionsAsPlain = (c : Call Tray) → Within trayDid emptyTray c → (room : ℕ) (f : Form) (p : List ℕ)
+TransactionsAsPlain = (c : Call Tray) → Within trayDid emptyTray c → Bytes (c .bytes) → (room : ℕ) (f : Form) (p : List ℕ)
     → EachAsPlain (c .ran .state) (trayDid (c .ran .state) room (whole (formKind f) p))
     (λ i. didOf (loadedWith (packOf (c .ran .state) i)) room (whole (formKind f) p))
