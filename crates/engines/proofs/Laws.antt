@@ -13,7 +13,7 @@ use Rattle.numbers.proofs.Bounds.{both-true}
 use Rattle.slices.specs.Slices.{part, pairAt, quadAt}
 use Rattle.slices.proofs.Laws.{part-rest}
 use Rattle.streams.specs.declared.Said.{Said}
-use Rattle.streams.specs.Streams.{error, refusedText, Saying}
+use Rattle.streams.specs.Streams.{error, Saying}
 use Rattle.state.specs.declared.Charge.{Charge}
 use Rattle.state.specs.State.{ChargeWF, AverageWF, MeterWF}
 use Rattle.state.specs.declared.Average.{Average}
@@ -25,7 +25,7 @@ use Rattle.runs.specs.declared.Session.{Session}
 use Rattle.runs.specs.SessionRecord.{didOf}
 use Rattle.session_run.specs.declared.Ran.{Ran}
 use Rattle.session_run.specs.SessionRun.{emptyOf, resultOf}
-use Rattle.engines.specs.Engines.{enginesSizeWords, chargeSound, averageSound, soundOf, endSpeech, sessionAfter, comparedSpeech}
+use Rattle.engines.specs.Engines.{enginesSizeText, chargeSound, averageSound, soundOf, endSpeech, sessionAfter, comparedSpeech}
 
 -- ---- a sound meter is well-formed
 
@@ -80,6 +80,6 @@ end-said s fits es er en w = rw fits (rw (es, er, en) at w)
 
 -- ---- an input that is too long: its bytes do not matter
 
-pub alike : (s : List ℕ) → 32774 < length s → comparedSpeech s ≡ error (refusedText 4 enginesSizeWords)
+pub alike : (s : List ℕ) → 32774 < length s → comparedSpeech s ≡ error enginesSizeText
 unfolding comparedSpeech
 alike s h = rw (le-leb 6 (length s) (omega arith), lt-leb (length s) 32774 h)

@@ -9,6 +9,7 @@ use Rattle.engines.proofs.put_registers
 use Rattle.engines.proofs.put_line
 use Rattle.engines.proofs.put_lines
 use Rattle.engines.proofs.put_ended
+use Rattle.engines.proofs.put_missized
 use Rattle.engines.proofs.put_compared
 use Rattle.engines.proofs.compared
 
@@ -29,6 +30,9 @@ put-lines-once κs a r r′ w w′ p h h′ = (h .onward ∙ sym (h′ .onward),
 
 pub put-ended-once : Once put_ended.ended put_ended.Reads.Pre put_ended.Reads.Learnt
 put-ended-once κs a r r′ w w′ p h h′ = (same-said h h′, λ i. (tt, (tt, (tt, (same-room h h′ i, tt)))))
+
+pub put-missized-once : Once «put_missized».ended «put_missized».Reads.Pre «put_missized».Reads.Learnt
+put-missized-once κs a r r′ w w′ p h h′ = (same-said h h′, λ i. (same-room h h′ i, tt))
 
 pub put-compared-once : Once put_compared.ended put_compared.Reads.Pre put_compared.Reads.Learnt
 put-compared-once κs a r r′ w w′ p h h′ = (same-said h h′, λ i. (tt, (same-room h h′ i, tt)))

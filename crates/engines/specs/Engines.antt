@@ -27,8 +27,9 @@ use Rattle.session_run.specs.SessionRun.{emptyOf}
 abbrev pub enginesName : List ℕ
 enginesName = ascii "engines"
 
-abbrev pub enginesSizeWords : List ℕ
-enginesSizeWords = ascii "the input is not 6 to 32,774 bytes"
+-- without a number: 4 is of a record's payload
+abbrev pub enginesSizeText : List ℕ
+enginesSizeText = ascii "engines: the input is not 6 to 32,774 bytes\n"
 
 abbrev pub enginesImageWords : List ℕ
 enginesImageWords = ascii "no image was accepted behind the first 6 bytes"
@@ -76,7 +77,7 @@ unfoldable pub comparedSpeech : List ℕ → Speech
 comparedSpeech s =
     pick (both (leb 6 (length s)) (leb (length s) 32774))
     (endSpeech (sessionAfter (drop 6 s)) (offset32Of (quadAt s 0)) (pairAt s 4))
-    (error (refusedText 4 enginesSizeWords))
+    (error enginesSizeText)
 
 -- what is said of standard input s, or where a read of it failed
 abbrev pub comparedOf : Bool → List ℕ → Speech

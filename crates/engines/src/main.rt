@@ -13,8 +13,9 @@ ghost use Prim.Native.Nat.{ℕ, _+_, _≤_};
 ghost use lib.ListN.{length};
 ghost use Rattle.state.specs.State.{MeterWF};
 ghost use Rattle.digits.specs.Digits.{Writing};
-ghost use Rattle.streams.specs.Streams.{Front, Saying};
-ghost use Rattle.engines.specs.Engines.{averageSound, soundOf, registersText, meterLine, engineLines, endSpeech, comparedSpeech, comparedOf};
+ghost use Rattle.streams.specs.Streams.{error, Front, Saying};
+ghost use Rattle.engines.specs.Engines.{enginesSizeText, averageSound, soundOf, registersText, meterLine};
+ghost use Rattle.engines.specs.Engines.{engineLines, endSpeech, comparedSpeech, comparedOf};
 
 // What an engine asks of the count of conversions and of the run of eight.
 fn average_sound(average: Average) -> bool
@@ -94,6 +95,19 @@ fn put_ended(session: Session, raw: u32, n: u16, room: &mut [u8]) -> Said
     streams::put_refused(5, b"no image was accepted behind the first 6 bytes", room)
 }
 
+// The size of the input is this program's own affair: the papers have no number for it.
+fn put_missized(room: &mut [u8]) -> Said
+    requires { ⌜ length (now room) ≡ 258 ⌝ }
+    ensures { λ r. ⌜ Saying (error enginesSizeText) (now (room .entry)) r (now (room .exit)) ⌝ }
+{
+    let count = digits::put_bytes(b"engines: the input is not 6 to 32,774 bytes\n", room, 0);
+    let stream = Stream::Error;
+    Said {
+        stream: stream,
+        count: count,
+    }
+}
+
 fn put_compared(bytes: &[u8], room: &mut [u8]) -> Said
     requires { ⌜ length (now room) ≡ 258 ⌝ }
     ensures { λ r. ⌜ Saying (comparedSpeech (now (bytes .entry))) (now (room .entry)) r (now (room .exit)) ⌝ }
@@ -106,7 +120,7 @@ fn put_compared(bytes: &[u8], room: &mut [u8]) -> Said
         let ran = session_run::run(&bytes[6..], &mut replies, &mut answers);
         return put_ended(ran.session, raw, n, room);
     }
-    streams::put_refused(4, b"the input is not 6 to 32,774 bytes", room)
+    put_missized(room)
 }
 
 // What the program says. A byte more than an input may have is enough to know of any. (That the room keeps its length is said for `main`.)

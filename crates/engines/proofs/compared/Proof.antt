@@ -3,9 +3,9 @@ use mathlib.Core.Path.{_≡_, ap, _∙_}
 use native.Mathlib.Omega.{arith}
 use lib.ListN.{length}
 use denote.Ref.{now}
-use Rattle.streams.specs.Streams.{error, refusedText}
+use Rattle.streams.specs.Streams.{error}
 use Rattle.streams.proofs.Laws.{cut, seen}
-use Rattle.engines.specs.Engines.{enginesSizeWords, comparedSpeech}
+use Rattle.engines.specs.Engines.{enginesSizeText, comparedSpeech}
 use Rattle.engines.proofs.Laws.{alike}
 use borrow.Author.Needs.{needs}
 use Rattle.engines.proofs.compared.Statement.{statement}
@@ -22,7 +22,7 @@ returns-2 c =
     let at-start = at-else1 .before in
     let size : length (now (at-start .args .input)) ≡ 32775 = omega arith in
     let read = ap comparedSpeech (cut (at-within .within .ensures)) in (
-      λ s front. rw (at-else1 .if1 .left, ← read ∙ seen comparedSpeech (error (refusedText 4 enginesSizeWords)) 32774 alike size front)
+      λ s front. rw (at-else1 .if1 .left, ← read ∙ seen comparedSpeech (error enginesSizeText) 32774 alike size front)
           (c .put-compared .ensures),
       search needs,
     )

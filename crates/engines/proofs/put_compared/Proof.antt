@@ -30,11 +30,11 @@ pair→offset32 c = c .before
 abbrev pair→then1 : tie.After-pair → tie.Then1
 pair→then1 c = offset32→then1 (pair→offset32 c)
 
-abbrev slice-known3→put-refused : tie.After-slice-known3 → tie.After-put-refused
-slice-known3→put-refused c = c .before .before
+abbrev slice-known3→put-missized : tie.After-slice-known3 → tie.After-put-missized
+slice-known3→put-missized c = c .before .before
 
 abbrev slice-known3→else1 : tie.After-slice-known3 → tie.Else1
-slice-known3→else1 c = slice-known3→put-refused c .before .before .before
+slice-known3→else1 c = slice-known3→put-missized c .before .before
 
 abbrev slice-known2→put-ended : tie.After-slice-known2 → tie.After-put-ended
 slice-known2→put-ended c = c .before .before
@@ -83,7 +83,7 @@ returns c =
 
 returns-2 : tie.Need-returns-2
 unfolding comparedSpeech
-returns-2 c = rw (sym (slice-known3→else1 c .before .and .ensures) ∙ slice-known3→else1 c .if1 .left) (slice-known3→put-refused c .put-refused .ensures)
+returns-2 c = rw (sym (slice-known3→else1 c .before .and .ensures) ∙ slice-known3→else1 c .if1 .left) (slice-known3→put-missized c .put-missized .ensures)
 
 pub put-compared-spec : {M : Type 1} → statement M
 put-compared-spec =
@@ -101,7 +101,6 @@ put-compared-spec =
     (λ c κs. search needs)
     (λ c. search needs)
     returns
-    (λ c. search needs)
     (λ c κs. search needs)
     (λ c. search needs)
     returns-2)
