@@ -19,7 +19,7 @@
  *              state at most one may run at a time.
  * Buffers      A pointer and the number of bytes that you lend there. No byte outside is read or written, whatever stands in them. A pointer whose
  *              number is 0 may be null. The buffers of one call must not overlap.
- * Stack        Some 2 KB for a pack and some 8 KB for a tray (docs/LIBRARY.md).
+ * Stack        Some 5 KB.
  * Units        A count of current is 1.5625 uV across the sense resistor, above 0 while the pack is charged; a conversion is due each 3600/1024 s.
  *              A count of voltage is 9.76 mV (DS2775: 4.88 mV), of temperature 1/8 degree, of ACR 6.25 uVh across the sense resistor.
  *

@@ -20,7 +20,7 @@ use Rattle.state_bytes.specs.declared.StateStep.{StateStep}
 use Rattle.state_bytes.specs.State.{stateSize, stateBytes, stateIn, heldIn, didIn, StateOut, StateStepped}
 use Rattle.state_bytes.proofs.Undoing.{state-length, undoing}
 use Rattle.library.specs.declared.LibraryResult.{LibraryResult}
-use Rattle.library.specs.Library.{Started, Recorded, Taken, ImageTaken, stateRoom}
+use Rattle.library.specs.Library.{Started, RecordDone, ImageDone, ImageTaken, stateRoom}
 
 -- ---- start
 
@@ -45,20 +45,20 @@ module _ {room : List ℕ} where
 -- ---- a record
 
 module _ {state bytes room : List ℕ} where
-  pub recorded-short : length bytes < 4 → Recorded state bytes room (record { answer = 54; count = 0 }) state room
+  pub recorded-short : length bytes < 4 → RecordDone state bytes room (record { answer = 54; count = 0 }) state room
   recorded-short short =
       let none = lt-leb 4 (length bytes) short in
       record { answered = simp none; counted = simp none; kept = simp none; written = simp none }
 
   pub recorded : {s : StateStep} {after last : List ℕ} → 4 ≤ length bytes → StateStepped state bytes room s after last
-      → Recorded state bytes room (record { answer = pick (eqb (s .number) 0) (s .answer) (s .number); count = s .replied }) after last
+      → RecordDone state bytes room (record { answer = pick (eqb (s .number) 0) (s .answer) (s .number); count = s .replied }) after last
   recorded {s} {after} {last} long h = by (heldIn state bytes room) refl
     where
       head : leb 4 (length bytes) ≡ true
       head = le-leb 4 (length bytes) long
 
       by : (b : Bool) → heldIn state bytes room ≡ b
-          → Recorded state bytes room (record { answer = pick (eqb (s .number) 0) (s .answer) (s .number); count = s .replied }) after last
+          → RecordDone state bytes room (record { answer = pick (eqb (s .number) 0) (s .answer) (s .number); count = s .replied }) after last
       by true held =
           let zero : s .number ≡ 0 = h .number ∙ eqb-true (stateIn state .number) 0 held in
           let again = ap (λ (x : StateIn). x .session) (h .again zero) in
@@ -81,12 +81,12 @@ module _ {state bytes room : List ℕ} where
 -- ---- the image
 
 module _ {σ : Session} {room after : List ℕ} {answer : ℕ} (h : TakenOut σ room answer after) where
-  pub taken-out : {size : ℕ} → answer ≡ 0 → size ≡ sizeFor (σ .gauge) → Taken σ room (record { answer = 0; count = size }) after
+  pub taken-out : {size : ℕ} → answer ≡ 0 → size ≡ sizeFor (σ .gauge) → ImageDone σ room (record { answer = 0; count = size }) after
   taken-out zero e =
       let number = sym zero ∙ h .number in
       record { answered = number; counted = e ∙ simp (eq-eqb (takeOutNumber σ room) 0 (sym number)); written = h .written }
 
-  pub taken-none : (answer ≡ 0 → ⊥) → Taken σ room (record { answer = answer; count = 0 }) after
+  pub taken-none : (answer ≡ 0 → ⊥) → ImageDone σ room (record { answer = answer; count = 0 }) after
   taken-none other =
       record {
         answered = h .number;
@@ -95,10 +95,10 @@ module _ {σ : Session} {room after : List ℕ} {answer : ℕ} (h : TakenOut σ 
       }
 
 module _ {state room : List ℕ} {held : StateIn} (h : held ≡ stateIn state) where
-  pub image-taken : {r : LibraryResult} {after : List ℕ} → held .number ≡ 0 → Taken (held .session) room r after → ImageTaken state room r after
+  pub image-taken : {r : LibraryResult} {after : List ℕ} → held .number ≡ 0 → ImageDone (held .session) room r after → ImageTaken state room r after
   image-taken zero t =
       let is = eq-eqb (stateIn state .number) 0 (sym (ap (λ (x : StateIn). x .number) h) ∙ zero) in
-      let same : Taken (stateIn state .session) room _ _ = rw h at t in
+      let same : ImageDone (stateIn state .session) room _ _ = rw h at t in
       record { answered = same .answered ∙ simp is; counted = same .counted ∙ simp is; written = same .written ∙ simp is }
 
   pub image-none : (held .number ≡ 0 → ⊥) → ImageTaken state room (record { answer = held .number; count = 0 }) room

@@ -40,7 +40,7 @@ module _ (state bytes room : List ℕ) where
   abbrev pub isRun : Bool
   isRun = both headed (heldIn state bytes room)
 
-  pub record Recorded (r : LibraryResult) (after last : List ℕ) : Type 0 where
+  pub record RecordDone (r : LibraryResult) (after last : List ℕ) : Type 0 where
     pub answered : r .answer ≡ pick headed (pick (heldIn state bytes room) (didIn state bytes room .answer) (stateIn state .number)) headless
     pub counted : r .count ≡ pick isRun (length (didIn state bytes room .reply)) 0
     pub kept : after ≡ pick isRun (stateBytes (didIn state bytes room .state)) state
@@ -49,7 +49,7 @@ module _ (state bytes room : List ℕ) where
 -- ---- the image of the state that the bytes stand for; the state itself is only read
 
 -- of a state: 5 before an image was accepted, and 9 for a room that is too small
-pub record Taken (σ : Session) (room : List ℕ) (r : LibraryResult) (after : List ℕ) : Type 0 where
+pub record ImageDone (σ : Session) (room : List ℕ) (r : LibraryResult) (after : List ℕ) : Type 0 where
   pub answered : r .answer ≡ takeOutNumber σ room
   pub counted : r .count ≡ pick (eqb (takeOutNumber σ room) 0) (sizeFor (σ .gauge)) 0
   pub written : after ≡ takeOutRoom σ room

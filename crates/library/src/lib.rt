@@ -1,7 +1,7 @@
 // The gauge for programs in C: include/trovimbe.h declares these functions. Each slice is a pointer and a length there.
 use runs::Session;
 ghost use mathlib.Core.Path.{_≡_};
-ghost use Rattle.library.specs.Library.{Started, Recorded, Taken, ImageTaken};
+ghost use Rattle.library.specs.Library.{Started, RecordDone, ImageDone, ImageTaken};
 
 // What a call says: its answer, and how many bytes stand at the front of the room that was lent for them.
 #[repr(C)]
@@ -35,7 +35,7 @@ pub extern "C" fn trovimbe_start(state: &mut [u8]) -> u8
 // The record at the front of some bytes, run in the state that the caller keeps; 54 where there are too few for its header.
 #[no_mangle]
 pub extern "C" fn trovimbe_record(state: &mut [u8], bytes: &[u8], reply: &mut [u8]) -> LibraryResult
-    ensures { λ r. ⌜ Recorded (now (state .entry)) (now (bytes .entry)) (now (reply .entry)) r (now (state .exit)) (now (reply .exit)) ⌝ }
+    ensures { λ r. ⌜ RecordDone (now (state .entry)) (now (bytes .entry)) (now (reply .entry)) r (now (state .exit)) (now (reply .exit)) ⌝ }
 {
     if bytes.len() < 4 {
         return refused(54);
@@ -49,7 +49,7 @@ pub extern "C" fn trovimbe_record(state: &mut [u8], bytes: &[u8], reply: &mut [u
 
 // The image of a state.
 fn taken(session: Session, image: &mut [u8]) -> LibraryResult
-    ensures { λ r. ⌜ Taken session (now (image .entry)) r (now (image .exit)) ⌝ }
+    ensures { λ r. ⌜ ImageDone session (now (image .entry)) r (now (image .exit)) ⌝ }
 {
     let answer = session_run::take_out(session, image);
     if answer == 0 {

@@ -3,8 +3,12 @@ use borrow.Author.Needs.{needs}
 use Rattle.library.proofs.trovimbe_record.Statement.{statement}
 use Rattle.library.proofs.trovimbe_record.Tie as tie
 
+-- places: `a→b` leads from the record of the place a back to that of the place b
+abbrev end→reply : tie.After-choose8 → tie.After-reply
+end→reply c = c .before .before .before
+
 abbrev end→stepped : tie.After-choose8 → tie.After-state-step
-end→stepped c = c .before .before .before .before .before .before
+end→stepped c = end→reply c .before .before .before
 
 abbrev stepped→else : tie.After-state-step → tie.Else1
 stepped→else c = c .before .before .before
