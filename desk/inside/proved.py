@@ -1,27 +1,133 @@
 """The proved programs, as the desk starts them: by way of `./trovimbe`, which proves what is not proved yet."""
+import collections
 import os
+import select
 import subprocess
 import sys
+import tempfile
+from types import TracebackType
+from typing import Optional, Type
 
 from .slips import Unfit
 
 TOP = os.path.dirname(os.path.dirname(os.path.dirname(os.path.abspath(__file__))))
 COMMAND = os.path.join(TOP, "trovimbe")
+READ = 65536  # bytes at once
+
+
+def watched() -> bool:
+    """Whether somebody sits at a terminal, who is shown how far the proof is where a program has to be proved first."""
+    return sys.stderr is not None and sys.stderr.isatty()
+
+
+def unstarted(fault: OSError) -> Unfit:
+    return Unfit(f"{COMMAND} cannot be started: {fault.strerror}; it belongs beside the folder desk")
+
+
+def refused(name: str, status: int, said: bytes) -> Unfit:
+    return Unfit(said.decode(errors="replace").strip() or f"{name} ended with status {status}; what it says stands above")
 
 
 def output(name: str, given: bytes, *words: str) -> bytes:
-    """What a proved program writes on standard output; what it says on standard error, where it refuses, is the reason of the Unfit. A terminal is
-    shown how far the proof is where the program has to be proved first."""
-    watched = sys.stderr is not None and sys.stderr.isatty()
+    """What a proved program writes on standard output; what it says on standard error, where it refuses, is the reason of the Unfit."""
     try:
-        ended = subprocess.run([COMMAND, name, *words], input=given, stdout=subprocess.PIPE, stderr=None if watched else subprocess.PIPE, check=False)
+        ended = subprocess.run([COMMAND, name, *words], input=given, stdout=subprocess.PIPE, stderr=None if watched() else subprocess.PIPE, check=False)
     except OSError as fault:
-        raise Unfit(f"{COMMAND} cannot be started: {fault.strerror}; it belongs beside the folder desk") from fault
+        raise unstarted(fault) from fault
     if ended.returncode != 0:
-        raise Unfit((ended.stderr or b"").decode(errors="replace").strip() or f"{name} ended with status {ended.returncode}; what it says stands above")
+        raise refused(name, ended.returncode, ended.stderr or b"")
     return ended.stdout
 
 
 def checksum(message: bytes) -> int:
     """The 1-Wire CRC, by the program `checksum`."""
     return int(output("checksum", bytes([len(message)]) + message), 16)
+
+
+class Kept:
+    """A proved program that is kept open, as `live`: it answers each record with a line as soon as it has come. The pipes to and from it hold little, so
+    what it writes is taken while it is sent more: neither waits for the other for ever, however much is sent at once."""
+
+    def __init__(self, name: str, *words: str) -> None:
+        self.name = name
+        self.said = tempfile.TemporaryFile()
+        try:
+            self.process = subprocess.Popen([COMMAND, name, *words], stdin=subprocess.PIPE, stdout=subprocess.PIPE, stderr=None if watched() else self.said)
+        except OSError as fault:
+            self.said.close()
+            raise unstarted(fault) from fault
+        self.into, self.out = (pipe.fileno() for pipe in (self.process.stdin, self.process.stdout) if pipe)
+        os.set_blocking(self.into, False)
+        self.lines: "collections.deque[bytes]" = collections.deque()
+        self.part = b""  # of a line
+        self.headed = False
+
+    def __enter__(self) -> "Kept":
+        return self
+
+    def __exit__(self, kind: Optional[Type[BaseException]], fault: Optional[BaseException], trace: Optional[TracebackType]) -> None:
+        self.close()
+
+    def asked(self, sent: "list[bytes]") -> "list[bytes]":
+        """The lines that whole records are answered, one for each."""
+        left = memoryview(b"".join(sent))
+        while left or len(self.lines) < len(sent) + (not self.headed):
+            left = left[self.passed(left):]
+        return [self.line() for _ in sent]
+
+    def ended(self, rest: bytes = b"") -> "list[bytes]":
+        """Sends what is cut, ends the input, and gives the lines that come then."""
+        left = memoryview(rest)
+        while left:
+            left = left[self.passed(left):]
+        if self.process.stdin:
+            self.process.stdin.close()
+        while self.came():
+            pass
+        if self.process.wait() != 0:
+            raise self.failed()
+        return [self.line() for _ in range(len(self.lines) - (not self.headed))]
+
+    def close(self) -> None:
+        """Lets go of the program, whether it has ended or not: it ends where its input does, or where nobody reads it."""
+        for pipe in (self.process.stdin, self.process.stdout):
+            if pipe:
+                pipe.close()
+        self.process.wait()
+        self.said.close()
+
+    def line(self) -> bytes:
+        """The next line of those that came; the first of all is the header."""
+        if not self.headed:
+            self.lines.popleft()
+            self.headed = True
+        return self.lines.popleft()
+
+    def passed(self, left: memoryview) -> int:
+        """Waits until the program takes something or writes something; how many bytes it took."""
+        wanted = select.poll()
+        wanted.register(self.out, select.POLLIN)
+        if left:
+            wanted.register(self.into, select.POLLOUT)
+        ready = {at for at, _ in wanted.poll()}
+        if self.out in ready and not self.came():
+            raise self.failed()
+        try:
+            return os.write(self.into, left[:READ]) if self.into in ready else 0
+        except BlockingIOError:
+            return 0
+        except BrokenPipeError:
+            raise self.failed() from None
+
+    def came(self) -> bool:
+        """Takes what the program has written; False where it has ended."""
+        data = os.read(self.out, READ)
+        *whole, self.part = (self.part + data).split(b"\n")
+        self.lines.extend(whole)
+        return bool(data)
+
+    def failed(self) -> Unfit:
+        """Why the program ended before its input did."""
+        status = self.process.wait()
+        self.said.seek(0)
+        return refused(self.name, status, self.said.read())
