@@ -2,6 +2,7 @@
 import collections
 import os
 import select
+import signal
 import subprocess
 import sys
 import tempfile
@@ -46,13 +47,15 @@ def checksum(message: bytes) -> int:
 
 class Kept:
     """A proved program that is kept open, as `live`: it answers each record with a line as soon as it has come. The pipes to and from it hold little, so
-    what it writes is taken while it is sent more: neither waits for the other for ever, however much is sent at once."""
+    what it writes is taken while it is sent more: neither waits for the other for ever, however much is sent at once. It is in a process group of its
+    own, so that Ctrl-C at a terminal, which is meant for whoever keeps it, does not end it before it has written what it has to."""
 
     def __init__(self, name: str, *words: str) -> None:
         self.name = name
         self.said = tempfile.TemporaryFile()
         try:
-            self.process = subprocess.Popen([COMMAND, name, *words], stdin=subprocess.PIPE, stdout=subprocess.PIPE, stderr=None if watched() else self.said)
+            self.process = subprocess.Popen([COMMAND, name, *words], stdin=subprocess.PIPE, stdout=subprocess.PIPE, stderr=None if watched() else self.said,
+                                            start_new_session=True)
         except OSError as fault:
             self.said.close()
             raise unstarted(fault) from fault
@@ -66,58 +69,60 @@ class Kept:
         return self
 
     def __exit__(self, kind: Optional[Type[BaseException]], fault: Optional[BaseException], trace: Optional[TracebackType]) -> None:
-        self.close()
+        self.stop()
+
+    def ask(self, record: bytes) -> bytes:
+        """The line that a whole record is answered."""
+        return self.asked([record])[0]
 
     def asked(self, sent: "list[bytes]") -> "list[bytes]":
         """The lines that whole records are answered, one for each."""
-        left = memoryview(b"".join(sent))
-        while left or len(self.lines) < len(sent) + (not self.headed):
-            left = left[self.passed(left):]
+        self.pass_on(b"".join(sent), len(sent))
         return [self.line() for _ in sent]
 
-    def ended(self, rest: bytes = b"") -> "list[bytes]":
-        """Sends what is cut, ends the input, and gives the lines that come then."""
-        left = memoryview(rest)
-        while left:
-            left = left[self.passed(left):]
+    def end(self, rest: bytes = b"") -> "list[bytes]":
+        """Sends what is cut and ends the input: the program does what it does then, and what it prints of that comes back."""
+        self.pass_on(rest, 0)
         if self.process.stdin:
             self.process.stdin.close()
         while self.came():
             pass
         if self.process.wait() != 0:
-            raise self.failed()
+            raise self.fault()
         return [self.line() for _ in range(len(self.lines) - (not self.headed))]
 
-    def close(self) -> None:
-        """Lets go of the program, whether it has ended or not: it ends where its input does, or where nobody reads it."""
+    def stop(self) -> None:
+        """Lets go of the program; where it has not ended, it is ended wherever it is."""
+        if self.process.poll() is None:
+            os.killpg(self.process.pid, signal.SIGTERM)
         for pipe in (self.process.stdin, self.process.stdout):
             if pipe:
                 pipe.close()
         self.process.wait()
         self.said.close()
 
-    def line(self) -> bytes:
-        """The next line of those that came; the first of all is the header."""
-        if not self.headed:
-            self.lines.popleft()
-            self.headed = True
-        return self.lines.popleft()
+    def pass_on(self, sent: bytes, lines: int) -> None:
+        """Sends bytes, and waits for so many lines."""
+        left = memoryview(sent)
+        while left or len(self.lines) < lines + (lines > 0 and not self.headed):
+            wanted = select.poll()
+            wanted.register(self.out, select.POLLIN)
+            if left:
+                wanted.register(self.into, select.POLLOUT)
+            ready = {at for at, _ in wanted.poll()}
+            if self.out in ready and not self.came():
+                raise self.fault()
+            if self.into in ready:
+                left = left[self.took(left):]
 
-    def passed(self, left: memoryview) -> int:
-        """Waits until the program takes something or writes something; how many bytes it took."""
-        wanted = select.poll()
-        wanted.register(self.out, select.POLLIN)
-        if left:
-            wanted.register(self.into, select.POLLOUT)
-        ready = {at for at, _ in wanted.poll()}
-        if self.out in ready and not self.came():
-            raise self.failed()
+    def took(self, left: memoryview) -> int:
+        """How many of these bytes the program's input takes now."""
         try:
-            return os.write(self.into, left[:READ]) if self.into in ready else 0
+            return os.write(self.into, left[:READ])
         except BlockingIOError:
             return 0
         except BrokenPipeError:
-            raise self.failed() from None
+            raise self.fault() from None
 
     def came(self) -> bool:
         """Takes what the program has written; False where it has ended."""
@@ -126,8 +131,15 @@ class Kept:
         self.lines.extend(whole)
         return bool(data)
 
-    def failed(self) -> Unfit:
-        """Why the program ended before its input did."""
+    def line(self) -> bytes:
+        """The next line of those that came; the first of all is the header."""
+        if not self.headed:
+            self.lines.popleft()
+            self.headed = True
+        return self.lines.popleft()
+
+    def fault(self) -> Unfit:
+        """Why there is no line: what the program said, once it is over."""
         status = self.process.wait()
         self.said.seek(0)
         return refused(self.name, status, self.said.read())
