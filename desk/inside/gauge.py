@@ -1,15 +1,13 @@
-"""A proved gauge, asked what it shows behind each record: the programs `session` and `tray`. A look is a read of a pack's whole map, which changes
-nothing; a run has looks behind some of its records, as many as fit, and the next run goes on with those behind them."""
+"""A proved gauge, asked what it shows behind each record: the programs `live` and `live_tray`, which are kept open. A look is a read of a pack's whole map,
+which changes nothing."""
 import itertools
 from dataclasses import dataclass, field
 from typing import Iterator, NamedTuple
 
 from . import image, proved, records
+from .feed import NO_ROOM, Feed, Step
 from .records import Cut, Piece, Record
-from .slips import Unfit
 
-BYTES, REPLIES = 32768, 65536  # that a session may have, and that its replies may
-MAP = 256
 AT_FIRST = 64  # records that are looked at to see whether they are of a tray
 
 
@@ -20,7 +18,7 @@ class Answer(NamedTuple):
 
 
 class Told(NamedTuple):
-    """A record, its answer, and the map of each pack then, by its slot; none before an image was accepted."""
+    """A record, its answer, and the map of each pack then, by its slot; none before an image was accepted, and none behind a record that is cut."""
     piece: Piece
     answer: Answer
     maps: "dict[int, bytes]"
@@ -35,8 +33,8 @@ class Line:
     closed: bool = False
 
     def looks(self) -> "list[Record]":
-        """The reads of all packs' maps."""
-        return [records.whole_map(address if self.tray else b"") for address in self.addresses]
+        """The reads of all packs' maps. In a plain session one is refused before an image was accepted, which does no harm."""
+        return [records.whole_map(address) for address in self.addresses] if self.tray else [records.whole_map()]
 
     def joined(self, piece: Piece, answer: Answer) -> None:
         if not isinstance(piece, Record) or answer.number != 0:
@@ -47,15 +45,31 @@ class Line:
         else:
             self.closed = True
 
-    def again(self) -> "Line":
-        return Line(self.tray, list(self.addresses), list(self.kinds), self.closed)
+
+def answer_of(line: bytes) -> Answer:
+    """A line that a proved program prints of a record."""
+    number, reply = line.split()[2:4]
+    return Answer(int(number), b"" if reply == b"-" else bytes.fromhex(reply.decode()))
 
 
-def answers(name: str, sent: "list[Piece]") -> "list[Answer]":
-    """What a proved program answers to each of these records."""
-    lines = proved.output(name, b"".join(piece.encoded() for piece in sent)).splitlines()[1:]
-    fields = [line.split() for line in lines]
-    return [Answer(int(field[2]), b"" if field[3] == b"-" else bytes.fromhex(field[3].decode())) for field in fields]
+class Again:
+    """Records that were looked at, once more, and those behind them."""
+
+    def __init__(self, seen: "list[Piece]", rest: Iterator[Piece]) -> None:
+        self.seen, self.rest = iter(seen), rest
+        self.left = len(seen)
+
+    def __iter__(self) -> "Again":
+        return self
+
+    def __next__(self) -> Piece:
+        if self.left:
+            self.left -= 1
+            return next(self.seen)
+        return next(self.rest)
+
+    def waits(self) -> bool:
+        return not self.left and records.waits(self.rest)
 
 
 def sorted_out(pieces: Iterator[Piece]) -> "tuple[bool, Iterator[Piece]]":
@@ -69,57 +83,74 @@ def sorted_out(pieces: Iterator[Piece]) -> "tuple[bool, Iterator[Piece]]":
             break
     else:
         tray = len({piece.payload[:8] for piece in seen if isinstance(piece, Record) and piece.kind in image.SIZE}) > 1
-    return tray, itertools.chain(seen, pieces)
+    return tray, Again(seen, pieces)
 
 
-@dataclass
-class Window:
-    """Records of a session, and looks behind those from some place on, as far as bytes and replies suffice."""
-    name: str
-    pieces: "list[Piece]"
-    plain: "list[Answer]"
-    line: Line
-    first: int
+def looked(program: proved.Kept, line: Line) -> "dict[int, bytes]":
+    """What all packs show now."""
+    found = (answer_of(told) for told in program.asked([look.encoded() for look in line.looks()]))
+    return {slot: answer.reply for slot, answer in enumerate(found) if answer.number == 0}
 
-    def sent(self) -> "tuple[list[Piece], list[int]]":
-        """What is sent, and how many looks stand behind each record of the window."""
-        sent: "list[Piece]" = list(self.pieces[:self.first])
-        room = REPLIES - sum(len(answer.reply) for answer in self.plain[:self.first])
-        size = sum(len(piece.encoded()) for piece in sent)
-        counts = []
-        for piece, answer in zip(self.pieces[self.first:], self.plain[self.first:]):
-            packs = self.line.again()
-            packs.joined(piece, answer)
-            looks = [] if isinstance(piece, Cut) else packs.looks()
-            size += len(piece.encoded()) + sum(len(look.encoded()) for look in looks)
-            room -= len(answer.reply) + MAP * len(looks)
-            if size > BYTES or room < 0:
-                break
-            self.line = packs
-            sent += [piece, *looks]
-            counts.append(len(looks))
-            if packs.tray and not packs.closed and looks:
-                break  # what comes next may be an image still
-        return sent, counts
+
+def opening(feed: Feed, line: Line, program: proved.Kept) -> Iterator[Told]:
+    """The records up to the one that closes a tray. A look would close it, and images could still come: so the packs are looked at in a second tray that
+    gets the same images. A refused record changes nothing, so behind it they show what they showed."""
+    images: "list[bytes]" = []
+    maps: "dict[int, bytes]" = {}
+    while not line.closed:
+        for piece, _ in feed.batch(1):
+            if isinstance(piece, Cut):
+                yield from cut(piece, line, program)
+                return
+            answer = answer_of(program.ask(piece.encoded()))
+            feed.replied(answer.reply)
+            line.joined(piece, answer)
+            if line.closed:
+                maps = looked(program, line)
+            elif answer.number == 0:
+                images.append(piece.encoded())
+                with proved.Kept(program.name) as second:
+                    second.asked(images)
+                    maps = looked(second, line)
+            yield Told(piece, answer, maps)
+            break
+        else:
+            return
+
+
+def cut(piece: Cut, line: Line, program: proved.Kept) -> Iterator[Told]:
+    """What is cut at the end of the input, which the program knows once its input ends."""
+    yield from (Told(piece, answer_of(told), {}) for told in program.end(piece.rest))
+
+
+def run(steps: "list[Step]", line: Line, program: proved.Kept) -> Iterator[Told]:
+    """Records with looks behind each, all of them sent at once."""
+    looks = [look.encoded() for look in line.looks()]
+    whole = [step for step in steps if not isinstance(step.piece, Cut)]
+    found = iter(program.asked([part for step in whole for part in ([step.piece.encoded()] if step.sent else []) + looks]))
+    for step in whole:
+        answer = answer_of(next(found)) if step.sent else Answer(NO_ROOM, b"")
+        line.joined(step.piece, answer)
+        seen = [answer_of(next(found)) for _ in looks]
+        yield Told(step.piece, answer, {slot: look.reply for slot, look in enumerate(seen) if look.number == 0})
+    for step in steps[len(whole):]:
+        if isinstance(step.piece, Cut):
+            yield from cut(step.piece, line, program)
 
 
 def told(pieces: Iterator[Piece], line: Line) -> Iterator[Told]:
-    """Each record of a session with its answer and what the packs show then; `line` has the packs that were accepted by then."""
-    name = "tray" if line.tray else "session"
-    whole = list(itertools.islice(pieces, BYTES))
-    if sum(len(piece.encoded()) for piece in whole) > BYTES:
-        raise Unfit(f"this is over {BYTES:,} bytes, which is all that a session may have; explain it in parts")
-    plain = answers(name, whole)
-    at = 0
-    while at < len(whole):
-        window = Window(name, whole, plain, line.again(), at)
-        sent, counts = window.sent()
-        if not counts:
-            raise Unfit(f"behind record {at + 1} no room is left to look at the packs: this session has nearly {BYTES:,} bytes, or as many replies as fit; "
-                        "explain a shorter part of it")
-        found = iter(answers(name, sent)[at:])
-        for count in counts:
-            answer = next(found)
-            line.joined(whole[at], answer)
-            yield Told(whole[at], answer, {slot: next(found).reply for slot in range(count)})
-            at += 1
+    """Each record with its answer and what the packs show then; `line` has the packs that were accepted by then. Records that have come are sent in
+    batches, and each is told before more has to be waited for; so any number of them takes the same memory. The answers are those of `session` or
+    `tray` where the records are one of these, of at most 32,768 bytes, and those of `live` or `live_tray` where they are more."""
+    feed = Feed(pieces, "tray" if line.tray else "session")
+    with proved.Kept("live_tray" if line.tray else "live") as program:
+        if line.tray:
+            yield from opening(feed, line, program)
+        while True:
+            steps = feed.batch()
+            if not steps:
+                break
+            for record in run(steps, line, program):
+                feed.replied(record.answer.reply)
+                yield record
+        program.end()

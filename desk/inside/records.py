@@ -1,5 +1,5 @@
 """Records as bytes: how they are made, and how they are read off a stream, cut ones too."""
-from typing import BinaryIO, Iterator, NamedTuple, Union
+from typing import BinaryIO, Callable, Iterator, NamedTuple, TypeVar, Union
 
 from .slips import Unfit
 
@@ -11,6 +11,9 @@ MOST = {TRANSACTION: 64, LONG: 256}  # bytes read, and bytes of the master
 HEAD = {TRANSACTION: 1, LONG: 2}     # bytes of the read count
 READ, WRITE, COPY, RECALL, LOCK = 0x69, 0x6C, 0x48, 0xB8, 0x6A
 SKIP, MATCH = 0xCC, 0x55
+HEADER = 4
+CHUNK = 65536  # bytes that are read at once
+Thing = TypeVar("Thing")
 
 
 class Record(NamedTuple):
@@ -33,32 +36,61 @@ class Cut(NamedTuple):
 Piece = Union[Record, Cut]
 
 
-def exactly(stream: BinaryIO, size: int) -> bytes:
-    """So many bytes of a stream, or fewer where it ends."""
-    parts = b""
-    while len(parts) < size:
+class Pieces:
+    """The records of a stream, one after the other as they come; what is cut at its end comes last. `before` is done before more is read, which may have
+    to be waited for."""
+
+    def __init__(self, stream: BinaryIO, before: Callable[[], None] = lambda: None) -> None:
+        self.more: "Callable[[int], bytes]" = getattr(stream, "read1", None) or stream.read
+        self.before = before
+        self.came = bytearray()
+        self.at = 0  # where the next record starts in what came
+        self.over = False
+
+    def __iter__(self) -> "Pieces":
+        return self
+
+    def __next__(self) -> Piece:
+        while self.waits():
+            self.read()
+        size = self.size()
+        if size == 0:
+            raise StopIteration
+        start, self.at = self.at, self.at + size
+        piece = bytes(self.came[start:self.at])
+        if len(piece) < size or size < HEADER:
+            self.at = len(self.came)
+            return Cut(piece)
+        return Record(int.from_bytes(piece[2:HEADER], "little"), piece[HEADER:])
+
+    def waits(self) -> bool:
+        """Whether what was read does not have the whole of the next record: more has to be read first."""
+        return not self.over and (len(self.came) - self.at < HEADER or len(self.came) - self.at < self.size())
+
+    def size(self) -> int:
+        """How many bytes the next record has, where its header is there; else those that are left."""
+        left = len(self.came) - self.at
+        return HEADER + self.came[self.at] + 256 * self.came[self.at + 1] if left >= HEADER else left
+
+    def read(self) -> None:
+        self.before()
         try:
-            more = stream.read(size - len(parts))
+            data = self.more(CHUNK)
         except OSError as fault:
             raise Unfit(f"the records cannot be read: {fault.strerror}; name a file, or hand one over by <") from fault
-        if not more:
-            break
-        parts += more
-    return parts
+        del self.came[:self.at]
+        self.at = 0
+        self.came += data
+        self.over = not data
 
 
-def pieces(stream: BinaryIO) -> Iterator[Piece]:
-    """The records of a stream, one after the other; what is cut at its end comes last."""
-    while True:
-        header = exactly(stream, 4)
-        if not header:
-            return
-        size = int.from_bytes(header[:2], "little") if len(header) == 4 else 0
-        payload = exactly(stream, size)
-        if len(header) < 4 or len(payload) < size:
-            yield Cut(header + payload)
-            return
-        yield Record(int.from_bytes(header[2:], "little"), payload)
+pieces = Pieces
+
+
+def waits(things: Iterator[Thing]) -> bool:
+    """Whether the next of these would have to be read first; of what is no stream, never."""
+    ask = getattr(things, "waits", None)
+    return ask is not None and bool(ask())
 
 
 def signed(number: int, size: int) -> bytes:
