@@ -12,13 +12,14 @@ _trovimbe() {
         mapfile -t COMPREPLY < <(compgen -W "${names[*]} --help --version" -- "$word")
     elif [[ $word == -* ]]; then
         local options=(--help)
-        while [[ $call =~ '['(--[a-z]+)']'(.*) ]]; do
+        while [[ $call =~ (--[a-z]+=?)(.*) ]]; do
             options+=("${BASH_REMATCH[1]}")
             call=${BASH_REMATCH[2]}
         done
         mapfile -t COMPREPLY < <(compgen -W "${options[*]}" -- "$word")
+        [[ ${COMPREPLY-} != *= ]] || compopt -o nospace 2>/dev/null # its value follows at once
     else
-        mapfile -t COMPREPLY < <(compgen -f -- "$word")
+        mapfile -t COMPREPLY < <(compgen -f -- "${word#=}")
     fi
 }
 complete -o filenames -F _trovimbe trovimbe ./trovimbe

@@ -59,10 +59,12 @@ usage() {
     echo "library (the gauge for programs in C)."
 }
 
+# The page of a program; the command is called there as it is called here.
 page() { # NAME
+    local text
     has_page "$1" || { about "$1"; echo "usage: $self $call"; return; }
-    printf 'usage: %s ' "$self"
-    cat "$top/docs/programs/$1.txt"
+    text=$(<"$top/docs/programs/$1.txt")
+    printf 'usage: %s %s\n' "$self" "${text//.\/trovimbe/"$self"}"
 }
 
 # Shows the manual where there is a terminal and a man to show it on, else the usage; and ends.
@@ -71,8 +73,45 @@ manual() {
     show "$(usage)"
 }
 
+# Leaves in `far` how many letters have to be changed, added, left away or swapped with the next one to make one word of another.
+distance() { # WORD WORD
+    local a=$1 b=$2 i j least wide=$((${#2} + 1)) rows=()
+    for ((j = 0; j <= ${#b}; j++)); do rows[j]=$j; done
+    for ((i = 1; i <= ${#a}; i++)); do
+        rows[i * wide]=$i
+        for ((j = 1; j <= ${#b}; j++)); do
+            least=$((rows[(i - 1) * wide + j - 1]))
+            if [ "${a:i-1:1}" != "${b:j-1:1}" ]; then
+                least=$((least < rows[(i - 1) * wide + j] ? least : rows[(i - 1) * wide + j]))
+                least=$(((least < rows[i * wide + j - 1] ? least : rows[i * wide + j - 1]) + 1))
+                if ((i > 1 && j > 1)) && [ "${a:i-1:1}${a:i-2:1}" = "${b:j-2:1}${b:j-1:1}" ]; then
+                    least=$((least < rows[(i - 2) * wide + j - 2] + 1 ? least : rows[(i - 2) * wide + j - 2] + 1))
+                fi
+            fi
+            rows[i * wide + j]=$least
+        done
+    done
+    far=${rows[${#a} * wide + ${#b}]}
+}
+
+# Leaves in `near` the name that is most like a word, or nothing.
+nearest() { # WORD
+    local known desk far least=3
+    near=''
+    [ ${#1} -gt 2 ] && [ ${#1} -le 20 ] || return
+    find_desk
+    for known in "${programs[@]}" "${desk[@]}" help version package; do
+        far=0
+        [[ $known == "$1"* ]] || distance "${1,,}" "$known"
+        if [ "$far" -lt "$least" ] && [ $((far * 2)) -lt ${#known} ]; then least=$far near=$known; fi
+    done
+}
+
 unknown() { # NAME
+    local near
     say "no program '$1'"
+    nearest "$1"
+    [ -z "$near" ] || say "did you mean $near?"
     usage >&2
     exit 2
 }

@@ -1,10 +1,11 @@
 """Records on their way to `live`, in batches: as many as have come, and no more than a batch has. And what `session` would refuse of them and `live` does
 not: of records that are a session still, those for whose replies its one room does not suffice."""
 import collections
+import itertools
 from typing import Iterator, NamedTuple, Optional
 
 from . import proved, records
-from .records import Piece, Record
+from .records import Cut, Piece, Record
 from .slips import Slip, Unfit
 
 BYTES, REPLIES = 32768, 65536  # that a session may have, and that its replies may
@@ -36,7 +37,7 @@ class Feed:
         self.ahead: "collections.deque[Piece]" = collections.deque()
         self.kept: "Optional[list[bytes]]" = []
         self.size = 0
-        self.over = False
+        self.over = self.cut = False
         self.fault: "Optional[Exception]" = None
         self.room = REPLIES
         self.answers: "Optional[list[int]]" = None  # of `session`, where they matter
@@ -65,6 +66,9 @@ class Feed:
         """Takes one more record in; False where there is none."""
         try:
             piece = None if self.over else next(self.pieces, None)
+            if isinstance(piece, Cut) and not self.cut:
+                self.cut, self.pieces = True, records.anew(itertools.chain([piece], self.pieces))
+                piece = next(self.pieces, None)
         except (Slip, Unfit) as fault:  # it is told behind what came before
             piece, self.fault, self.kept = None, fault, None
         self.over = piece is None

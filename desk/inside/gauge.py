@@ -86,6 +86,11 @@ def sorted_out(pieces: Iterator[Piece]) -> "tuple[bool, Iterator[Piece]]":
     return tray, Again(seen, pieces)
 
 
+def as_called(options: "set[str]", pieces: Iterator[Piece]) -> "tuple[bool, Iterator[Piece]]":
+    """The same where a call may say it, --tray or --plain: then nothing has to be looked at first."""
+    return ("--tray" in options, pieces) if options & {"--tray", "--plain"} else sorted_out(pieces)
+
+
 def looked(program: proved.Kept, line: Line) -> "dict[int, bytes]":
     """What all packs show now."""
     found = (answer_of(told) for told in program.asked([look.encoded() for look in line.looks()]))

@@ -414,7 +414,7 @@ class Writer:
         label = b""
         if "label" in settings:
             reader = Reader(settings["label"], {})
-            label = reader.bytes_left("a label of at most 16 bytes", 0, image.LABEL_SIZE)
+            label = reader.bytes_left('a label of at most 16 bytes, in quotes, as label "VAULT 3"', 0, image.LABEL_SIZE)
             reader.done()
         made[image.LABEL_AT:image.LABEL_AT + image.LABEL_SIZE] = label.ljust(image.LABEL_SIZE)
 

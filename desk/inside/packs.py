@@ -3,6 +3,8 @@ from dataclasses import dataclass, field
 
 from . import image, proved, records
 
+MOST = 64  # images that are looked at: eight have a slot, and who is refused more often than that has no pack to measure by
+
 
 @dataclass
 class Pack:
@@ -29,6 +31,8 @@ class Packs:
     slots: "list[int]" = field(default_factory=list)
 
     def add(self, record: records.Record) -> None:
+        if len(self.images) == MOST:
+            return
         self.images.append(record)
         self.packs.append(Pack(record.kind, record.payload[image.RSNSP_AT]))
         self.slots = []

@@ -1,5 +1,5 @@
 """Records as bytes: how they are made, and how they are read off a stream, cut ones too."""
-from typing import BinaryIO, Callable, Iterator, NamedTuple, TypeVar, Union
+from typing import BinaryIO, Callable, Iterable, Iterator, NamedTuple, TypeVar, Union
 
 from .slips import Unfit
 
@@ -37,12 +37,11 @@ Piece = Union[Record, Cut]
 
 
 class Pieces:
-    """The records of a stream, one after the other as they come; what is cut at its end comes last. `before` is done before more is read, which may have
-    to be waited for."""
+    """Records of bytes that come, one after the other; what is cut at their end comes last. `more` reads some, none at their end, and `before` is done
+    before that, which may have to wait."""
 
-    def __init__(self, stream: BinaryIO, before: Callable[[], None] = lambda: None) -> None:
-        self.more: "Callable[[int], bytes]" = getattr(stream, "read1", None) or stream.read
-        self.before = before
+    def __init__(self, more: "Callable[[int], bytes]", before: "Callable[[], None]" = lambda: None) -> None:
+        self.more, self.before = more, before
         self.came = bytearray()
         self.at = 0  # where the next record starts in what came
         self.over = False
@@ -84,7 +83,15 @@ class Pieces:
         self.over = not data
 
 
-pieces = Pieces
+def pieces(stream: BinaryIO, before: "Callable[[], None]" = lambda: None) -> Pieces:
+    """The records of a stream."""
+    return Pieces(getattr(stream, "read1", None) or stream.read, before)
+
+
+def anew(pieces: "Iterable[Piece]") -> Pieces:
+    """The bytes of these, read as records again: words can say bytes of no record anywhere, and what stands behind them is then read with them."""
+    parts = (piece.encoded() for piece in pieces)
+    return Pieces(lambda size: next(parts, b""))
 
 
 def waits(things: Iterator[Thing]) -> bool:

@@ -1,4 +1,5 @@
 """Records to words: what `write` makes the same bytes of."""
+import functools
 from dataclasses import dataclass, field
 from fractions import Fraction
 from typing import Iterator, Optional
@@ -54,13 +55,18 @@ class Speaker:
         for piece in pieces:
             yield self.say(piece)
 
+    def hear(self, piece: Piece) -> None:
+        """Takes in what later records are measured by: an image."""
+        if isinstance(piece, Record) and len(piece.payload) == image.SIZE.get(piece.kind, -1):
+            self.packs.add(piece)
+
     def say(self, piece: Piece, taken: bool = True) -> str:
         """A record as a statement; its lines below the first are indented. An image that is known to be refused is no pack to measure by."""
+        if taken:
+            self.hear(piece)
         if isinstance(piece, Cut):
             return listed("bytes", piece.rest)
         if len(piece.payload) == image.SIZE.get(piece.kind, -1):
-            if taken:
-                self.packs.add(piece)
             return self.pack(piece)
         return self.event(piece) or self.transaction(piece) or listed(f"record {piece.kind}", piece.payload)
 
@@ -146,6 +152,7 @@ def asked(count: int, master: bytes) -> str:
     return ""
 
 
+@functools.lru_cache(maxsize=1 << 12)
 def voltage(count: int, kind: int) -> str:
     amount = units.shortest(count, units.VOLTAGE[kind], 3) if 0 <= count < 4096 else None
     return f"{amount} V" if amount is not None else str(count)
@@ -155,6 +162,7 @@ def temperature(count: int) -> str:
     return f"{units.decimal(count * units.TEMPERATURE, 3)} C" if abs(count) < 4096 else str(count)
 
 
+@functools.lru_cache(maxsize=1 << 12)
 def current(count: int, rsnsp: int) -> str:
     return milli(count, units.CURRENT * rsnsp, "A") if abs(count) < PLAIN else str(count)
 

@@ -1,21 +1,24 @@
 """How a program of the desk starts and ends: its page, its words, its errors."""
+import codecs
 import io
 import os
 import sys
-from typing import BinaryIO, Callable, Iterable, Iterator, TextIO
+from typing import BinaryIO, Callable, Iterable, Iterator
 
 from . import proved
 from .lexer import Word
 from .slips import Place, Slip, Unfit
 
 OK, WRONG, MISUSED = 0, 1, 2
+CHUNK = 65536  # bytes that are read at once
+SELF = os.environ.get("TROVIMBE_SELF", "./trovimbe")  # how the command is called, as it says itself
 
 
 def page(name: str) -> str:
     """The page of a program, which the man page has too."""
     path = os.path.join(proved.TOP, "docs", "programs", name + ".txt")
     with open(path, encoding="utf-8") as file:
-        return file.read()
+        return file.read().replace("./trovimbe", SELF)
 
 
 def run(name: str, program: Callable[["list[str]"], int]) -> None:
@@ -25,7 +28,7 @@ def run(name: str, program: Callable[["list[str]"], int]) -> None:
         sys.exit(said(f"{name}: standard input or output is closed: hand over a file, or /dev/null", WRONG))
     try:
         if "--help" in words or "-h" in words:
-            sys.stdout.write("usage: ./trovimbe " + page(name))
+            sys.stdout.write(f"usage: {SELF} " + page(name))
             status = OK
         else:
             status = program(words)
@@ -54,7 +57,7 @@ def said(text: str, status: int) -> int:
 
 def misused(name: str, why: str) -> int:
     """A call with other words than the program takes."""
-    return said(f"{name}: {why}\nusage: ./trovimbe {page(name).splitlines()[0]}; `./trovimbe {name} --help` says more", MISUSED)
+    return said(f"{name}: {why}\nusage: {SELF} {page(name).splitlines()[0]}; `{SELF} {name} --help` says more", MISUSED)
 
 
 def split(words: "list[str]", takes: "tuple[str, ...]") -> "list[str]":
@@ -71,36 +74,59 @@ def named(words: "list[str]") -> str:
     return words[0] if words else "-"
 
 
+def shown() -> None:
+    """Lets go of what was written, before more input is waited for: whoever hands over one record after the other gets each answer at once."""
+    sys.stdout.flush()
+
+
 def lines(name: str) -> "tuple[str, Iterable[str]]":
     """The lines of a text file or of standard input, and how the file is called in errors."""
-    if name == "-":
-        return "standard input", readable(io.TextIOWrapper(sys.stdin.buffer, encoding="utf-8", errors="strict"), "standard input")
-    return name, opened_text(name)
+    return ("standard input", readable(sys.stdin.buffer, "standard input")) if name == "-" else (name, opened_text(name))
 
 
 def opened_text(name: str) -> Iterator[str]:
+    with binary(name) as file:
+        yield from readable(file, name)
+
+
+def readable(file: BinaryIO, name: str) -> Iterator[str]:
+    """The lines of a text, as they come."""
+    decoder = io.IncrementalNewlineDecoder(codecs.getincrementaldecoder("utf-8-sig")(), translate=True)
+    rest, data = "", b" "
+    while data:
+        shown()
+        data = some(file, name)
+        try:
+            *whole, rest = (rest + decoder.decode(data, final=not data)).split("\n")
+        except UnicodeDecodeError as fault:
+            raise Unfit(f"{name} is no text: it has bytes that are not UTF-8. `{SELF} words` turns a session of bytes into words") from fault
+        for line in whole:
+            yield line + "\n"
+    if rest:
+        yield rest
+
+
+def some(file: BinaryIO, name: str) -> bytes:
+    """Bytes that have come, of a file; none at its end."""
     try:
-        with open(name, encoding="utf-8") as file:
-            yield from readable(file, name)
+        return bytes((getattr(file, "read1", None) or file.read)(CHUNK))
     except OSError as fault:
-        raise Unfit(f"cannot read {name}: {fault.strerror}; see whether the name is right and the file may be read") from fault
+        raise unread(name, fault) from fault
 
 
-def readable(file: TextIO, name: str) -> Iterator[str]:
-    try:
-        yield from file
-    except UnicodeDecodeError as fault:
-        raise Unfit(f"{name} is no text: it has bytes that are not UTF-8. `./trovimbe words` turns a session of bytes into words") from fault
+def unread(name: str, fault: OSError) -> Unfit:
+    return Unfit(f"cannot read {name}: {fault.strerror}; see whether the name is right and the file may be read")
 
 
 def included(word: Word, path: str) -> Iterator[str]:
     """The lines of a file that a statement includes."""
     try:
-        with open(path, encoding="utf-8") as file:
-            yield from readable(file, path)
+        file = open(path, "rb")
     except OSError as fault:
         place: Place = word.place
         raise Slip(place, f"cannot read {path}: {fault.strerror}", "a file is looked for beside the one that includes it") from fault
+    with file:
+        yield from readable(file, path)
 
 
 def binary(name: str) -> BinaryIO:
@@ -110,4 +136,4 @@ def binary(name: str) -> BinaryIO:
     try:
         return open(name, "rb")
     except OSError as fault:
-        raise Unfit(f"cannot read {name}: {fault.strerror}; see whether the name is right and the file may be read") from fault
+        raise unread(name, fault) from fault

@@ -24,25 +24,28 @@ def split_unit(unit: str) -> Optional["tuple[Fraction, str]"]:
 
 def rounded(exact: Fraction) -> int:
     """The nearest whole number, halves away from 0."""
-    low = abs(exact) + Fraction(1, 2)
-    whole = low.numerator // low.denominator
-    return whole if exact >= 0 else -whole
+    whole = (2 * abs(exact.numerator) + exact.denominator) // (2 * exact.denominator)
+    return whole if exact.numerator >= 0 else -whole
+
+
+def scaled(exact: Fraction, places: int) -> "tuple[str, str, str]":
+    """A fraction as its sign, its whole part and so many decimals."""
+    number = (2 * abs(exact.numerator) * 10**places + exact.denominator) // (2 * exact.denominator)
+    digits = f"{number:0{places + 1}d}"
+    return "-" if exact.numerator < 0 < number else "", digits[:len(digits) - places], digits[len(digits) - places:]
 
 
 def decimal(exact: Fraction, places: int) -> str:
     """A fraction with at most so many decimals, without zeros at its end."""
-    scaled = rounded(exact * 10**places)
-    digits = f"{abs(scaled):0{places + 1}d}"
-    text = digits[:-places] + "." + digits[-places:] if places else digits
-    text = text.rstrip("0").rstrip(".") if places else text
-    return ("-" if scaled < 0 else "") + text
+    sign, whole, part = scaled(exact, places)
+    part = part.rstrip("0")
+    return sign + whole + ("." + part if part else "")
 
 
 def fixed(exact: Fraction, places: int) -> str:
     """A fraction with just so many decimals."""
-    scaled = rounded(exact * 10**places)
-    digits = f"{abs(scaled):0{places + 1}d}"
-    return ("-" if scaled < 0 else "") + (digits[:-places] + "." + digits[-places:] if places else digits)
+    sign, whole, part = scaled(exact, places)
+    return sign + whole + ("." + part if part else "")
 
 
 def shortest(count: int, weight: Fraction, most: int = 6) -> Optional[str]:

@@ -1,10 +1,11 @@
 """A record as a person reads it: what it says, what it was answered, what the pack shows then, and what changed."""
-from typing import Iterator, NamedTuple
+from typing import Iterator, NamedTuple, Union
 
 from . import gauge, records, registers
 from .gauge import Line, Told
 from .meanings import meaning
 from .records import Piece, Record
+from .registers import Said
 from .speak import Speaker
 
 
@@ -15,6 +16,10 @@ class Seen(NamedTuple):
     label: str
     data: bytes
     kind: int
+
+    def numbers(self) -> "dict[str, Union[int, float]]":
+        """The same as numbers, with units in their names."""
+        return {value.key(): registers.plain(value.number) for value in registers.shown(self.data, self.kind)}
 
 
 class Explained(NamedTuple):
@@ -28,6 +33,7 @@ class Explained(NamedTuple):
     seen: "dict[int, Seen]"
     changed: "dict[int, list[str]]"
     told: Told
+    registers: "dict[str, Said]"
 
 
 def seen(data: bytes, kind: int) -> Seen:
@@ -41,11 +47,13 @@ def changes(before: Seen, after: Seen) -> "list[str]":
     told += [f"{flag} set" for flag in after.flags if flag not in before.flags]
     told += [f"{flag} cleared" for flag in before.flags if flag not in after.flags]
     told += [f'label "{after.label}"'] if before.label != after.label else []
+    if told and before.data[registers.PARAMETERS:] == after.data[registers.PARAMETERS:]:
+        return told
     by = registers.Units(after.data[registers.RSNSP], after.kind)
     for register in registers.REGISTERS:
         old, new = (data[register.at:register.at + register.size] for data in (before.data, after.data))
         if old != new and (register.at >= registers.PARAMETERS or not told):
-            told.append(f"{register.name} {register.said(new, by)} (was {register.said(old, by)})")
+            told.append(f"{register.name} {register.said(new, by).text} (was {register.said(old, by).text})")
     return told
 
 
@@ -68,17 +76,26 @@ def answering(piece: Piece, line: Line) -> int:
     return 0 if len(line.addresses) == 1 else -1
 
 
-def explained(pieces: Iterator[Piece], tray: bool) -> Iterator[Explained]:
-    """Each record of a session, explained."""
+def explained(pieces: Iterator[Piece], tray: bool, every: int = 1) -> Iterator[Explained]:
+    """Records, explained: each, or each so-manieth and each that is refused. What changed is told since the one that was told before."""
     line, speaker = Line(tray), Speaker()
     last: "dict[int, Seen]" = {}
     for number, told in enumerate(gauge.told(pieces, line), 1):
-        piece = told.piece
-        said = speaker.say(piece, told.answer.number == 0)
+        taken = told.answer.number == 0
+        if number % every and taken:
+            speaker.hear(told.piece)
+            continue
         now = {slot: seen(data, line.kinds[slot]) for slot, data in told.maps.items()}
         changed = {slot: changes(last[slot], pack) for slot, pack in now.items() if slot in last and last[slot] != pack}
-        at = read_from(piece)
-        slot = answering(piece, line)
-        spelt = registers.spelt(at, told.answer.reply, registers.Units(told.maps[slot][registers.RSNSP], line.kinds[slot])) if at >= 0 and slot in now else []
-        yield Explained(number, said, told.answer.number, meaning(piece, told.answer.number, tray), told.answer.reply, spelt, now, changed, told)
+        read = read_by(told, line)
+        yield Explained(number, speaker.say(told.piece, taken), told.answer.number, meaning(told.piece, told.answer.number, tray), told.answer.reply,
+                        [f"{name} {said.text}" for name, said in read.items()], now, changed, told, read)
         last = now
+
+
+def read_by(told: Told, line: Line) -> "dict[str, Said]":
+    """The registers that a reply tells, by name, where one pack gave it."""
+    at, slot = read_from(told.piece), answering(told.piece, line)
+    if at < 0 or slot not in told.maps:
+        return {}
+    return registers.read(at, told.answer.reply, registers.Units(told.maps[slot][registers.RSNSP], line.kinds[slot]))
