@@ -196,7 +196,7 @@ MEASURES = (
 CYCLES = Measure("cycles", "", 0, 0x1E, 1, lambda by: 1)
 
 
-@functools.lru_cache(maxsize=1 << 14)
+@functools.lru_cache(maxsize=1 << 11)
 def measured(of: Measure, part: bytes, by: Units) -> Shown:
     """A value of its bytes. Most of them are those of the record before."""
     count = int.from_bytes(part, "big", signed=of.signed) >> of.shift

@@ -152,7 +152,7 @@ def asked(count: int, master: bytes) -> str:
     return ""
 
 
-@functools.lru_cache(maxsize=1 << 12)
+@functools.lru_cache(maxsize=1 << 10)
 def voltage(count: int, kind: int) -> str:
     amount = units.shortest(count, units.VOLTAGE[kind], 3) if 0 <= count < 4096 else None
     return f"{amount} V" if amount is not None else str(count)
@@ -162,7 +162,7 @@ def temperature(count: int) -> str:
     return f"{units.decimal(count * units.TEMPERATURE, 3)} C" if abs(count) < 4096 else str(count)
 
 
-@functools.lru_cache(maxsize=1 << 12)
+@functools.lru_cache(maxsize=1 << 10)
 def current(count: int, rsnsp: int) -> str:
     return milli(count, units.CURRENT * rsnsp, "A") if abs(count) < PLAIN else str(count)
 
