@@ -23,7 +23,6 @@ EVENTS = ("reading", "conversion", "sample", "power-on")
 COMMANDS = {"copy": records.COPY, "recall": records.RECALL, "lock": records.LOCK}
 MOST_TICKS = 64  # that a sample covers
 MOST_REPEATED = 1 << 20  # records of one statement
-MOST_WORDS = 100000  # of one statement, names spelt out
 
 
 class Reader:
@@ -35,8 +34,8 @@ class Reader:
         for word in words:
             known = names.get(word.word) if word.text is None else None
             self.words += [w._replace(place=word.place) for w in known] if known else [word]
-            if len(self.words) > MOST_WORDS:
-                raise Slip(word.place, f"with its names spelt out this statement has over {MOST_WORDS:,} words", "let a name stand for less")
+            if len(self.words) > lexer.MOST_WORDS:
+                raise Slip(word.place, f"with its names spelt out this statement has over {lexer.MOST_WORDS:,} words", "let a name stand for less")
         self.at = 0
         last = words[-1]
         self.end = last.place._replace(column=last.place.column + len(last.word))

@@ -8,6 +8,7 @@ from .slips import Place, Slip
 PIECES = re.compile(r'\s*(?:(?P<comment>#.*)|(?P<text>"(?:[^"\\]|\\.)*")|(?P<open>")|(?P<sign>=)|(?P<word>[^\s"=#]+))')
 ESCAPES = {'"': 0x22, "\\": 0x5C, "n": 0x0A, "t": 0x09}
 MOST_INCLUDED = 16  # files within files
+MOST_WORDS = 100000  # of one statement
 
 
 class Word(NamedTuple):
@@ -69,6 +70,8 @@ def statements(file: str, lines: Iterable[str]) -> Iterator["list[Word]"]:
             yield gathered
             gathered = []
         gathered += words
+        if len(gathered) > MOST_WORDS:
+            raise Slip(words[0].place, f"the statement has over {MOST_WORDS:,} words by here", "say it in parts: a line that is not indented begins a new one")
     if gathered:
         yield gathered
 

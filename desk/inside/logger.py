@@ -96,15 +96,18 @@ class Logger:
             column = found.get(measure)
             return cells[column.at].strip() if column and column.at < len(cells) else ""
 
+        def here(measure: str) -> Place:
+            return place._replace(column=1 + sum(len(before) + 1 for before in cells[:found[measure].at]))
+
         if not cell("time") or not cell("current"):
             raise Slip(place, "this row has no time, or no current", f"expected a value under {found['time'].name} and under {found['current'].name}")
-        volt, temp = (self.counts(self.amount(cell(measure), found[measure], place, base) / weight, place) if cell(measure) else None
+        volt, temp = (self.counts(self.amount(cell(measure), found[measure], here(measure), base) / weight, here(measure)) if cell(measure) else None
                       for measure, base, weight in (("voltage", "V", units.VOLTAGE[self.pack.kind]), ("temperature", "C", units.TEMPERATURE)))
         if not self.pack.rsnsp:
             raise Slip(place, "the pack states no sense resistor, so no current can be turned into counts", "give the pack one, as rsns 20 mOhm")
-        raw = self.amount(cell("current"), found["current"], place, "A") / (units.CURRENT * self.pack.rsnsp)
-        self.counts(raw, place)
-        return Row(place, self.tick(cell("time"), found["time"], place), raw, volt, temp)
+        raw = self.amount(cell("current"), found["current"], here("current"), "A") / (units.CURRENT * self.pack.rsnsp)
+        self.counts(raw, here("current"))
+        return Row(here("time"), self.tick(cell("time"), found["time"], here("time")), raw, volt, temp)
 
     @staticmethod
     def amount(cell: str, column: Column, place: Place, base: str) -> Fraction:

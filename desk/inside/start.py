@@ -7,10 +7,11 @@ from typing import BinaryIO, Callable, Iterable, Iterator
 
 from . import proved
 from .lexer import Word
-from .slips import Place, Slip, Unfit
+from .slips import Place, Slip, Unfit, nearest, plain
 
 OK, WRONG, MISUSED = 0, 1, 2
 CHUNK = 65536  # bytes that are read at once
+MOST_LETTERS = 1 << 20  # of a line
 SELF = os.environ.get("TROVIMBE_SELF", "./trovimbe")  # how the command is called, as it says itself
 
 
@@ -60,6 +61,14 @@ def misused(name: str, why: str) -> int:
     return said(f"{name}: {why}\nusage: {SELF} {page(name).splitlines()[0]}; `{SELF} {name} --help` says more", MISUSED)
 
 
+def mistaken(words: "Iterable[str]", known: "Iterable[str]") -> str:
+    """What is to be said of the first of these words that is no option, or nothing."""
+    known = list(known)
+    odd = next((word for word in words if word.startswith("--") and word not in known), "")
+    like = nearest(odd.partition("=")[0], known) if odd else ""
+    return odd and f"it does not take {plain(odd)}" + (f": {like}" if like else "")
+
+
 def split(words: "list[str]", takes: "tuple[str, ...]") -> "list[str]":
     """The same words, where an option that takes a word, `--every=8`, is written as two."""
     found = []
@@ -100,6 +109,8 @@ def readable(file: BinaryIO, name: str) -> Iterator[str]:
             *whole, rest = (rest + decoder.decode(data, final=not data)).split("\n")
         except UnicodeDecodeError as fault:
             raise Unfit(f"{name} is no text: it has bytes that are not UTF-8. `{SELF} words` turns a session of bytes into words") from fault
+        if len(rest) > MOST_LETTERS:
+            raise Unfit(f"{name} has a line of over {MOST_LETTERS:,} letters: see whether it is a text")
         for line in whole:
             yield line + "\n"
     if rest:
