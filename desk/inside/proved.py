@@ -26,7 +26,7 @@ def unstarted(fault: OSError) -> Unfit:
 
 
 def refused(name: str, status: int, said: bytes) -> Unfit:
-    return Unfit(said.decode(errors="replace").strip() or f"{name} ended with status {status}; what it says stands above")
+    return Unfit(said.decode(errors="replace").strip() or f"{name} ended with status {status}" + ("; what it says stands above" if watched() else ""))
 
 
 def output(name: str, given: bytes, *words: str) -> bytes:

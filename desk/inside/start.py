@@ -39,15 +39,21 @@ def run(name: str, program: Callable[["list[str]"], int]) -> None:
     except Unfit as fault:
         status = said(str(fault), WRONG)
     except BrokenPipeError:  # whoever reads has gone away: end quietly, as other programs do
-        os.dup2(os.open(os.devnull, os.O_WRONLY), sys.stdout.fileno())
+        forget()
         status = OK
     except KeyboardInterrupt:
         status = 130
     except OSError as fault:
+        forget()
         status = said(f"cannot write: {fault.strerror}", WRONG)
     except (MemoryError, RecursionError):
         status = said(f"{name}: this takes more memory than there is: try a shorter part of it", WRONG)
     sys.exit(status)
+
+
+def forget() -> None:
+    """Lets what could not be written go nowhere, or Python would try it again at its end."""
+    os.dup2(os.open(os.devnull, os.O_WRONLY), sys.stdout.fileno())
 
 
 def said(text: str, status: int) -> int:
