@@ -5,6 +5,7 @@ from dataclasses import dataclass, field
 from typing import Iterator, NamedTuple
 
 from . import image, proved, records
+from .feed import BYTES as BYTES  # for those who ask the programs themselves
 from .feed import NO_ROOM, Feed, Step
 from .records import Cut, Piece, Record
 

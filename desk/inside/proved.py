@@ -25,8 +25,8 @@ def unstarted(fault: OSError) -> Unfit:
     return Unfit(f"{COMMAND} cannot be started: {fault.strerror}; it belongs beside the folder desk")
 
 
-def refused(name: str, status: int, said: bytes) -> Unfit:
-    return Unfit(said.decode(errors="replace").strip() or f"{name} ended with status {status}" + ("; what it says stands above" if watched() else ""))
+def refused(name: str, status: int, said: bytes) -> str:
+    return said.decode(errors="replace").strip() or f"{name} ended with status {status}" + ("; what it says stands above" if watched() else "")
 
 
 def output(name: str, given: bytes, *words: str) -> bytes:
@@ -36,13 +36,17 @@ def output(name: str, given: bytes, *words: str) -> bytes:
     except OSError as fault:
         raise unstarted(fault) from fault
     if ended.returncode != 0:
-        raise refused(name, ended.returncode, ended.stderr or b"")
+        raise Unfit(refused(name, ended.returncode, ended.stderr or b""))
     return ended.stdout
 
 
 def checksum(message: bytes) -> int:
     """The 1-Wire CRC, by the program `checksum`."""
     return int(output("checksum", bytes([len(message)]) + message), 16)
+
+
+class Gone(Unfit):
+    """A program that was kept open has ended where it should not have."""
 
 
 class Kept:
@@ -138,8 +142,8 @@ class Kept:
             self.headed = True
         return self.lines.popleft()
 
-    def fault(self) -> Unfit:
+    def fault(self) -> Gone:
         """Why there is no line: what the program said, once it is over."""
         status = self.process.wait()
         self.said.seek(0)
-        return refused(self.name, status, self.said.read())
+        return Gone(refused(self.name, status, self.said.read()))

@@ -68,14 +68,29 @@ class Units(NamedTuple):
     rsnsp: int
     kind: int
 
-    def current(self, count: int) -> Said:
-        return amount(units.fixed(count * units.CURRENT * self.rsnsp * 1000, 2), "mA") if self.rsnsp else amount(str(count), "counts")
+    def current(self, count: int) -> str:
+        return flow(count, self).text
 
-    def charge(self, count: Fraction) -> Said:
-        return amount(units.fixed(count * units.CHARGE * self.rsnsp * 1000, 1), "mAh") if self.rsnsp else amount(units.decimal(count, 3), "counts")
+    def charge(self, count: Fraction) -> str:
+        return stored(count, self).text
 
-    def voltage(self, count: int) -> Said:
-        return amount(units.fixed(count * units.VOLTAGE[self.kind], 2), "V")
+    def voltage(self, count: int) -> str:
+        return level(count, self).text
+
+
+def flow(count: int, by: Units) -> Said:
+    """A current."""
+    return amount(units.fixed(count * units.CURRENT * by.rsnsp * 1000, 2), "mA") if by.rsnsp else amount(str(count), "counts")
+
+
+def stored(count: Fraction, by: Units) -> Said:
+    """A charge."""
+    return amount(units.fixed(count * units.CHARGE * by.rsnsp * 1000, 1), "mAh") if by.rsnsp else amount(units.decimal(count, 3), "counts")
+
+
+def level(count: int, by: Units) -> Said:
+    """A voltage."""
+    return amount(units.fixed(count * units.VOLTAGE[by.kind], 2), "V")
 
 
 def unsigned(part: bytes) -> int:
@@ -86,7 +101,7 @@ def signed(part: bytes) -> int:
     return int.from_bytes(part, "big", signed=True)
 
 
-def among(names: "dict[int, str]", byte: int, none: str = "no flag") -> Said:
+def flagged(names: "dict[int, str]", byte: int, none: str = "no flag") -> Said:
     found = [name for bit, name in names.items() if byte & bit]
     return Said(" ".join(found) or none, found)
 
@@ -100,9 +115,12 @@ def point(count: int) -> Said:
     return amount(units.fixed(Fraction(100 * count, 16384), 2), "%")
 
 
-def printable(part: bytes) -> Said:
-    text = "".join(chr(byte) if 32 <= byte <= 126 else f"\\x{byte:02X}" for byte in part).rstrip()
-    return Said(f'"{text}"', text)
+def printable(part: bytes) -> str:
+    return '"' + "".join(chr(byte) if 32 <= byte <= 126 else f"\\x{byte:02X}" for byte in part).rstrip() + '"'
+
+
+def quoted(part: bytes) -> Said:
+    return Said(printable(part), printable(part)[1:-1])
 
 
 def row(part: bytes) -> Said:
@@ -118,34 +136,34 @@ def share(number: int, whole: int) -> Said:
 
 
 REGISTERS = (
-    Register(0x01, 1, "STATUS", lambda part, by: among(FLAGS, part[0])),
+    Register(0x01, 1, "STATUS", lambda part, by: flagged(FLAGS, part[0])),
     Register(0x02, 2, "RAAC", lambda part, by: capacity(part)),
     Register(0x04, 2, "RSAC", lambda part, by: capacity(part)),
     Register(0x06, 1, "RARC", lambda part, by: amount(str(part[0]), "%")),
     Register(0x07, 1, "RSRC", lambda part, by: amount(str(part[0]), "%")),
-    Register(0x08, 2, "IAVG", lambda part, by: by.current(signed(part))),
+    Register(0x08, 2, "IAVG", lambda part, by: flow(signed(part), by)),
     Register(0x0A, 2, "TEMP", lambda part, by: amount(units.decimal((signed(part) >> 5) * units.TEMPERATURE, 3), "C")),
-    Register(0x0C, 2, "VOLT", lambda part, by: by.voltage(unsigned(part) >> 5)),
-    Register(0x0E, 2, "CURRENT", lambda part, by: by.current(signed(part))),
-    Register(0x10, 2, "ACR", lambda part, by: by.charge(Fraction(unsigned(part)))),
+    Register(0x0C, 2, "VOLT", lambda part, by: level(unsigned(part) >> 5, by)),
+    Register(0x0E, 2, "CURRENT", lambda part, by: flow(signed(part), by)),
+    Register(0x10, 2, "ACR", lambda part, by: stored(Fraction(unsigned(part)), by)),
     Register(0x12, 2, "ACRL", lambda part, by: share(unsigned(part) >> 4, 4096)),
     Register(0x14, 1, "AS", lambda part, by: share(part[0], 128)),
     Register(0x16, 2, "FULL", lambda part, by: point(unsigned(part))),
     Register(0x18, 2, "AE", lambda part, by: point(unsigned(part))),
     Register(0x1A, 2, "SE", lambda part, by: point(unsigned(part))),
     Register(0x1E, 1, "cycles", lambda part, by: bare(part[0]) if by.kind == 8 else Said("none", None)),
-    Register(0x1F, 1, "EEPROM", lambda part, by: among(LOCKS, part[0])),
-    Register(0x20, 16, "label", lambda part, by: printable(part)),
-    Register(0x60, 1, "CONTROL", lambda part, by: among(CONTROL, part[0])),
+    Register(0x1F, 1, "EEPROM", lambda part, by: flagged(LOCKS, part[0])),
+    Register(0x20, 16, "label", lambda part, by: quoted(part)),
+    Register(0x60, 1, "CONTROL", lambda part, by: flagged(CONTROL, part[0])),
     Register(0x61, 1, "AB", lambda part, by: bare(signed(part))),
-    Register(0x62, 2, "AC", lambda part, by: by.charge(Fraction(unsigned(part)))),
-    Register(0x64, 1, "VCHG", lambda part, by: by.voltage(4 * part[0])),
-    Register(0x65, 1, "IMIN", lambda part, by: by.current(32 * part[0])),
-    Register(0x66, 1, "VAE", lambda part, by: by.voltage(4 * part[0])),
-    Register(0x67, 1, "IAE", lambda part, by: by.current(128 * part[0])),
+    Register(0x62, 2, "AC", lambda part, by: stored(Fraction(unsigned(part)), by)),
+    Register(0x64, 1, "VCHG", lambda part, by: level(4 * part[0], by)),
+    Register(0x65, 1, "IMIN", lambda part, by: flow(32 * part[0], by)),
+    Register(0x66, 1, "VAE", lambda part, by: level(4 * part[0], by)),
+    Register(0x67, 1, "IAE", lambda part, by: flow(128 * part[0], by)),
     Register(0x68, 1, "AE40", lambda part, by: point(16 * part[0])),
     Register(0x69, 1, "RSNSP", lambda part, by: amount(str(part[0]), "1/Ohm")),
-    Register(0x6A, 2, "Full40", lambda part, by: by.charge(Fraction(unsigned(part)))),
+    Register(0x6A, 2, "Full40", lambda part, by: stored(Fraction(unsigned(part)), by)),
     Register(0x6C, 4, "Full slopes", lambda part, by: row(part)),
     Register(0x70, 4, "AE slopes", lambda part, by: row(part)),
     Register(0x74, 4, "SE slopes", lambda part, by: row(part)),
@@ -156,6 +174,15 @@ REGISTERS = (
     Register(0x7D, 1, "TBP23", lambda part, by: amount(str(signed(part)), "C")),
     Register(0x7E, 1, "TBP12", lambda part, by: amount(str(signed(part)), "C")),
 )
+
+
+def number(data: bytes, at: int, size: int, signed: bool = False) -> int:
+    return int.from_bytes(data[at:at + size], "big", signed=signed)
+
+
+def count(data: bytes) -> Fraction:
+    """ACR with its fraction."""
+    return Fraction(number(data, 0x10, 4) >> 4, 4096)
 
 
 def flags(data: bytes) -> "list[str]":
@@ -199,10 +226,10 @@ CYCLES = Measure("cycles", "", 0, 0x1E, 1, lambda by: 1)
 @functools.lru_cache(maxsize=1 << 11)
 def measured(of: Measure, part: bytes, by: Units) -> Shown:
     """A value of its bytes. Most of them are those of the record before."""
-    count = int.from_bytes(part, "big", signed=of.signed) >> of.shift
+    counts = number(part, 0, of.size, of.signed) >> of.shift
     if of.bare >= 0 and not by.rsnsp:
-        return Shown(of.name, "counts", of.bare, Fraction(count, 4096) if of.name == "charge" else count)
-    return Shown(of.name, of.unit, of.places, count * of.weight(by))
+        return Shown(of.name, "counts", of.bare, Fraction(counts, 4096) if of.name == "charge" else counts)
+    return Shown(of.name, of.unit, of.places, counts * of.weight(by))
 
 
 def shown(data: bytes, kind: int) -> "list[Shown]":
