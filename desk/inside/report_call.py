@@ -76,15 +76,13 @@ def told(name: str, call: Call, most: int) -> Story:
 def paged(story: Story) -> str:
     """The page of a story, of as many rows and with texts as long as leave it under a million bytes."""
     whole = story.kept
-    for longest in LONGEST:
-        made = report_page.page(story, longest)
-        if len(made.encode()) < report_page.MOST_BYTES:
-            return made
-    for most in MOST[1:]:
+    for most in MOST:
         story.kept = report_story.fewer(whole, most, story.counts)
-        made = report_page.page(story, LONGEST[-1])
-        if len(made.encode()) < report_page.MOST_BYTES:
-            break
+        around = report_page.Around(story)
+        for longest in LONGEST:
+            made = around.page(longest)
+            if len(made.encode()) < report_page.MOST_BYTES:
+                return made
     return made
 
 

@@ -47,8 +47,8 @@ def charge(pack: Seen) -> str:
     return registers.Units(pack.data[registers.RSNSP], pack.kind).charge(registers.count(pack.data))
 
 
-def marks(told: Explained, before: Optional[Seen], now: Optional[Seen]) -> "list[Mark]":
-    """The marks of a record for one pack, which showed `before` and shows `now`; for no pack where there is none."""
+def marks(told: Explained, address: bytes, before: Optional[Seen], now: Optional[Seen]) -> "list[Mark]":
+    """The marks of a record for the pack with this address, which showed `before` and shows `now`; for no pack where there is none."""
     if told.answer:
         return [Mark("refused", f"refused with {told.answer}: {told.meaning}")]
     kind = plain_kind(told.told.piece)
@@ -59,7 +59,8 @@ def marks(told: Explained, before: Optional[Seen], now: Optional[Seen]) -> "list
     if before is None or now is None:
         return []
     asked = command(told.told.piece)
-    return [*found(kind, before, now), *learnt(before, now), *(of_command(asked, before, now) if asked else []), *locked(before, now)]
+    of_bus = of_command(asked, before, now) if asked and asked.address in (b"", address) else []
+    return [*found(kind, before, now), *learnt(before, now), *of_bus, *locked(before, now)]
 
 
 def rose(before: Seen, now: Seen, flag: str) -> bool:

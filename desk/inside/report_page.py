@@ -4,7 +4,6 @@ import hashlib
 import html
 import json
 from fractions import Fraction
-from typing import Optional
 
 from . import records, registers, report_picture, report_script, report_style
 from .report_marks import KINDS
@@ -51,7 +50,8 @@ def card(pack: Pack, name: str) -> str:
         rows.append(("saved at the end", by.charge(Fraction(int.from_bytes(pack.cells[:2], "big"))) + f", AS {pack.cells[2]}/128"))
     told = "".join(f"<dt>{clean(term)}<dd>{clean(text)}" for term, text in rows)
     title = registers.printable(data[0x20:0x30]).strip('"') or "(no label)"
-    return f'<li class="card"><h3>{clean(name)}{clean(title)}</h3><dl>{told}</dl>'
+    level = 3 if name else 2  # cards of a tray have a heading above them
+    return f'<li class="card"><h{level}>{clean(name)}{clean(title)}</h{level}><dl>{told}</dl>'
 
 
 # ---- the summary
@@ -92,7 +92,7 @@ def summary(story: Story) -> str:
     """The picture in words."""
     kept = {moment.number for moment in story.kept}
     ticks = max((pack.clock.here.at for pack in story.packs), default=0)
-    time = f"over {ticks:,} ticks, {spoken_time(ticks)}" if story.timed() else "of which none states a time"
+    time = f"over {ticks:,} ticks, {spoken_time(ticks)}" if story.timed else "of which none states a time"
     items = [f"<li>{story.records:,} record{'s' * (story.records != 1)} {time}, of {len(story.packs)} pack{'s' * (len(story.packs) != 1)}."]
     for slot, pack in enumerate(story.packs):
         flow, charge = units_of(pack)
@@ -147,7 +147,7 @@ class Rows:
         saved = "; ".join(mark.text for mark in moment.marks if mark.kind == "save")
         told += clean(("; " if told else "") + saved) if saved else ""
         under = f"<i>{back}{told}</i>" if back or told else ""
-        time = f"{story.place(moment):.5f}" if story.timed() else ""
+        time = f"{moment.at:.5f}" if story.timed else ""
         return f"<tr\nid={name}{extra}{self.more(moment)}><th>{number}<td>{time}<td>{self.shortened(moment.words)}{under}{self.cells(moment)}"
 
     def cells(self, moment: Moment) -> str:
@@ -179,9 +179,9 @@ def table(story: Story, longest: int) -> "tuple[str, bool]":
     rows = Rows(story, longest)
     told = "".join(rows.row(moment) for moment in story.kept)
     names = "|".join([*(name for name, _ in MORE), "flags"])
-    timed = " data-timed=1" if story.timed() else " class=by-number"
+    timed = " data-timed=1" if story.timed else " class=by-number"
     return (f'<table id=records{timed} data-more="{names}" data-units="{clean(in_script(unit))}"><caption class=quiet>A value stands where a record changed it; '
-            f"the moment above shows all of them.</caption><thead><tr><th scope=col>record<th scope=col>{'hours' if story.timed() else ''}"
+            f"the moment above shows all of them.</caption><thead><tr><th scope=col>record<th scope=col>{'hours' if story.timed else ''}"
             f"<th scope=col>what it says, and what came of it{heads}<tbody>{told}</table>", rows.cut)
 
 
@@ -191,7 +191,7 @@ def thumbnail(story: Story) -> str:
     """The small picture of an index: the charge of each pack, as paths in a frame of 300 by 70."""
     paths = []
     for slot in range(len(story.packs)):
-        points = [(story.place(moment), here) for moment in story.of(slot) for here in [report_picture.value(moment, "charge")] if here is not None]
+        points = [(moment.at, here) for moment in story.of(slot) for here in [report_picture.value(moment, "charge")] if here is not None]
         if points:
             low, high = min(y for _, y in points), max(y for _, y in points)
             span, end = max(high - low, 1e-9), story.end()
@@ -208,6 +208,13 @@ def about(story: Story) -> "dict[str, object]":
             "marks": {kind: count for kind, count in story.counts.items() if count}, "path": thumbnail(story)}
 
 
+MOMENT = ('<section class=moment hidden aria-label="A moment of the picture"><label for=moment>Moment: move it, or point at the picture; Enter leads to its row</label>'
+          '<input type=range id=moment min=0 max=0 value=0 step=1><div id=values class=values></div><button type=button id=tell>Show it in the table</button></section>')
+FOOT = ("<footer><p>Every number of a gauge comes from the proved programs of Trovimbe, by a read of the whole map behind each record, which changes nothing; this page, "
+        "its words and its picture are plain and not proved. A conversion is a tick, a sample as many as it says; records that take no time are spread over the tick "
+        "that comes next, in their order.</footer>")
+
+
 def thinned(story: Story) -> str:
     if len(story.kept) == story.rows:
         return ""
@@ -222,30 +229,37 @@ def head(title: str, style: str, script: str) -> str:
             f'<meta http-equiv=Content-Security-Policy content="{policy}"><title>{clean(title)}</title><style>{style}</style>\n')
 
 
-def page(story: Story, longest: Optional[int] = None) -> str:
-    """The whole page."""
-    style, script = report_style.style(), report_script.SCRIPT
-    rows, cut = table(story, longest or MOST_BYTES)
-    packs = "".join(card(pack, f"Slot {slot}: " if story.tray else "") for slot, pack in enumerate(story.packs))
-    cards = f'<ul class="cards{" one" if len(story.packs) == 1 else ""}">{packs}</ul>'
-    over = report_picture.overlaid(story, WIDE)
-    laid = (f"<h2>Stretch by stretch</h2><figure>{over}{report_picture.overlaid(story, NARROW)}<figcaption class=quiet>The charge from each power-on on, "
-            "all from the same start: lines that lie on each other drew the same current.</figcaption></figure>") if over else ""
-    kinds = [kind for kind in KIND_ORDER if any(moment.kind == kind for moment in story.kept)]
-    choice = "".join(f"<option value={kind}>{kind}" for kind in kinds)
-    remarks = "".join(f"<p>{clean(remark)}" for remark in story.remarks)
-    short = "<p>Long texts in the table are cut, which … shows; <code>./trovimbe explain</code> has them whole." if cut else ""
-    return (head(f"Report of {unprinted(story.name)}", style, script)
-            + f'<body><a class=skip href="#records">To the table</a><header><p class=quiet>Report of {clean(unprinted(story.name))}<h1>{clean(report_picture.headline(story))}</h1></header>'
+class Around:
+    """A page but for its table, which may take some tries until it is short enough."""
+
+    def __init__(self, story: Story) -> None:
+        self.story = story
+        self.style, self.script = report_style.style(), report_script.SCRIPT
+        packs = "".join(card(pack, f"Slot {slot}: " if story.tray else "") for slot, pack in enumerate(story.packs))
+        cards = f'<ul class="cards{" one" if len(story.packs) == 1 else ""}">{packs}</ul>'
+        over = report_picture.overlaid(story, WIDE)
+        laid = (f"<h2>Stretch by stretch</h2><figure>{over}{report_picture.overlaid(story, NARROW)}<figcaption class=quiet>The charge from each power-on on, "
+                "all from the same start: lines that lie on each other drew the same current.</figcaption></figure>") if over else ""
+        remarks = "".join(f"<p>{clean(remark)}" for remark in story.remarks)
+        name = unprinted(story.name)
+        self.before = (
+            head(f"Report of {name}", self.style, self.script)
+            + f'<body><a class=skip href="#records">To the table</a><header><p class=quiet>Report of {clean(name)}<h1>{clean(report_picture.headline(story))}</h1></header>'
             f'<main>{"" if story.tray else cards}{"" if story.packs else "<p>No image is accepted in it, so there is no pack to look at."}{thinned(story)}{remarks}'
             f'<h2 id=picture>Picture</h2><figure class=main aria-describedby=summary>{report_picture.drawn(story, WIDE, True)}{report_picture.drawn(story, NARROW, True)}</figure>'
-            '<section class=moment hidden aria-label="A moment of the picture"><label for=moment>Moment: move it, or point at the picture; Enter leads to its row</label>'
-            '<input type=range id=moment min=0 max=0 value=0 step=1><div id=values class=values></div><button type=button id=tell>Show it in the table</button></section>'
-            f'<h2>What it shows</h2><ul id=summary>{summary(story)}</ul>{laid}{"<h2>The packs</h2>" + cards if story.tray else ""}'
-            '<h2 id=table>Record by record</h2><div class=filter hidden role=search aria-label="Filter of the table"><label>Kind <select id=kind><option value="">all'
-            f'{choice}</select></label><label><input type=checkbox id=refused> refused alone</label><label><input type=checkbox id=marked> marked alone</label>'
-            f'<span id=count role=status></span></div>{short}{rows}</main>'
-            '<footer><p>Every number of a gauge comes from the proved programs of Trovimbe, by a read of the whole map behind each record, which changes nothing; this page, '
-            "its words and its picture are plain and not proved. A conversion is a tick, a sample as many as it says; records that take no time are spread over the tick "
-            "that comes next, in their order.</footer>"
-            f'<script type="application/json" id=card>{in_script(about(story))}</script><script>{script}</script>\n')
+            f'{MOMENT}<h2>What it shows</h2><ul id=summary>{summary(story)}</ul>{laid}{"<h2>The packs</h2>" + cards if story.tray else ""}'
+            f'<h2 id=table>Record by record</h2>{self.filter()}')
+        self.after = f'</main>{FOOT}<script type="application/json" id=card>{in_script(about(story))}</script><script>{self.script}</script>\n'
+
+    def filter(self) -> str:
+        kinds = [kind for kind in KIND_ORDER if any(moment.kind == kind for moment in self.story.kept)]
+        choice = "".join(f"<option value={kind}>{kind}" for kind in kinds)
+        return (f'<div class=filter hidden role=search aria-label="Filter of the table"><label>Kind <select id=kind><option value="">all{choice}</select></label>'
+                "<label><input type=checkbox id=refused> refused alone</label><label><input type=checkbox id=marked> marked alone</label>"
+                "<span id=count role=status></span></div>")
+
+    def page(self, longest: int) -> str:
+        """The whole page, in whose table no text is longer than this."""
+        rows, cut = table(self.story, longest)
+        short = "<p>Long texts in the table are cut, which … shows; <code>./trovimbe explain</code> has them whole." if cut else ""
+        return f"{self.before}{short}{rows}{self.after}"

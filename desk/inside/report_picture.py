@@ -12,7 +12,9 @@ Line = "list[tuple[float, float]]"
 GUIDED = ("full", "empty", "save", "power-on")  # kinds of marks that a line through all curves goes with
 LANE, CLOSE, MOST_DOTS = 20, 5.0, 150  # the height of a row of marks; marks of one kind that are nearer than this are one; readings up to which each has a dot
 
+MOST_GUIDES = 12  # marks of a kind up to which a line goes with each
 WIDE_LETTERS = "WMmw@%"
+PLACES = {name: at for at, name in enumerate(SERIES)}
 
 
 class Look(NamedTuple):
@@ -56,11 +58,11 @@ class Sheet:
     panels: "list[tuple[float, float]]" = field(default_factory=list)
 
     def __post_init__(self) -> None:
-        first = 0.0 if self.story.timed() else 1.0
-        self.across = Scale(first, max(self.story.end(), first + 1e-9 if self.story.timed() else 2.0), self.look.left, self.look.inner())
+        first = 0.0 if self.story.timed else 1.0
+        self.across = Scale(first, max(self.story.end(), first + 1e-9 if self.story.timed else 2.0), self.look.left, self.look.inner())
 
     def x(self, moment: Moment) -> float:
-        return self.across.at(self.story.place(moment))
+        return self.across.at(moment.at)
 
     def add(self, part: str) -> None:
         self.parts.append(part)
@@ -96,6 +98,8 @@ class Sheet:
         drawn = path(lines)
         if drawn:
             self.add(f'<path class="l {style}" d="{drawn}"/>')
+            if "tube" in style.split():
+                self.add(f'<path class="l core" d="{drawn}"/>')
 
     def labels(self, labels: "list[Label]", top: float, bottom: float) -> None:
         """Names of lines, moved apart where they would lie on each other."""
@@ -117,7 +121,7 @@ class Sheet:
 
 
 def value(moment: Moment, name: str) -> Optional[float]:
-    return moment.shows.numbers[SERIES.index(name)] if moment.shows else None
+    return moment.shows.numbers[PLACES[name]] if moment.shows else None
 
 
 def runs(sheet: Sheet, moments: "list[Moment]", name: str, scale: Scale, held: "Callable[[Moment], bool]") -> "list[list[tuple[float, float]]]":
@@ -157,7 +161,8 @@ def charge_panel(sheet: Sheet, moments: "list[Moment]", name: str, unit: str, he
     lines = {line: values(moments, line) for line in ("FULL", "AE", "SE")}
     charge = values(moments, "charge")
     there = report_scale.near(charge, lines)
-    low, high = report_scale.span([*charge, *(each for line in there for each in lines[line])], 0.01, 0.0)
+    flat = 0.02 * max(charge, default=1.0) if len(set(charge)) < 2 else 0.0
+    low, high = report_scale.span([*charge, *(each for line in there for each in lines[line])], flat or 0.01, 0.0)
     scale = sheet.panel(name, height, low, high, 4 if height > 100 else 3)
     top, bottom = sheet.panels[-1]
     labels = []
@@ -179,12 +184,12 @@ def charge_panel(sheet: Sheet, moments: "list[Moment]", name: str, unit: str, he
 
 
 def percent_panel(sheet: Sheet, moments: "list[Moment]", height: float) -> None:
-    """The two per cents. Where they lie on each other both are seen: one is wide, the other dashed upon it."""
+    """The two per cents. Where they lie on each other both are seen: one is hollow, and the other runs inside it."""
     both = values(moments, "active") + values(moments, "standby")
     low, high = report_scale.span(both, 4, 0, 100) if both else (0.0, 100.0)
     scale = sheet.panel("Left under load (active) and at rest (standby), %" if sheet.look.width > 600 else "Left: active, standby, %", height, low, high)
     top, bottom = sheet.panels[-1]
-    sheet.curve(runs(sheet, moments, "active", scale, lambda _: True), "active wide")
+    sheet.curve(runs(sheet, moments, "active", scale, lambda _: True), "active tube")
     sheet.curve(runs(sheet, moments, "standby", scale, lambda _: True), "standby")
     sheet.labels([Label(scale.at(last), f"{name} {last:.0f} %", name) for name in ("active", "standby") for last in [ended(moments, name)] if last is not None],
                  top, bottom)
@@ -218,7 +223,7 @@ def current_panel(sheet: Sheet, moments: "list[Moment]", unit: str, height: floa
     top, bottom = sheet.panels[-1]
     line: "list[tuple[float, float]]" = []
     for moment in driven:
-        began = sheet.across.at((moment.tick.at - moment.tick.took) / units.TICKS_AN_HOUR) if sheet.story.timed() else sheet.x(moment)
+        began = sheet.across.at((moment.tick.at - moment.tick.took) / units.TICKS_AN_HOUR) if sheet.story.timed else sheet.x(moment)
         y = scale.at(value(moment, "current") or 0.0)
         if line:
             line.append((began, line[-1][1]))
@@ -278,7 +283,7 @@ def mark(sheet: Sheet, group: "list[Moment]", kind: str, y: float) -> None:
     first, tray = group[0], sheet.story.tray
     x = sheet.x(first)
     text = "; ".join(each.text for each in first.marks if each.kind == kind)
-    hours = f", {sheet.story.place(first):.4f} h" if sheet.story.timed() else ""
+    hours = f", {first.at:.4f} h" if sheet.story.timed else ""
     said = f"{kind}, record {first.number}{hours}: {text}"
     if len(group) > 1:
         said = f"{kind}, {len(group)} times from record {first.number} to {group[-1].number}; the first: {text}"
@@ -302,8 +307,9 @@ def lanes(sheet: Sheet, moments: "list[Moment]") -> None:
         y = sheet.y + LANE / 2
         sheet.rule(sheet.look.left, y, sheet.look.inner(), y, "grid")
         sheet.text(sheet.look.left - 8, y + 4, kind, "small quiet", "end")
-        for group in grouped(sheet, moments, kind):
-            if kind in GUIDED:
+        groups = grouped(sheet, moments, kind)
+        for group in groups:
+            if kind in GUIDED and len(groups) <= MOST_GUIDES:
                 guide(sheet, sheet.x(group[0]), kind)
             mark(sheet, group, kind, y)
         sheet.y += LANE
@@ -334,15 +340,15 @@ def axis(sheet: Sheet) -> None:
     each = report_scale.step(scale.high - scale.low, sheet.look.hours)
     sheet.rule(sheet.look.left, sheet.y, sheet.look.inner(), sheet.y, "axis")
     for place in report_scale.ticks(scale.low, scale.high, sheet.look.hours):
-        if not story.timed() and place != int(place):
+        if not story.timed and place != int(place):
             continue
         x = scale.at(place)
         sheet.rule(x, sheet.y, x, sheet.y + 5, "axis")
-        sheet.text(x, sheet.y + 19, report_scale.written(place, each), "small quiet", "middle")
+        sheet.text(x, sheet.y + 19, report_scale.written(place, each if story.timed else 1.0), "small quiet", "middle")
     ticks = max((pack.clock.here.at for pack in story.packs), default=0)
-    said = f"hours; {ticks:,} ticks of 3600/1024 s, {spoken_time(ticks)} in all" if story.timed() else "records: none of them states a time"
+    said = f"hours; {ticks:,} ticks of 3600/1024 s, {spoken_time(ticks)} in all" if story.timed else "records: none of them states a time"
     if sheet.look.width < 600:
-        said = f"hours; {ticks:,} ticks, {spoken_time(ticks)}" if story.timed() else "records: none states a time"
+        said = f"hours; {ticks:,} ticks, {spoken_time(ticks)}" if story.timed else "records: none states a time"
     sheet.text(sheet.look.left, sheet.y + 38, said, "small quiet")
     sheet.y += 48
 
@@ -456,14 +462,14 @@ def alone(story: Story, described: str, dark: bool = True) -> str:
 def overlaid(story: Story, look: Look) -> str:
     """The charge of each stretch from one power-on to the next, all from the same start, on each other; nothing where there is only one."""
     stretches: "dict[int, list[Moment]]" = {}
-    for moment in story.of(0) if story.timed() and not story.tray else []:
+    for moment in story.of(0) if story.timed and not story.tray else []:
         stretches.setdefault(moment.stretch, []).append(moment)
     told = [moments for moments in stretches.values() if moments[-1].tick.at > moments[0].tick.at and len(values(moments, "charge")) > 1]
     if len(told) < 2:
         return ""
     sheet = Sheet(story, look, False)
-    began = [story.place(moments[0]) for moments in told]
-    longest = max(story.place(moments[-1]) - start for moments, start in zip(told, began))
+    began = [moments[0].at for moments in told]
+    longest = max(moments[-1].at - start for moments, start in zip(told, began))
     sheet.across = Scale(0.0, longest, look.left, look.inner())
     low, high = report_scale.span([each for moments in told for each in values(moments, "charge")], 0.01, 0.0)
     scale = sheet.panel(f"Charge since each power-on, {units_of(story.packs[0])[1]}", 150, low, high)
@@ -471,11 +477,14 @@ def overlaid(story: Story, look: Look) -> str:
     for at, (moments, start) in enumerate(zip(told, began)):
         line: "list[tuple[float, float]]" = []
         for moment in moments:
-            x, y = sheet.across.at(story.place(moment) - start), scale.at(value(moment, "charge") or 0.0)
+            x, y = sheet.across.at(moment.at - start), scale.at(value(moment, "charge") or 0.0)
             line += [(x, line[-1][1]), (x, y)] if line and moment.step > 0 else [(x, y)]
         style = at % len(report_colours.STRETCHES)
         dash = ("", ' stroke-dasharray="7 5"', ' stroke-dasharray="2 4"')[at % 3]
-        sheet.add(f'<path class="l s{style} {"wide" if at == 0 else ""}"{dash} d="{path([line])}"/>')
+        if at == 0:
+            sheet.curve([line], f"s{style} tube")
+        else:
+            sheet.add(f'<path class="l s{style}"{dash} d="{path([line])}"/>')
         if at < 8:
             labels.append(Label(line[-1][1], f"from record {moments[0].number}", f"s{style}"))
     sheet.labels(labels, *sheet.panels[-1])

@@ -1,5 +1,6 @@
 """A session as a story: its moments over time with what the packs show then, their marks, and what is told of the whole. Every number of a gauge comes
 from the proved programs, by way of view.explained."""
+import functools
 from dataclasses import dataclass, field
 from fractions import Fraction
 from typing import Iterable, Iterator, NamedTuple, Optional
@@ -15,6 +16,7 @@ SENSED = ("charge", "current", "FULL", "AE", "SE")  # what the sense resistor tu
 READ_OFF = ("active", "standby", "voltage", "temperature", "FULL", "AE", "SE")  # what a reading moves
 KIND_NAMES = {records.IMAGE: "pack", records.CAMERA: "pack", records.READING: "reading", records.CONVERSION: "conversion", records.SAMPLE: "sample",
               records.TRANSACTION: "transaction", records.LONG: "transaction", records.POWER_ON: "power-on"}
+TOLD_ELSEWHERE = tuple(f"{name} " for name in (*SERIES, "average"))  # changes that have a column, or that the picture and the moment looked at show
 NOBODY = -1  # the slot of a record that is of no pack, or of all
 AGAIN = "″"  # the words of a further row of the same record
 
@@ -72,6 +74,7 @@ class Moment:
     came: str
     shows: Optional[Shows]
     marks: "list[Mark]"
+    at: float = 0.0  # where it stands on the axis: hours, or the number of its record
 
     def time(self) -> float:
         """Its time in ticks. Records that take no time are spread over the tick that comes next, in their order."""
@@ -136,42 +139,44 @@ class Story:
     records: int = 0
     counts: "dict[str, int]" = field(default_factory=lambda: dict.fromkeys(KINDS, 0))
     remarks: "list[str]" = field(default_factory=list)
-
-    def timed(self) -> bool:
-        """Whether anything states a time: else the records themselves are the axis."""
-        return any(pack.clock.here.at for pack in self.packs)
-
-    def place(self, moment: Moment) -> float:
-        """Where a moment stands on the axis: hours, or the number of its record."""
-        return moment.time() / units.TICKS_AN_HOUR if self.timed() else float(moment.number)
+    timed: bool = False  # whether anything states a time: else the records themselves are the axis
 
     def end(self) -> float:
-        """The end of the axis: what the last tick has in it ends with the tick that would come next."""
-        return max([self.place(moment) for moment in self.kept], default=1.0) or 1.0
+        """The end of the axis."""
+        return max([moment.at for moment in self.kept], default=1.0) or 1.0
+
+    def settle(self) -> None:
+        """Once all has come: each moment gets its place, and no curve goes over from counts to units."""
+        self.timed = any(pack.clock.here.at for pack in self.packs)
+        for moment in self.kept:
+            moment.at = moment.time() / units.TICKS_AN_HOUR if self.timed else float(moment.number)
+            if moment.shows and moment.shows.counted != self.packs[moment.slot].counted:
+                numbers = tuple(None if name in SENSED else here for name, here in zip(SERIES, moment.shows.numbers))
+                moment.shows = moment.shows._replace(numbers=numbers)
 
     def of(self, slot: int) -> "list[Moment]":
         return [moment for moment in self.kept if moment.slot == slot]
 
 
-def shows(pack: Pack, seen: Seen) -> Shows:
-    """What a pack shows. FULL, AE and SE are shares of Full40; here they are charges, as the charge is."""
-    values = registers.shown(seen.data, seen.kind)
+@functools.lru_cache(maxsize=1024)
+def shows(data: bytes, kind: int, read: bool, driven: bool) -> Shows:
+    """What the map of a pack shows. FULL, AE and SE are shares of Full40; here they are charges, as the charge is."""
+    values = registers.shown(data, kind)
     found = {value.name: float(value.value) for value in values}
-    full40 = float(registers.number(seen.data, 0x6A, 2) * (units.CHARGE * seen.data[registers.RSNSP] * 1000 or 1))
-    found.update({name: registers.number(seen.data, at, 2) * full40 / 16384 for name, at in (("FULL", 0x16), ("AE", 0x18), ("SE", 0x1A))})
-    there = {name: pack.read if name in READ_OFF else pack.driven if name == "current" else True for name in SERIES}
+    full40 = float(registers.number(data, 0x6A, 2) * (units.CHARGE * data[registers.RSNSP] * 1000 or 1))
+    found.update({name: registers.number(data, at, 2) * full40 / 16384 for name, at in (("FULL", 0x16), ("AE", 0x18), ("SE", 0x1A))})
+    there = {name: read if name in READ_OFF else driven if name == "current" else True for name in SERIES}
     numbers = tuple(found[name] if there[name] else None for name in SERIES)
     texts = tuple(units.fixed(Fraction(value.value), value.places) + (" counts" if value.unit == "counts" else "") for value in values)
-    return Shows(texts, " ".join(seen.flags), numbers, not seen.data[registers.RSNSP])
+    return Shows(texts, " ".join(registers.flags(data)), numbers, not data[registers.RSNSP])
 
 
 def came_of(told: Explained, slot: int) -> str:
-    """What came of a record, in words: why it was refused, what a reply says, and what changed that has no column of its own."""
+    """What came of a record, in words: why it was refused, what a reply says, and what changed that is not told elsewhere."""
     if told.answer:
         return f"refused with {told.answer}: {told.meaning}"
     said = [", ".join(told.spelt)] if told.spelt else ["reply " + told.reply.hex(" ").upper()] if told.reply else []
-    return "; ".join([*said, *(change for change in told.changed.get(slot, []) if not change.startswith(("voltage ", "current ", "average ", "temperature ",
-                                                                                                    "charge ", "active ", "standby ")))])
+    return "; ".join([*said, *(change for change in told.changed.get(slot, []) if not change.startswith(TOLD_ELSEWHERE))])
 
 
 class Teller:
@@ -189,10 +194,7 @@ class Teller:
             self.record(told)
         self.ask()
         self.story.kept = self.keeper.moments()
-        for moment in self.story.kept:
-            if moment.shows and moment.shows.counted != self.story.packs[moment.slot].counted:  # no curve goes over from counts to units
-                numbers = tuple(None if name in SENSED else here for name, here in zip(SERIES, moment.shows.numbers))
-                moment.shows = moment.shows._replace(numbers=numbers)
+        self.story.settle()
         return self.story
 
     def slots(self, told: Explained) -> "list[int]":
@@ -233,7 +235,7 @@ class Teller:
             pack.note(piece, taken)
         kind = plain_kind(piece)
         moment = Moment(told.number, slot, tick, step, pack.stretch if pack else 0, KIND_NAMES.get(kind, "other"), words, told.answer,
-                        came_of(told, slot), shows(pack, now) if pack and now else None, marks(told, before, now))
+                        came_of(told, slot), shows(now.data, now.kind, pack.read, pack.driven) if pack and now else None, marks(told, pack.address if pack else b"", before, now))
         if pack and now and taken and report_saves.may_save(kind, read_before, before, now):
             asked = report_saves.Question(len(self.session), slot, pack.address, report_saves.shown(now))
             self.asked.append((asked, moment, pack))

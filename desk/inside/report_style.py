@@ -20,7 +20,7 @@ a{color:var(--link)}p{margin:.5em 0}.quiet,footer{color:var(--muted)}
 .skip{position:absolute;left:-999px}.skip:focus{position:static}
 .cards{display:flex;flex-wrap:wrap;gap:12px;list-style:none;padding:0;margin:1em 0}
 .card{flex:1 1 300px;background:var(--raised);border:1px solid var(--grid);border-radius:10px;padding:12px 16px;min-width:0;max-width:100%}
-.card h3{margin:0 0 .3em;font-size:1.05rem;white-space:pre-wrap}
+.card h2,.card h3{margin:0 0 .3em;font-size:1.05rem;white-space:pre-wrap}
 dl{display:grid;grid-template-columns:auto 1fr;gap:2px 14px;margin:0}dt{color:var(--muted)}dd{margin:0;min-width:0;font-variant-numeric:tabular-nums}
 @media (min-width:860px){.one dl{grid-template-columns:auto 1fr auto 1fr}}figure{margin:1em 0}svg{display:block;width:100%;height:auto}svg.n{display:none}
 .moment{position:sticky;bottom:0;z-index:1;background:var(--raised);border:1px solid var(--grid);border-radius:10px;padding:8px 16px;margin:8px 0}
