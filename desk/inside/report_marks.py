@@ -2,7 +2,7 @@
 asks. Whether and what was saved is asked of the proved programs, in report_saves."""
 from typing import NamedTuple, Optional
 
-from . import image, records, registers
+from . import image, records, report_amounts
 from .records import Piece, Record
 from .view import Explained, Seen
 
@@ -44,7 +44,7 @@ def command(piece: Piece) -> Optional[Command]:
 
 
 def charge(pack: Seen) -> str:
-    return registers.Units(pack.data[registers.RSNSP], pack.kind).charge(registers.count(pack.data))
+    return report_amounts.charge(pack.data)
 
 
 def marks(told: Explained, address: bytes, before: Optional[Seen], now: Optional[Seen]) -> "list[Mark]":
@@ -98,7 +98,7 @@ def of_command(asked: Command, before: Seen, now: Seen) -> "list[Mark]":
         return [Mark("copy", f"block {block} is copied to the EEPROM" if not shut else f"block {block} is locked, and nothing is copied")]
     over_label = asked.code == records.WRITE and asked.at < 0x30 and asked.at + len(asked.data) > 0x20
     if now.data[0x20:0x30] != before.data[0x20:0x30]:
-        return [Mark("label", f"the label is now {registers.printable(now.data[0x20:0x30])}")]
+        return [Mark("label", f'the label is now "{report_amounts.label(now.data)}"')]
     if over_label:
         return [Mark("label", "block 0 is locked, and the label stays" if before.data[0x1F] & LOCKED[0] else "the label is written as it was")]
     return []

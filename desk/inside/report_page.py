@@ -5,7 +5,7 @@ import html
 import json
 from fractions import Fraction
 
-from . import records, registers, report_picture, report_script, report_style
+from . import records, report_amounts, report_picture, report_script, report_style
 from .report_marks import KINDS
 from .report_picture import NARROW, WIDE, anchor, clean, row_of, spoken_time, units_of
 from .report_scale import exactly, path
@@ -38,18 +38,18 @@ def card(pack: Pack, name: str) -> str:
     """What a pack is, as it stands at the end."""
     if pack.seen is None:
         return ""
-    data, by = pack.seen.data, pack.by()
+    data, rsnsp = pack.seen.data, pack.rsnsp()
     flags = " ".join(flag for flag in pack.seen.flags if not flag.startswith("BL"))
-    ohm = f"{float(Fraction(1000, by.rsnsp)):.3g} mΩ" if by.rsnsp else "not stated: charges and currents are counts"
-    rows = [("address", pack.address.hex(" ").upper()), ("part", PARTS[pack.kind]), ("capacity", by.charge(Fraction(registers.number(data, 0x6A, 2))) + " (Full40)"),
+    ohm = f"{1000 / rsnsp:.3g} mΩ" if rsnsp else "not stated: charges and currents are counts"
+    rows = [("address", pack.address.hex(" ").upper()), ("part", PARTS[pack.kind]), ("capacity", report_amounts.spoken(Fraction(report_amounts.whole(data, 0x6A)), rsnsp) + " (Full40)"),
             ("age", f"AS {data[0x14]}/128, {100 * data[0x14] // 128} % of a new pack")]
     rows += [("cycles", str(data[0x1E]))] if pack.kind == records.CAMERA else []
-    rows += [("locks", locked(pack)), ("sense resistor", ohm), ("charge at the end", by.charge(registers.count(data))),
+    rows += [("locks", locked(pack)), ("sense resistor", ohm), ("charge at the end", report_amounts.charge(data)),
              ("left at the end", f"{data[0x06]} % under load, {data[0x07]} % at rest" if pack.read else "not known: no reading since the power-on"), ("flags at the end", flags or "none")]
     if pack.cells:
-        rows.append(("saved at the end", by.charge(Fraction(int.from_bytes(pack.cells[:2], "big"))) + f", AS {pack.cells[2]}/128"))
+        rows.append(("saved at the end", report_amounts.saved(pack.cells, rsnsp)))
     told = "".join(f"<dt>{clean(term)}<dd>{clean(text)}" for term, text in rows)
-    title = registers.printable(data[0x20:0x30]).strip('"') or "(no label)"
+    title = report_amounts.label(data).strip() or "(no label)"
     level = 3 if name else 2  # cards of a tray have a heading above them
     return f'<li class="card"><h{level}>{clean(name)}{clean(title)}</h{level}><dl>{told}</dl>'
 
@@ -92,7 +92,7 @@ def summary(story: Story) -> str:
     """The picture in words."""
     kept = {moment.number for moment in story.kept}
     ticks = max((pack.clock.here.at for pack in story.packs), default=0)
-    time = f"over {ticks:,} ticks, {spoken_time(ticks)}" if story.timed else "of which none states a time"
+    time = f"over {ticks:,} ticks, {spoken_time(ticks)}" if story.timed else "in which no time passes"
     items = [f"<li>{story.records:,} record{'s' * (story.records != 1)} {time}, of {len(story.packs)} pack{'s' * (len(story.packs) != 1)}."]
     for slot, pack in enumerate(story.packs):
         flow, charge = units_of(pack)
@@ -202,7 +202,7 @@ def thumbnail(story: Story) -> str:
 def about(story: Story) -> "dict[str, object]":
     """What an index says of a page; it stands in the page itself."""
     ticks = max((pack.clock.here.at for pack in story.packs), default=0)
-    packs = [{"label": pack.seen.label.strip() or "(no label)", "charge": pack.by().charge(registers.count(pack.seen.data)),
+    packs = [{"label": pack.seen.label.strip() or "(no label)", "charge": report_amounts.charge(pack.seen.data),
               "left": f"{pack.courses['active'].last.value:.0f} %" if "active" in pack.courses else "no reading"} for pack in story.packs if pack.seen]
     return {"name": unprinted(story.name), "records": story.records, "time": spoken_time(ticks), "packs": packs,
             "marks": {kind: count for kind, count in story.counts.items() if count}, "path": thumbnail(story)}
@@ -211,8 +211,8 @@ def about(story: Story) -> "dict[str, object]":
 MOMENT = ('<section class=moment hidden aria-label="A moment of the picture"><label for=moment>Moment: move it, or point at the picture; Enter leads to its row</label>'
           '<input type=range id=moment min=0 max=0 value=0 step=1><div id=values class=values></div><button type=button id=tell>Show it in the table</button></section>')
 FOOT = ("<footer><p>Every number of a gauge comes from the proved programs of Trovimbe, by a read of the whole map behind each record, which changes nothing; this page, "
-        "its words and its picture are plain and not proved. A conversion is a tick, a sample as many as it says; records that take no time are spread over the tick "
-        "that comes next, in their order.</footer>")
+        "its words and its picture are plain and not proved. A conversion is a tick, a sample as many as have passed since the one before; over a power-on the clock "
+        "stands still. Records that take no time are spread over the tick that comes next, in their order.</footer>")
 
 
 def thinned(story: Story) -> str:

@@ -153,7 +153,7 @@ def values(moments: "list[Moment]", name: str) -> "list[float]":
 
 
 def units_of(pack: Optional[Pack]) -> "tuple[str, str]":
-    return ("mA", "mAh") if pack is None or pack.by().rsnsp else ("counts", "counts")
+    return ("mA", "mAh") if pack is None or pack.rsnsp() else ("counts", "counts")
 
 
 def charge_panel(sheet: Sheet, moments: "list[Moment]", name: str, unit: str, height: float) -> None:
@@ -217,13 +217,13 @@ def measured_panel(sheet: Sheet, moments: "list[Moment]", name: str, title: str,
 
 def current_panel(sheet: Sheet, moments: "list[Moment]", unit: str, height: float) -> None:
     """The current: level over the time that a conversion or a sample stands for."""
-    driven = [moment for moment in moments if moment.step == 0 and value(moment, "current") is not None]
+    driven = [moment for moment in moments if moment.kind in ("conversion", "sample") and not moment.answer and value(moment, "current") is not None]
     low, high = report_scale.span([0.0, *values(driven, "current")], 1.0)
     scale = sheet.panel(f"Current, {unit} (above 0 it charges)", height, low, high, 3)
     top, bottom = sheet.panels[-1]
     line: "list[tuple[float, float]]" = []
     for moment in driven:
-        began = sheet.across.at((moment.tick.at - moment.tick.took) / units.TICKS_AN_HOUR) if sheet.story.timed else sheet.x(moment)
+        began = sheet.across.at((moment.tick.at - moment.tick.took) / units.TICKS_AN_HOUR) if sheet.story.timed and moment.step == 0 else sheet.x(moment)
         y = scale.at(value(moment, "current") or 0.0)
         if line:
             line.append((began, line[-1][1]))
@@ -346,9 +346,9 @@ def axis(sheet: Sheet) -> None:
         sheet.rule(x, sheet.y, x, sheet.y + 5, "axis")
         sheet.text(x, sheet.y + 19, report_scale.written(place, each if story.timed else 1.0), "small quiet", "middle")
     ticks = max((pack.clock.here.at for pack in story.packs), default=0)
-    said = f"hours; {ticks:,} ticks of 3600/1024 s, {spoken_time(ticks)} in all" if story.timed else "records: none of them states a time"
+    said = f"hours; {ticks:,} ticks of 3600/1024 s, {spoken_time(ticks)} in all" if story.timed else "records: no time passes in them"
     if sheet.look.width < 600:
-        said = f"hours; {ticks:,} ticks, {spoken_time(ticks)}" if story.timed else "records: none states a time"
+        said = f"hours; {ticks:,} ticks, {spoken_time(ticks)}" if story.timed else "records: no time passes"
     sheet.text(sheet.look.left, sheet.y + 38, said, "small quiet")
     sheet.y += 48
 

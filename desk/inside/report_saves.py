@@ -2,16 +2,15 @@
 that may have saved, the session up to it is run with a power-on and a read behind it. docs/FORMATS.md says which records may: readings at which
 RARC / 4 changes, and that are not the first since a power-on. The gauge shows both RARC; what was saved then, the proved program says."""
 from concurrent.futures import ThreadPoolExecutor
-from fractions import Fraction
 from typing import NamedTuple, Optional
 
-from . import proved, records, registers
-from .gauge import BYTES
+from . import proved, records
 from .records import READING, Record
 from .view import Seen
 
 MOST_ASKED = 100  # runs, each of which takes a tenth of a second: of more saves these are asked, evenly, and the others are told by RARC
 AT_ONCE = 4
+SESSION = 32768  # bytes that `session` and `tray` take; more goes to the programs that take any number
 
 
 class Question(NamedTuple):
@@ -38,7 +37,7 @@ def saved(session: bytes, asked: Question, tray: bool) -> bytes:
     chosen = bytes([records.MATCH]) + asked.address if tray else bytes([records.SKIP])
     look = records.transaction(records.TRANSACTION, 5, chosen + bytes([records.READ, 0x10]))
     given = session[:asked.size] + power_on.encoded() + look.encoded()
-    name = ("tray" if tray else "session") if len(given) <= BYTES else ("live_tray" if tray else "live")
+    name = ("tray" if tray else "session") if len(given) <= SESSION else ("live_tray" if tray else "live")
     reply = proved.output(name, given).splitlines()[-1].split()[3]
     cells = bytes.fromhex(reply.decode()) if reply != b"-" else b""
     return cells[:2] + cells[4:5]
@@ -53,8 +52,3 @@ def answers(session: bytes, questions: "list[Question]", tray: bool) -> "list[Op
         for at, cells in zip(places, runs.map(lambda at: saved(session, questions[at], tray), places)):
             found[at] = cells or None
     return found
-
-
-def spoken(cells: bytes, by: registers.Units) -> str:
-    """What is saved, in words."""
-    return f"charge {by.charge(Fraction(int.from_bytes(cells[:2], 'big')))}, AS {cells[2]}/128"

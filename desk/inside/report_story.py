@@ -5,7 +5,7 @@ from dataclasses import dataclass, field
 from fractions import Fraction
 from typing import Iterable, Iterator, NamedTuple, Optional
 
-from . import image, records, registers, report_saves, units, view
+from . import image, records, registers, report_amounts, report_saves, units, view
 from .records import Piece, Record
 from .report_marks import KINDS, Mark, command, marks, plain_kind
 from .report_thin import Keeper
@@ -31,7 +31,8 @@ class Tick:
 
 @dataclass
 class Clock:
-    """A pack's time: a conversion is a tick, a sample as many as have passed since the one before. The first sample since a power-on is one."""
+    """A pack's time: a conversion is a tick, a sample as many as have passed since the one before. Over a power-on the clock stands still: what a logger
+    counts from then on may begin anywhere, so the first sample takes no time."""
     here: Tick = field(default_factory=lambda: Tick(0))
     last: Optional[int] = None
 
@@ -42,9 +43,10 @@ class Clock:
             ticks = 1
             if kind == records.SAMPLE:
                 tick = int.from_bytes(piece.payload[-2:], "little")
-                ticks, self.last = 1 if self.last is None else (tick - self.last) % 65536, tick
-            self.here = Tick(self.here.at + ticks, ticks)
-            return self.here, 0
+                ticks, self.last = 0 if self.last is None else (tick - self.last) % 65536, tick
+            if ticks:
+                self.here = Tick(self.here.at + ticks, ticks)
+                return self.here, 0
         if taken and kind == records.POWER_ON:
             self.last = None
         self.here.count += 1
@@ -115,8 +117,9 @@ class Pack:
     courses: "dict[str, Course]" = field(default_factory=dict)
     cells: bytes = b""
 
-    def by(self) -> registers.Units:
-        return registers.Units(self.seen.data[registers.RSNSP] if self.seen else 0, self.kind)
+    def rsnsp(self) -> int:
+        """The sense resistor that it states now, as 1/Ohm; 0 where it states none."""
+        return self.seen.data[0x69] if self.seen else 0
 
     def note(self, piece: Piece, taken: bool) -> None:
         """What is there to be seen since the last power-on."""
@@ -163,12 +166,12 @@ def shows(data: bytes, kind: int, read: bool, driven: bool) -> Shows:
     """What the map of a pack shows. FULL, AE and SE are shares of Full40; here they are charges, as the charge is."""
     values = registers.shown(data, kind)
     found = {value.name: float(value.value) for value in values}
-    full40 = float(registers.number(data, 0x6A, 2) * (units.CHARGE * data[registers.RSNSP] * 1000 or 1))
-    found.update({name: registers.number(data, at, 2) * full40 / 16384 for name, at in (("FULL", 0x16), ("AE", 0x18), ("SE", 0x1A))})
+    full40 = float(report_amounts.whole(data, 0x6A) * (units.CHARGE * data[0x69] * 1000 or 1))
+    found.update({name: report_amounts.whole(data, at) * full40 / 16384 for name, at in (("FULL", 0x16), ("AE", 0x18), ("SE", 0x1A))})
     there = {name: read if name in READ_OFF else driven if name == "current" else True for name in SERIES}
     numbers = tuple(found[name] if there[name] else None for name in SERIES)
     texts = tuple(units.fixed(Fraction(value.value), value.places) + (" counts" if value.unit == "counts" else "") for value in values)
-    return Shows(texts, " ".join(registers.flags(data)), numbers, not data[registers.RSNSP])
+    return Shows(texts, " ".join(registers.flags(data)), numbers, not data[0x69])
 
 
 def came_of(told: Explained, slot: int) -> str:
@@ -239,7 +242,7 @@ class Teller:
         if pack and now and taken and report_saves.may_save(kind, read_before, before, now):
             asked = report_saves.Question(len(self.session), slot, pack.address, report_saves.shown(now))
             self.asked.append((asked, moment, pack))
-            moment.marks.append(Mark("save", "saved: " + report_saves.spoken(asked.shown, pack.by())))
+            moment.marks.append(Mark("save", "saved: charge " + report_amounts.saved(asked.shown, pack.rsnsp())))
         self.add(moment, pack)
 
     def add(self, moment: Moment, pack: Optional[Pack]) -> None:
@@ -274,7 +277,7 @@ class Teller:
         for slot, pack in enumerate(story.packs):
             end = report_saves.saved(session, report_saves.Question(len(session), slot, pack.address, b""), story.tray)
             if end and pack.cells and end != pack.cells:
-                story.remarks.append(f"At the end {report_saves.spoken(end, pack.by())} is saved, and no mark tells of it.")
+                story.remarks.append(f"At the end {report_amounts.saved(end, pack.rsnsp())} is saved, and no mark tells of it.")
             pack.cells = end or pack.cells
 
 
