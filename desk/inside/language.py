@@ -186,10 +186,14 @@ class Writer:
 
     def pieces(self, file: str, lines: Iterable[str], depth: int = 0) -> Iterator[Piece]:
         for statement in lexer.statements(file, lines):
-            if statement[0].word == "include" and statement[0].text is None:
-                yield from self.included(statement, depth)
-            else:
-                yield from self.statement(statement)
+            yield from self.said(statement, depth)
+
+    def said(self, statement: "list[Word]", depth: int = 0) -> Iterator[Piece]:
+        """The records of one statement."""
+        if statement[0].word == "include" and statement[0].text is None:
+            yield from self.included(statement, depth)
+        else:
+            yield from self.statement(statement)
 
     def included(self, statement: "list[Word]", depth: int) -> Iterator[Piece]:
         words = Reader(statement[1:] or statement[:1], {})
