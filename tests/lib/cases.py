@@ -1,9 +1,11 @@
 """What the cases in Python share: their verdicts, and runs of our programs."""
+import fcntl
 import functools
 import os
 import shutil
 import subprocess
 import sys
+import tempfile
 
 TOP = os.path.dirname(os.path.dirname(os.path.dirname(os.path.abspath(__file__))))
 COMMAND = os.path.join(TOP, "trovimbe")
@@ -88,6 +90,21 @@ def shown(tries, differs):
             tries.insert(0, tries.pop(at))
             return True
     return False
+
+
+def installed(tool, *packages):
+    """Whether a tool is there, or comes with these Debian packages. The cases run at once, and apt takes one at a time: each waits for the others'."""
+    if shutil.which(tool) is None and shutil.which("apt-get") and os.getuid() == 0:
+        quiet = {"stdin": subprocess.DEVNULL, "stdout": subprocess.DEVNULL, "stderr": subprocess.DEVNULL, "check": False, "timeout": 600,
+                 "env": {**os.environ, "DEBIAN_FRONTEND": "noninteractive"}}
+        apt = ["apt-get", "-q", "-o", "DPkg::Lock::Timeout=300"]
+        install = [*apt, "install", "-y", "--no-install-recommends", *packages]
+        with open(os.path.join(tempfile.gettempdir(), "trovimbe-apt.lock"), "w", encoding="utf-8") as lock:
+            fcntl.flock(lock, fcntl.LOCK_EX)
+            if subprocess.run(install, **quiet).returncode != 0:
+                subprocess.run([*apt, "update"], **quiet)
+                subprocess.run(install, **quiet)
+    return shutil.which(tool) is not None
 
 
 FAILED = set()
