@@ -1,0 +1,158 @@
+"""What happens to packs on a line, in words: as somebody types it, or from a file in the packs' own time."""
+import asyncio
+import os
+from typing import Callable, Iterator
+
+from . import image, lexer, proved, records, start, units
+from .bus_line import Line
+from .gauge import Answer
+from .language import MOST_TICKS, Writer
+from .lexer import Word
+from .meanings import meaning
+from .packs import Pack, Packs
+from .records import Piece, Record
+from .slips import Slip
+from .speak import pairs
+
+SECONDS = 3600 / units.TICKS_AN_HOUR  # of a tick
+TOGETHER = 64  # records of one statement, after which others may come in between
+LONGEST = 1 << 16  # bytes of a line
+
+
+class Clock:
+    """How long the packs' own time takes: a conversion is a tick, a sample as many as have passed since the one before. All else takes none. Each pack
+    has its own time, and they begin together."""
+
+    def __init__(self) -> None:
+        self.ticks: "dict[int, int]" = {}
+        self.last: "dict[int, int]" = {}
+
+    def moment(self, record: Record) -> int:
+        """The tick of its pack at which an event is over; of all that is no event, how far the furthest pack is."""
+        if record.kind not in records.UNSLOTTED or not record.payload:
+            return max(self.ticks.values(), default=0)
+        slot, kind = record.payload[0], records.UNSLOTTED[record.kind]
+        self.ticks[slot] = self.ticks.get(slot, 0) + self.took(slot, kind, record.payload[1:])
+        return self.ticks[slot]
+
+    def took(self, slot: int, kind: int, payload: bytes) -> int:
+        if kind == records.POWER_ON:
+            self.last.pop(slot, None)
+        if kind != records.SAMPLE:
+            return int(kind == records.CONVERSION)
+        tick = int.from_bytes(payload[4:], "little")
+        passed = (tick - self.last.get(slot, tick - 1)) % 65536
+        if not 1 <= passed <= MOST_TICKS:
+            return 0  # it will be refused
+        self.last[slot] = tick
+        return passed
+
+
+class OnTheLine(Packs):
+    """The packs on a line, all of which were accepted."""
+
+    def add(self, record: Record) -> None:
+        """None is added: a `pack` is refused, and leaves what others are measured by."""
+
+
+class Bench:
+    """Statements about the packs of a tray, run on their line. Ticks go on from one statement to the next, whoever says it."""
+
+    def __init__(self, line: Line, said: Callable[[str], None]) -> None:
+        self.line, self.said = line, said
+        self.packs = self.known()
+
+    def known(self) -> Packs:
+        images = self.line.tray.images
+        return OnTheLine(images, [Pack(made.kind, made.payload[image.RSNSP_AT]) for made in images], slots=list(range(len(images))))
+
+    def writer(self, packs: Packs) -> Writer:
+        return Writer(proved.checksum, start.included, packs=packs)
+
+    def records(self, writer: Writer, statement: "list[Word]") -> Iterator[Record]:
+        """The records of a statement, as this tray has them."""
+        for piece in writer.said(statement):
+            yield self.slotted(piece, statement[0])
+
+    def slotted(self, piece: Piece, word: Word) -> Record:
+        """An event of a pack in its slot, or a transaction."""
+        if isinstance(piece, Record) and piece.kind in records.SLOTTED:
+            if len(self.packs.images) > 1:
+                raise Slip(word.place, f"{len(self.packs.images)} packs are on the line", "say which, as slot 0 " + word.word)
+            return records.slotted(piece, 0)
+        if isinstance(piece, Record) and (piece.kind in records.UNSLOTTED or piece.kind in records.HEAD):
+            return piece
+        raise Slip(word.place, "this is nothing that happens to a pack on a line", "expected an event or a transaction; the packs are those of the call")
+
+    def run(self, record: Record) -> Answer:
+        answer = self.line.transaction(record) if record.kind in records.HEAD else self.line.event(record)
+        if answer.number != 0:
+            self.said(f"refused with {answer.number}: {meaning(record, answer.number, True)}")
+        elif answer.reply:
+            self.said("reply " + pairs(answer.reply))
+        return answer
+
+    # ---- as somebody types it
+
+    async def typed(self, lines: "asyncio.Queue[bytes]") -> bool:
+        """Each line is a statement, and is run at once; a slip is said, and nothing of the rest of its line is run. Whether `quit` ended them, or the
+        end of the lines, which is an empty one without its end."""
+        writer = self.writer(self.packs)
+        number = 0
+        while True:
+            line = await lines.get()
+            number += 1
+            if not line or line.strip().lower() == b"quit":
+                return bool(line)
+            try:
+                words = list(lexer.words_of("standard input", number, line.decode("utf-8", "replace")))
+                for count, record in enumerate(self.records(writer, words) if words else (), 1):
+                    self.run(record)
+                    if count % TOGETHER == 0:
+                        await asyncio.sleep(0)
+            except Slip as slip:
+                self.said(slip.told())
+
+    # ---- from a file
+
+    def checked(self, name: str) -> None:
+        """Raises the first slip of a file, before anything of it is run."""
+        writer = self.writer(self.known())
+        for statement in lexer.statements(*start.lines(name)):
+            for _ in self.records(writer, statement):
+                pass
+
+    async def played(self, name: str, speed: float) -> None:
+        """The records of a file, each when its time has come."""
+        writer, clock = self.writer(self.packs), Clock()
+        began = asyncio.get_running_loop().time()
+        for statement in lexer.statements(*start.lines(name)):
+            for record in self.records(writer, statement):
+                due = began + clock.moment(record) * SECONDS / speed
+                await asyncio.sleep(max(0.0, due - asyncio.get_running_loop().time()))
+                self.run(record)
+
+
+def lines_of(descriptor: int) -> Iterator[bytes]:
+    """Each line of an input as it comes, and at its end an empty one. A line that is too long comes in parts."""
+    rest, more = b"", b"more"
+    while more:
+        try:
+            more = os.read(descriptor, LONGEST)
+        except OSError:
+            more = b""
+        *lines, rest = (rest + more).split(b"\n")
+        yield from (line + b"\n" for line in lines)
+        if rest and (not more or len(rest) > LONGEST):
+            yield rest
+            rest = b""
+    yield b""
+
+
+def read_into(lines: "asyncio.Queue[bytes]", loop: asyncio.AbstractEventLoop) -> None:
+    """Reads standard input, in a thread that nobody waits for: it may stand there for good. (So it goes past sys.stdin, which Python would wait for.)"""
+    try:
+        for line in lines_of(0):
+            loop.call_soon_threadsafe(lines.put_nowait, line)
+    except RuntimeError:
+        pass  # the bus is over
