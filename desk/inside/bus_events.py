@@ -1,21 +1,19 @@
 """What happens to packs on a line, in words: as somebody types it, or from a file in the packs' own time."""
 import asyncio
 import os
-from typing import Callable, Iterator
+from typing import Awaitable, Callable, Iterator
 
 from . import image, lexer, proved, records, start, units
 from .bus_line import Line
-from .gauge import Answer
 from .language import MOST_TICKS, Writer
 from .lexer import Word
 from .meanings import meaning
 from .packs import Pack, Packs
 from .records import Piece, Record
-from .slips import Slip
+from .slips import Slip, Unfit, plain
 from .speak import pairs
 
 SECONDS = 3600 / units.TICKS_AN_HOUR  # of a tick
-TOGETHER = 64  # records of one statement, after which others may come in between
 LONGEST = 1 << 16  # bytes of a line
 
 
@@ -67,7 +65,12 @@ class Bench:
         return OnTheLine(images, [Pack(made.kind, made.payload[image.RSNSP_AT]) for made in images], slots=list(range(len(images))))
 
     def writer(self, packs: Packs) -> Writer:
-        return Writer(proved.checksum, start.included, packs=packs)
+        return Writer(self.checked_by, start.included, packs=packs)
+
+    def checked_by(self, seven: bytes) -> int:
+        """The CRC of an address. Those of the packs on the line are known: the proved program need not be started while somebody waits."""
+        known = next((address for address in self.line.tray.addresses if address[:7] == seven), None)
+        return known[7] if known is not None else proved.checksum(seven)
 
     def records(self, writer: Writer, statement: "list[Word]") -> Iterator[Record]:
         """The records of a statement, as this tray has them."""
@@ -84,13 +87,20 @@ class Bench:
             return piece
         raise Slip(word.place, "this is nothing that happens to a pack on a line", "expected an event or a transaction; the packs are those of the call")
 
-    def run(self, record: Record) -> Answer:
-        answer = self.line.transaction(record) if record.kind in records.HEAD else self.line.event(record)
-        if answer.number != 0:
-            self.said(f"refused with {answer.number}: {meaning(record, answer.number, True)}")
-        elif answer.reply:
-            self.said("reply " + pairs(answer.reply))
-        return answer
+    async def run(self, statement: "list[Word]", writer: Writer, waited: Callable[[Record], Awaitable[None]]) -> None:
+        """Runs a statement, each record when it was waited for. What it replies is said; of its refusals the first, and how many there were."""
+        place = statement[0].place
+        where, refused = plain(f"{place.file}:{place.line}"), 0
+        for record in self.records(writer, statement):
+            await waited(record)
+            answer = self.line.transaction(record) if record.kind in records.HEAD else self.line.event(record)
+            refused += answer.number != 0
+            if answer.number != 0 and refused == 1:
+                self.said(f"{where}: refused with {answer.number}: {meaning(record, answer.number, True)}")
+            elif answer.reply:
+                self.said("reply " + pairs(answer.reply))
+        if refused > 1:
+            self.said(f"{where}: refused {refused} records of this statement")
 
     # ---- as somebody types it
 
@@ -99,6 +109,10 @@ class Bench:
         end of the lines, which is an empty one without its end."""
         writer = self.writer(self.packs)
         number = 0
+
+        async def others(_: Record) -> None:
+            await asyncio.sleep(0)  # who is on the line comes in between
+
         while True:
             line = await lines.get()
             number += 1
@@ -106,31 +120,35 @@ class Bench:
                 return bool(line)
             try:
                 words = list(lexer.words_of("standard input", number, line.decode("utf-8", "replace")))
-                for count, record in enumerate(self.records(writer, words) if words else (), 1):
-                    self.run(record)
-                    if count % TOGETHER == 0:
-                        await asyncio.sleep(0)
+                if words:
+                    await self.run(words, writer, others)
             except Slip as slip:
                 self.said(slip.told())
+            except proved.Gone:
+                raise
+            except Unfit as fault:
+                self.said(str(fault))
 
     # ---- from a file
 
-    def checked(self, name: str) -> None:
-        """Raises the first slip of a file, before anything of it is run."""
+    def checked(self, name: str, text: "list[str]") -> None:
+        """Raises the first slip of a text, before anything of it is run."""
         writer = self.writer(self.known())
-        for statement in lexer.statements(*start.lines(name)):
+        for statement in lexer.statements(name, text):
             for _ in self.records(writer, statement):
                 pass
 
-    async def played(self, name: str, speed: float) -> None:
-        """The records of a file, each when its time has come."""
+    async def played(self, name: str, text: "list[str]", speed: float) -> None:
+        """A text, each record when its time has come."""
         writer, clock = self.writer(self.packs), Clock()
-        began = asyncio.get_running_loop().time()
-        for statement in lexer.statements(*start.lines(name)):
-            for record in self.records(writer, statement):
-                due = began + clock.moment(record) * SECONDS / speed
-                await asyncio.sleep(max(0.0, due - asyncio.get_running_loop().time()))
-                self.run(record)
+        loop = asyncio.get_running_loop()
+        began = loop.time()
+
+        async def due(record: Record) -> None:
+            await asyncio.sleep(max(0.0, began + clock.moment(record) * SECONDS / speed - loop.time()))
+
+        for statement in lexer.statements(name, text):
+            await self.run(statement, writer, due)
 
 
 def lines_of(descriptor: int) -> Iterator[bytes]:

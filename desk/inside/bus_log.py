@@ -11,11 +11,11 @@ from .speak import Speaker, pairs
 class Log:
     """The log in a file, or none. Each statement is written at once, with what it was answered as a comment."""
 
-    def __init__(self, name: Optional[str], images: "list[Record]") -> None:
+    def __init__(self) -> None:
         self.file: Optional[TextIO] = None
         self.speaker = Speaker()
-        if name is None:
-            return
+
+    def begin(self, name: str, images: "list[Record]") -> None:
         try:
             self.file = open(name, "x", encoding="utf-8")
         except FileExistsError:

@@ -29,10 +29,16 @@ class Tray:
         self.addresses = [made.payload[:8] for made in self.images]
         self.state = state
         self.program = proved.Kept("resume_tray", state)
+        try:
+            self.fill(names)
+        except BaseException:
+            self.program.stop()
+            raise
+
+    def fill(self, names: "list[str]") -> None:
         for name, made in zip(names, self.images):
             answer = self.ask(made)
             if answer.number != 0:
-                self.program.stop()
                 raise Unfit(f"{plain(name)}: refused with {answer.number}, {meaning(made, answer.number, True)}")
 
     def ask(self, record: Record) -> Answer:

@@ -5,9 +5,11 @@ that no page is ever half done."""
 import asyncio
 import re
 import socket
+import sys
 from typing import Callable, Optional
 
 from .bus_line import Line
+from .proved import Gone
 from .slips import Unfit, plain
 
 LONGEST = 16384  # bytes of a line of a request: a block of 8,000 bytes
@@ -15,7 +17,8 @@ MOST_LINES = 100  # of a request
 MOST = 256  # connections at once
 SECONDS = 5.0  # that a request may take to come in, and an answer to go out
 REQUEST = re.compile(rb"GET /1Wire/([A-Za-z]{1,20})\.html(?:\?(\S*))? HTTP/1\.[01]\r?\n")
-STATUS = {200: "OK", 400: "Bad Request", 404: "Not Found", 408: "Request Timeout", 431: "Request Header Fields Too Large", 503: "Service Unavailable"}
+STATUS = {200: "OK", 400: "Bad Request", 404: "Not Found", 408: "Request Timeout", 431: "Request Header Fields Too Large",
+          500: "Internal Server Error", 503: "Service Unavailable"}
 
 
 def bound(host: str, port: int) -> socket.socket:
@@ -153,9 +156,12 @@ class Server:
             body, status = f"{refused}\n", refused.status
         except asyncio.TimeoutError:
             body, status = "the request did not come to its end\n", 408
-        except Exception as fault:
+        except Gone as fault:
             self.broken(fault)
-            raise ConnectionAbortedError from fault
+            body, status = "the packs are gone\n", 500
+        except Exception as fault:  # a fault of ours, which is no reason to leave everybody else
+            print(f"bus: a fault of its own, of which whoever makes it should hear: {fault!r}", file=sys.stderr)
+            body, status = "the bus has a fault\n", 500
         head = f"HTTP/1.1 {status} {STATUS[status]}\r\nContent-Type: text/html\r\nConnection: close\r\n\r\n"
         return (head + f"<html><body>\n{body}</body></html>\n").encode("ascii", "replace")
 

@@ -2,6 +2,7 @@
 the desk: requests and the bits of a search are made once more."""
 import os
 import re
+import select
 import signal
 import socket
 import subprocess
@@ -22,14 +23,26 @@ class Bus:
         self.log = os.path.join(folder, "log")
         self.process = subprocess.Popen([COMMAND, "bus", *images, "--log", self.log, *words], cwd=folder, stdin=subprocess.PIPE, stdout=subprocess.PIPE,
                                         stderr=subprocess.PIPE, start_new_session=True)
-        self.said = []
+        self.said, self.waiting = [], b""
         self.port = None
         if wait:
             self.started()
 
+    def line(self):
+        """The next line that it says; nothing where it has ended."""
+        while b"\n" not in self.waiting:
+            if not select.select([self.process.stdout], [], [], SECONDS)[0]:
+                raise Wrong(f"the bus says nothing, behind {self.waiting!r}")
+            more = os.read(self.process.stdout.fileno(), 65536)
+            if not more:
+                return ""
+            self.waiting += more
+        line, self.waiting = self.waiting.split(b"\n", 1)
+        return line.decode() + "\n"
+
     def started(self):
         while True:
-            line = self.process.stdout.readline().decode()
+            line = self.line()
             if not line:
                 raise Wrong(f"the bus ended with {self.process.wait()}: {self.process.stderr.read().decode()}")
             self.said.append(line)
@@ -65,7 +78,7 @@ class Bus:
         """The reply to a transaction in words, as the bus prints it."""
         self.process.stdin.write((line + "\n").encode())
         self.process.stdin.flush()
-        said = self.process.stdout.readline().decode()
+        said = self.line()
         same(f"what is said of {line}, {said!r}", said.startswith("reply "), True)
         return bytes.fromhex(said.split(" ", 1)[1])
 
@@ -85,7 +98,7 @@ class Bus:
             rest, errors = self.process.communicate(timeout=SECONDS)
         same(f"the status of the bus, which says {errors.decode()[-800:]!r}", self.process.returncode, status)
         same("what it says on standard error", errors.decode() if status == 0 else "", "")
-        return rest.decode()
+        return (self.waiting + rest).decode()
 
     # ---- its pages
 
@@ -129,7 +142,7 @@ class Owfs:
         self.door = socket.create_server((HOME, 0))
         self.port = self.door.getsockname()[1]
         given = {**os.environ, "NOTIFY_SOCKET": notice.getsockname(), "LISTEN_FDS": "1"}
-        script = 'exec 3<&"$0"; LISTEN_PID=$$ exec owserver --timeout_volatile=0 --timeout_stable=0 --timeout_directory=0 "$@"'
+        script = 'exec 3<&"$0"; LISTEN_PID=$$ exec owserver --timeout_network=10 --timeout_volatile=0 --timeout_stable=0 --timeout_directory=0 "$@"'
         self.process = subprocess.Popen(["bash", "-c", script, str(self.door.fileno()), f"--HA7NET={HOME}:{port}"], env=given, pass_fds=[self.door.fileno()],
                                         stdin=subprocess.DEVNULL, stdout=subprocess.DEVNULL, stderr=subprocess.DEVNULL)
         with notice:
