@@ -12,7 +12,7 @@ _trovimbe() {
         mapfile -t COMPREPLY < <(compgen -W "${names[*]} --help --version" -- "$word")
     elif [[ $word == -* ]]; then
         local options=(--help)
-        while [[ $call =~ (--[a-z]+=?)(.*) ]]; do
+        while [[ $call =~ ' '[[]?(--[a-z]+=?)(.*) ]]; do
             options+=("${BASH_REMATCH[1]}")
             call=${BASH_REMATCH[2]}
         done

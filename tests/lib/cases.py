@@ -92,7 +92,7 @@ def shown(tries, differs):
     return False
 
 
-def installed(tool, *packages):
+def provided(tool, *packages):
     """Whether a tool is there, or comes with these Debian packages. The cases run at once, and apt takes one at a time: each waits for the others'."""
     if shutil.which(tool) is None and shutil.which("apt-get") and os.getuid() == 0:
         quiet = {"stdin": subprocess.DEVNULL, "stdout": subprocess.DEVNULL, "stderr": subprocess.DEVNULL, "check": False, "timeout": 600,
