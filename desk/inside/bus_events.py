@@ -1,6 +1,7 @@
 """What happens to packs on a line, in words: as somebody types it, or from a file in the packs' own time."""
 import asyncio
 import os
+import threading
 from typing import Awaitable, Callable, Iterator
 
 from . import image, lexer, proved, records, start, units
@@ -15,6 +16,7 @@ from .speak import pairs
 
 SECONDS = 3600 / units.TICKS_AN_HOUR  # of a tick
 LONGEST = 1 << 16  # bytes of a line
+AHEAD = 64  # lines that wait
 
 
 class Clock:
@@ -104,17 +106,17 @@ class Bench:
 
     # ---- as somebody types it
 
-    async def typed(self, lines: "asyncio.Queue[bytes]") -> bool:
-        """Each line is a statement, and is run at once; a slip is said, and nothing of the rest of its line is run. Whether `quit` ended them, or the
-        end of the lines, which is an empty one without its end."""
-        writer = self.writer(self.packs)
+    async def typed(self) -> bool:
+        """Each line of standard input is a statement, and is run at once; a slip is said, and nothing of the rest of its line is run. Whether `quit` ended
+        them, or the end of the lines, which is an empty one without its end."""
+        writer, lines = self.writer(self.packs), Lines()
         number = 0
 
         async def others(_: Record) -> None:
             await asyncio.sleep(0)  # who is on the line comes in between
 
         while True:
-            line = await lines.get()
+            line = await lines.next()
             number += 1
             if not line or line.strip().lower() == b"quit":
                 return bool(line)
@@ -167,10 +169,25 @@ def lines_of(descriptor: int) -> Iterator[bytes]:
     yield b""
 
 
-def read_into(lines: "asyncio.Queue[bytes]", loop: asyncio.AbstractEventLoop) -> None:
-    """Reads standard input, in a thread that nobody waits for: it may stand there for good. (So it goes past sys.stdin, which Python would wait for.)"""
-    try:
-        for line in lines_of(0):
-            loop.call_soon_threadsafe(lines.put_nowait, line)
-    except RuntimeError:
-        pass  # the bus is over
+class Lines:
+    """Standard input, line by line. It is read by a thread that nobody waits for, since it may stand there for good (so it goes past sys.stdin, which
+    Python would wait for), and not far ahead of what is run."""
+
+    def __init__(self) -> None:
+        self.loop = asyncio.get_running_loop()
+        self.queue: "asyncio.Queue[bytes]" = asyncio.Queue()
+        self.room = threading.Semaphore(AHEAD)
+        threading.Thread(target=self.read, daemon=True).start()
+
+    def read(self) -> None:
+        try:
+            for line in lines_of(0):
+                self.room.acquire()
+                self.loop.call_soon_threadsafe(self.queue.put_nowait, line)
+        except RuntimeError:
+            pass  # the bus is over
+
+    async def next(self) -> bytes:
+        line = await self.queue.get()
+        self.room.release()
+        return line

@@ -1,7 +1,7 @@
 """What happened on a line, in words that `write` takes back: the packs, then each transaction and each event, in their order."""
-import sys
 from typing import Optional, TextIO
 
+from . import start
 from .gauge import Answer
 from .records import Record
 from .slips import Unfit, plain
@@ -14,6 +14,7 @@ class Log:
     def __init__(self) -> None:
         self.file: Optional[TextIO] = None
         self.speaker = Speaker()
+        self.whole = True
 
     def begin(self, name: str, images: "list[Record]") -> None:
         try:
@@ -44,5 +45,5 @@ class Log:
             self.file.write(text + "\n")
             self.file.flush()
         except OSError as fault:
-            print(f"bus: the log ends here, since it cannot be written: {fault.strerror}", file=sys.stderr)
-            self.file = None
+            start.said(f"bus: the log ends here, since it cannot be written: {fault.strerror}", start.WRONG)
+            self.file, self.whole = None, False

@@ -5,9 +5,9 @@ that no page is ever half done."""
 import asyncio
 import re
 import socket
-import sys
 from typing import Callable, Optional
 
+from . import start
 from .bus_line import Line
 from .proved import Gone
 from .slips import Unfit, plain
@@ -160,7 +160,7 @@ class Server:
             self.broken(fault)
             body, status = "the packs are gone\n", 500
         except Exception as fault:  # a fault of ours, which is no reason to leave everybody else
-            print(f"bus: a fault of its own, of which whoever makes it should hear: {fault!r}", file=sys.stderr)
+            start.said(f"bus: a fault of its own, of which whoever makes it should hear: {fault!r}", start.WRONG)
             body, status = "the bus has a fault\n", 500
         head = f"HTTP/1.1 {status} {STATUS[status]}\r\nContent-Type: text/html\r\nConnection: close\r\n\r\n"
         return (head + f"<html><body>\n{body}</body></html>\n").encode("ascii", "replace")
