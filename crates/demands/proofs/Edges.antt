@@ -1,5 +1,5 @@
 -- Each theorem at the edge of its premises: one that is narrowed by one does not reach it.
-use mathlib.Core.Path.{_≡_, sym, ap, subst}
+use mathlib.Core.Path.{_≡_, refl, sym, ap, subst}
 use mathlib.Core.Bool.{true, false}
 use mathlib.Core.List.{List, [], _∷_, _++_}
 use Prim.Native.Nat.{ℕ, suc, _+_, _-_, _*_, _/_, _^_, _≤_, _<_}
@@ -22,7 +22,7 @@ use Rattle.record.specs.declared.Form.{Form}
 use Rattle.record.specs.declared.Form.the-variants.{Long}
 use Rattle.record.specs.declared.Change.the-variants.{Sample}
 use Rattle.record.specs.Image.{imageAging}
-use Rattle.runs.specs.Record.{Rec, whole, wholeOf}
+use Rattle.runs.specs.Record.{Rec, whole, wholeOf, recOf}
 use Rattle.runs.specs.Run.{Did, linesAfter, repliesOf, outcomeNumber}
 use Rattle.runs.specs.Divided.{leftOver}
 use Rattle.runs.proofs.Divided.{divided}
@@ -44,8 +44,10 @@ use Rattle.hex.specs.Import.{Importing}
 use Rattle.hex.specs.Theorems.{Reordered, Returned}
 use Rattle.hex.proofs.RoundTrip.{round-trip}
 use Rattle.demands.specs.Call.{Call, Allowed, Within, linesIn, SessionRun}
+use Rattle.demands.specs.Numbers.{OnlyWhen, sessionCases, frontCases}
 use Rattle.demands.specs.History.{changed}
 use Rattle.demands.specs.Hundred.{FindsFull, by-sample}
+use Rattle.demands.specs.Slow as slowly
 use Rattle.demands.specs.Slots.{Stands, AsOld}
 use Rattle.demands.specs.Longer.{formKind, reading, quarters, wholeMap}
 use Rattle.demands.specs.Programming.{Bench, benchLines, Answers}
@@ -53,6 +55,7 @@ use Rattle.demands.proofs.Called.{runs-exist}
 use Rattle.demands.proofs.Demand1.{demand-1, tray-demand-1}
 use Rattle.demands.proofs.Numbers.{each-number-holds}
 use Rattle.demands.proofs.Demand2.{demand-2, tray-demand-2}
+use Rattle.demands.proofs.Slow.{slow}
 use Rattle.demands.proofs.Slots.{slots-as-old}
 use Rattle.demands.proofs.EachPack.{transactions-as-plain}
 use Rattle.demands.proofs.Longer.{longer}
@@ -169,3 +172,15 @@ pub returned-in-48 : (pack factory room after : List ℕ) → UpTo255 pack → U
     → Importing text lent said last → Returned pack factory lent said last
 returned-in-48 pack factory room after small other wrote ls text order lent said last size read =
     round-trip pack factory room after (λ i. omega (arith, small i)) (λ i. omega (arith, other i)) wrote ls text order lent said last (omega (arith, size)) read
+
+-- NUMBERS: a session of just 32,768 bytes, and one byte that is left
+pub done-at-32768 : (c : Call Session) → Allowed didOf emptyOf c → length (c .bytes) ≡ 32768 → outcomeNumber (c .ran .outcome) ≡ 0
+done-at-32768 c a size = each-number-holds .session .within c a (omega (arith, size))
+
+pub one-byte-left : (σ : Session) (room x : ℕ) → OnlyWhen (didOf σ room (recOf (x ∷ [])) .answer) (frontCases didOf emptyOf sessionCases σ room (x ∷ []))
+one-byte-left σ room x = each-number-holds .session .records σ room (x ∷ []) (omega arith)
+
+-- SLOW: a record of kind 6 that has another size stands behind a sample
+pub missized-behind-sample : (g : Gauge) (room : ℕ) (s : slowly.Sample)
+    → slowly.AsConversions g room (slowly.sample s ∷ slowly.other (whole 6 []) ∷ [])
+missized-behind-sample g room s = slow .conversions g room (slowly.sample s ∷ slowly.other (whole 6 []) ∷ []) (refl, tt)
