@@ -312,7 +312,8 @@ largeResults =
     (allConverted (plusCount 32767 ∷ seven (plusCount 32767)) (powered M 100 128) .flow .average .iavg ∷ [] is (zeroAt 15 + 32767) ∷ []) ∷
     (allConverted (minusCount 32768 ∷ seven (minusCount 32768)) (powered M 100 128) .flow .average .iavg ∷ [] is 0 ∷ []) ∷
     -- C14. The count stops at 2^28 - 1 and at 0
-    (convertOf (powered M 65535 128) (plusCount 32767) .charge .count ∷ convertOf (powered M 7 128) (minusCount 32768) .charge .count ∷ [] is (2 ^ 28 - 1) ∷ 0 ∷ []) ∷
+    (convertOf (powered M 65535 128) (plusCount 32767) .charge .count ∷ convertOf (powered M 7 128) (minusCount 32768) .charge .count ∷ []
+    is (2 ^ 28 - 1) ∷ 0 ∷ []) ∷
     []
 
 abbrev pub largeFigures : List Figure
