@@ -36,6 +36,7 @@ use Rattle.tray_record.proofs.Hearing.{wired-length, tray-reply-length}
 use Rattle.tray_record.specs.declared.Tray.{Tray}
 use Rattle.tray_record.specs.Wire.{andBytes}
 use Rattle.tray_record.specs.Tray.{emptyTray, packOf, wiredFirst, Reach, one, every, trayReach, trayActed, trayReply, trayTold, ofTray, trayDid}
+use Rattle.hex.specs.Theorems.{Bytes}
 use Rattle.demands.specs.Longer.{formKind}
 use Rattle.demands.specs.Slots.{andOver, EachAsPlain, TransactionsAsPlain}
 use Rattle.demands.proofs.Choice.{contrary, either-none, either-true}
@@ -146,22 +147,23 @@ and-same zero f g e = refl
 and-same (suc n) f g e = rw (and-same n f g (λ i low. e i (omega arith)), e n (omega arith)) refl
 
 -- what each pack does is asked of the packs that are there alone
-each-same : {τ : Tray} {d : Did Tray} (f g : ℕ → Did Session) → ((i : ℕ) → i < τ .count → f i ≡ g i) → EachAsPlain τ d f → EachAsPlain τ d g
-each-same {τ} {d} f g e h = record {
+each-same : {s : List ℕ} {τ : Tray} {d : Did Tray} (f g : ℕ → Did Session) → ((i : ℕ) → i < τ .count → f i ≡ g i) → EachAsPlain s τ d f
+    → EachAsPlain s τ d g
+each-same {s} {τ} {d} f g e h = record {
   answer = λ i low. h .answer i low ∙ ap (λ (x : Did Session). x .answer) (e i low);
   pack = λ i low. h .pack i low ∙ ap (λ (x : Did Session). x .state .gauge) (e i low);
   count = h .count;
   closed = h .closed;
   size = λ i low. h .size i low ∙ ap (λ (x : Did Session). length (x .reply)) (e i low);
-  byte = λ k less.
+  byte = λ bytes k less.
       let same : (i : ℕ) → i < τ .count → getD (f i .reply) k 0 ≡ getD (g i .reply) k 0 = λ i low. ap (λ (x : Did Session). getD (x .reply) k 0) (e i low) in
-      h .byte k less
+      h .byte bytes k less
       ∙ and-same (τ .count) (λ i. getD (f i .reply) k 0) (λ i. getD (g i .reply) k 0) same;
 }
 
-module _ (τ : Tray) (h : Distinct τ) (small : (i : ℕ) → SmallGauge (packOf τ i)) (f : Form) (p : List ℕ) where
+module _ (s : List ℕ) (τ : Tray) (h : Distinct τ) (small : Bytes s → (i : ℕ) → SmallGauge (packOf τ i)) (f : Form) (p : List ℕ) where
   abbrev Each : Taken → Type 0
-  Each t = EachAsPlain τ (answeredBy ofTray τ p t) (λ i. takenDid (loadedWith (packOf τ i)) p t)
+  Each t = EachAsPlain s τ (answeredBy ofTray τ p t) (λ i. takenDid (loadedWith (packOf τ i)) p t)
 
   refused-each : (r : Refusal) → Each (Refused r)
   refused-each r = record {
@@ -172,7 +174,7 @@ module _ (τ : Tray) (h : Distinct τ) (small : (i : ℕ) → SmallGauge (packOf
         let z : refusalNumber r ≡ 0 → ⊥ = λ e. omega (arith, refusal-range r) in
         sym (ap (either (τ .closed)) (ne-eqb (refusalNumber r) 0 z) ∙ either-none (τ .closed));
     size = λ i low. refl;
-    byte = λ k less. absurd (omega arith);
+    byte = λ bytes k less. absurd (omega arith);
   }
 
   transact-each : (t : Transaction) → Each (Run (Transact t))
@@ -187,7 +189,8 @@ module _ (τ : Tray) (h : Distinct τ) (small : (i : ℕ) → SmallGauge (packOf
         count = acted-count t master τ reach;
         closed = sym (either-true (τ .closed));
         size = λ i low. long ∙ sym (reply-length (packOf τ i) t master);
-        byte = λ k less. each-byte t master τ (h .eight) reach w k (rw long at less) (λ i low. reply-bytes (packOf τ i) (small i) t master k);
+        byte = λ bytes k less.
+            each-byte t master τ (h .eight) reach w k (rw long at less) (λ i low. reply-bytes (packOf τ i) (small bytes i) t master k);
       }
 
   taken-each : (t : Taken) → Asks τ (kind.Transaction f) p t → Each t
@@ -197,7 +200,7 @@ module _ (τ : Tray) (h : Distinct τ) (small : (i : ℕ) → SmallGauge (packOf
   taken-each (Refused r) a = refused-each r
 
   pub did-each : (room : ℕ)
-      → EachAsPlain τ (trayDid τ room (whole (formKind f) p)) (λ i. didOf (loadedWith (packOf τ i)) room (whole (formKind f) p))
+      → EachAsPlain s τ (trayDid τ room (whole (formKind f) p)) (λ i. didOf (loadedWith (packOf τ i)) room (whole (formKind f) p))
   unfolding trayDid didOf
   did-each room =
       let told = trayTold τ (formKind f) p in
@@ -208,5 +211,6 @@ module _ (τ : Tray) (h : Distinct τ) (small : (i : ℕ) → SmallGauge (packOf
       (fitted-has Each (refused-each refusal.Room) room told (taken-each told asks))
 
 pub transactions-as-plain : TransactionsAsPlain
-transactions-as-plain c w bytes room f p =
-    did-each (c .ran .state) (rw (running trayDid emptyTray w .state) (end-distinct (length (c .room)) (recsOf (c .bytes)))) (slot-small c w bytes) f p room
+transactions-as-plain c w room f p =
+    let distinct : Distinct (c .ran .state) = rw (running trayDid emptyTray w .state) (end-distinct (length (c .room)) (recsOf (c .bytes))) in
+    did-each (c .bytes) (c .ran .state) distinct (slot-small c w) f p room

@@ -40,6 +40,7 @@ use Rattle.session_run.specs.SessionRun.{emptyOf}
 use Rattle.tray_record.specs.declared.Tray.{Tray}
 use Rattle.tray_record.specs.Tray.{emptyTray, packOf, searchOf, isFound, trayKindOf, aheadOf}
 use Rattle.tray_record.specs.Tray.{trayAskedBy, againOf, slotTick, trayTold, trayReach, trayEvent, ofTray, trayDid}
+use Rattle.hex.specs.Theorems.{Bytes}
 use Rattle.demands.specs.Call.{Call, linesIn}
 use Rattle.demands.specs.Single.{trayKind, hasSlot, inTray, lineInTray, noneAgain, oneImage, Translated, AnswersAlike, SingleAsPlain}
 use Rattle.demands.proofs.Choice.{contrary, by-number}
@@ -411,9 +412,9 @@ runs-alike σ τ room (r ∷ rs) h ready bytes =
 empty-alike : Alike emptyOf emptyTray
 empty-alike = record { eight = empty-filled .eight; count = refl; opening = λ e. refl; pack = refl }
 
-single-alike : (c : Call Session) (d : Call Tray) → Translated c d → oneImage (linesIn didOf emptyOf c) ≡ true → AnswersAlike c d
-single-alike c d t once =
-    let h = runs-alike emptyOf emptyTray (length (c .room)) (recsOf (c .bytes)) empty-alike once (replies-bytes (c .bytes) (length (c .room)) (t .bytes)) in
+single-alike : (c : Call Session) (d : Call Tray) → Translated c d → Bytes (c .bytes) → oneImage (linesIn didOf emptyOf c) ≡ true → AnswersAlike c d
+single-alike c d t bytes once =
+    let h = runs-alike emptyOf emptyTray (length (c .room)) (recsOf (c .bytes)) empty-alike once (replies-bytes (c .bytes) (length (c .room)) bytes) in
     let left = running didOf emptyOf (t .plain) .state in
     let right : d .ran .state ≡ endAfter trayDid emptyTray (length (c .room)) (map inTray (recsOf (c .bytes))) =
     running trayDid emptyTray (t .tray) .state ∙ rw (t .records, t .room) refl in

@@ -343,8 +343,8 @@ single-met = record {
     tray = call-within (map inTray plain) (omega arith);
     records = refl;
     room = refl;
-    bytes = plain-bytes;
   };
+  bytes = plain-bytes;
   once = refl;
   answers = refl;
   replies = plain-replies;

@@ -59,13 +59,12 @@ oneImage (l ∷ ls) = pick (eqb (l .answer) 0) (noneAgain ls) (oneImage ls)
 
 -- ---- the theorem
 
--- a plain session, of bytes, and the same for a tray, with reply rooms of one size
+-- a plain session and the same for a tray, with reply rooms of one size
 pub record Translated (c : Call Session) (d : Call Tray) : Type 0 where
   pub plain : Within didOf emptyOf c
   pub tray : Within trayDid emptyTray d
   pub records : recsOf (d .bytes) ≡ map inTray (recsOf (c .bytes))
   pub room : length (d .room) ≡ length (c .room)
-  pub bytes : Bytes (c .bytes)
 
 -- each record gets the same answer and reply, and the pack ends as the gauge does; it is there if the image was accepted
 pub record AnswersAlike (c : Call Session) (d : Call Tray) : Type 0 where
@@ -76,7 +75,8 @@ pub record AnswersAlike (c : Call Session) (d : Call Tray) : Type 0 where
   pub other : Told trayDid emptyTray d
 
 pub record SingleAsPlain : Type 0 where
-  pub alike : (c : Call Session) (d : Call Tray) → Translated c d → oneImage (linesIn didOf emptyOf c) ≡ true → AnswersAlike c d
+  -- where the session is of bytes, so that every reply is
+  pub alike : (c : Call Session) (d : Call Tray) → Translated c d → Bytes (c .bytes) → oneImage (linesIn didOf emptyOf c) ≡ true → AnswersAlike c d
   -- and nowhere else: the condition asks no more than it must
   pub only : (c : Call Session) (d : Call Tray) → Translated c d → linesIn trayDid emptyTray d ≡ map lineInTray (linesIn didOf emptyOf c)
       → oneImage (linesIn didOf emptyOf c) ≡ true
@@ -87,6 +87,7 @@ pub record SingleMet : Type 0 where
   pub session : Call Session
   pub tray : Call Tray
   pub translated : Translated session tray
+  pub bytes : Bytes (session .bytes)
   pub once : oneImage (linesIn didOf emptyOf session) ≡ true
   pub answers : map (λ l. l .answer) (linesIn didOf emptyOf session) ≡ 5 ∷ 0 ∷ 3 ∷ 0 ∷ 5 ∷ 0 ∷ []
   pub replies : repliesOf (linesIn didOf emptyOf session) ≡ 0xfc ∷ 0x18 ∷ []

@@ -50,19 +50,20 @@ abbrev pub andOver : ℕ → (ℕ → ℕ) → ℕ
 andOver zero byte = 0xff
 andOver (suc n) byte = bitAnd (andOver n byte) (byte n)
 
--- what a tray does, and what each of its packs does in a plain session
-pub record EachAsPlain (τ : Tray) (d : Did Tray) (plain : ℕ → Did Session) : Type 0 where
+-- what a tray that a session s has left does, and what each of its packs does in a plain session
+pub record EachAsPlain (s : List ℕ) (τ : Tray) (d : Did Tray) (plain : ℕ → Did Session) : Type 0 where
   pub answer : (i : ℕ) → i < τ .count → d .answer ≡ plain i .answer
   pub pack : (i : ℕ) → i < τ .count → packOf (d .state) i ≡ plain i .state .gauge
   -- as many packs, and a transaction that is done closes the opening
   pub count : d .state .count ≡ τ .count
   pub closed : d .state .closed ≡ either (τ .closed) (eqb (d .answer) 0)
   pub size : (i : ℕ) → i < τ .count → length (d .reply) ≡ length (plain i .reply)
-  pub byte : (k : ℕ) → k < length (d .reply)
+  -- where s is of bytes, so that every reply is
+  pub byte : Bytes s → (k : ℕ) → k < length (d .reply)
       → getD (d .reply) k 0 ≡ andOver (τ .count) (λ i. getD (plain i .reply) k 0)
 
--- in the state that any run of bytes leaves, with any room: a transaction of either form
+-- in the state that any run leaves, with any room: a transaction of either form
 abbrev pub TransactionsAsPlain : Type 0
-TransactionsAsPlain = (c : Call Tray) → Within trayDid emptyTray c → Bytes (c .bytes) → (room : ℕ) (f : Form) (p : List ℕ)
-    → EachAsPlain (c .ran .state) (trayDid (c .ran .state) room (whole (formKind f) p))
+TransactionsAsPlain = (c : Call Tray) → Within trayDid emptyTray c → (room : ℕ) (f : Form) (p : List ℕ)
+    → EachAsPlain (c .bytes) (c .ran .state) (trayDid (c .ran .state) room (whole (formKind f) p))
     (λ i. didOf (loadedWith (packOf (c .ran .state) i)) room (whole (formKind f) p))
