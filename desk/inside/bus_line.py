@@ -140,20 +140,20 @@ class Line:
         while ways:
             way = ways.pop()
             self.close()
-            pass_of = Search([] if conditional else self.tray.addresses)
+            walk = Search([] if conditional else self.tray.addresses)
             taken: "list[int]" = []
             for bit in range(BITS):
-                zero, one = pass_of.slot(1), pass_of.slot(1)
+                zero, one = walk.slot(1), walk.slot(1)
                 if zero and one:  # nobody is there
                     break
                 if bit < len(way):
                     zero = way[bit]
                 elif not zero and not one:
                     ways.append([*taken, 1])
-                taken.append(pass_of.slot(zero))
+                taken.append(walk.slot(zero))
             else:
                 found.append(sum(bit << at for at, bit in enumerate(taken)).to_bytes(8, "little"))
-                self.heard = pass_of.chosen()
+                self.heard = walk.chosen()
         self.remarked("conditional search: nobody answers" if conditional else f"search: {len(found)} found")
         return found
 

@@ -49,6 +49,7 @@ class Bus:
             found = re.match(r"listens on (?:\S+):(\d+), as a bus master", line)
             self.port = int(found[1]) if found else self.port
             if "`quit` ends it" in line:
+                self.began = time.monotonic()
                 return
 
     def __enter__(self):
