@@ -5,7 +5,7 @@ from dataclasses import dataclass, field
 from typing import Iterator, NamedTuple
 
 from . import image, proved, records
-from .feed import BYTES as BYTES  # for those who ask the programs themselves
+from .feed import BYTES as BYTES
 from .feed import NO_ROOM, Feed, Step
 from .records import Cut, Piece, Record
 
@@ -104,27 +104,27 @@ def opening(feed: Feed, line: Line, program: proved.Kept) -> Iterator[Told]:
     images: "list[bytes]" = []
     maps: "dict[int, bytes]" = {}
     while not line.closed:
-        for piece, _ in feed.batch(1):
-            if isinstance(piece, Cut):
-                yield from cut(piece, line, program)
-                return
-            answer = answer_of(program.ask(piece.encoded()))
-            feed.replied(answer.reply)
-            line.joined(piece, answer)
-            if line.closed:
-                maps = looked(program, line)
-            elif answer.number == 0:
-                images.append(piece.encoded())
-                with proved.Kept(program.name) as second:
-                    second.asked(images)
-                    maps = looked(second, line)
-            yield Told(piece, answer, maps)
-            break
-        else:
+        steps = feed.batch(1)
+        if not steps:
             return
+        piece = steps[0].piece
+        if isinstance(piece, Cut):
+            yield from cut(piece, program)
+            return
+        answer = answer_of(program.ask(piece.encoded()))
+        feed.replied(answer.reply)
+        line.joined(piece, answer)
+        if line.closed:
+            maps = looked(program, line)
+        elif answer.number == 0:
+            images.append(piece.encoded())
+            with proved.Kept(program.name) as second:
+                second.asked(images)
+                maps = looked(second, line)
+        yield Told(piece, answer, maps)
 
 
-def cut(piece: Cut, line: Line, program: proved.Kept) -> Iterator[Told]:
+def cut(piece: Cut, program: proved.Kept) -> Iterator[Told]:
     """What is cut at the end of the input, which the program knows once its input ends."""
     yield from (Told(piece, answer_of(told), {}) for told in program.end(piece.rest))
 
@@ -141,7 +141,7 @@ def run(steps: "list[Step]", line: Line, program: proved.Kept) -> Iterator[Told]
         yield Told(step.piece, answer, {slot: look.reply for slot, look in enumerate(seen) if look.number == 0})
     for step in steps[len(whole):]:
         if isinstance(step.piece, Cut):
-            yield from cut(step.piece, line, program)
+            yield from cut(step.piece, program)
 
 
 def told(pieces: Iterator[Piece], line: Line) -> Iterator[Told]:
