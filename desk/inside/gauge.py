@@ -9,6 +9,7 @@ from .feed import BYTES as BYTES
 from .feed import NO_ROOM, Feed, Step
 from .records import Cut, Piece, Record
 
+SLOTS = 8
 AT_FIRST = 64  # records that are looked at to see whether they are of a tray
 
 
@@ -51,6 +52,19 @@ def answer_of(line: bytes) -> Answer:
     """A line that a proved program prints of a record."""
     number, reply = line.split()[2:4]
     return Answer(int(number), b"" if reply == b"-" else bytes.fromhex(reply.decode()))
+
+
+def as_first(images: "list[Record]") -> "list[int]":
+    """What each of these images would be answered as the first record of a session. A tray judges an image as a session does its first, unless a pack
+    with this address is there or eight packs are: so eight with different addresses share a run of `tray`."""
+    found: "dict[int, int]" = {}
+    while len(found) < len(images):
+        batch: "dict[bytes, int]" = {}
+        for at in (at for at in range(len(images)) if at not in found and len(batch) < SLOTS):
+            batch.setdefault(images[at].payload[:8], at)
+        lines = proved.output("tray", b"".join(images[at].encoded() for at in batch.values())).splitlines()[1:]
+        found.update(zip(batch.values(), (answer_of(line).number for line in lines)))
+    return [found[at] for at in range(len(images))]
 
 
 class Again:
