@@ -11,8 +11,8 @@ from .packs import Pack
 from .records import Record
 from .slips import Place, Slip, nearest
 
-NAMES = {"time": ("time", "timestamp", "date", "datetime", "t", "tick", "ticks"), "current": ("current", "i"), "voltage": ("voltage", "volt", "volts", "u", "v"),
-         "temperature": ("temperature", "temp")}
+NAMES = {"time": ("time", "timestamp", "date", "datetime", "t", "tick", "ticks"), "current": ("current", "i"),
+         "voltage": ("voltage", "volt", "volts", "u", "v"), "temperature": ("temperature", "temp")}
 USUAL = {"time": "s", "current": "mA", "voltage": "V", "temperature": "C"}
 MOST_TICKS = 64
 NUMBER = re.compile(r"[+-]?[0-9]{1,15}(\.[0-9]{1,15})?([eE][+-]?[0-9]{1,2})?$")
@@ -140,7 +140,8 @@ class Logger:
                 raise ValueError(cell)
             number = Fraction(cell)
         except (ValueError, TypeError):
-            raise Slip(place, f"{cell} is no time", f"expected a number of {column.unit}, or a date as 2024-03-01T12:00:00, all with a time zone or all without") from None
+            raise Slip(place, f"{cell} is no time", f"expected a number of {column.unit}, or a date as 2024-03-01T12:00:00, "
+                       "all with a time zone or all without") from None
         if column.unit == "ticks":
             return units.rounded(number)
         if column.unit not in units.TIMES:
