@@ -27,7 +27,8 @@ def rules(which: int) -> str:
     """The colours of the picture as a style sheet."""
     paper = list(PAPER.values())[which]
     rows = [f"svg text{{fill:{COLOURS['ink'][which]}}}svg .paper{{fill:{paper}}}svg .quiet{{fill:{COLOURS['muted'][which]}}}",
-            f"svg .halo,svg .core{{stroke:{paper}}}svg .grid{{stroke:{COLOURS['grid'][which]}}}svg .axis,svg .cursor,svg .limit{{stroke:{COLOURS['muted'][which]}}}"]
+            f"svg .halo,svg .core{{stroke:{paper}}}svg .grid{{stroke:{COLOURS['grid'][which]}}}",
+            f"svg .axis,svg .cursor,svg .limit{{stroke:{COLOURS['muted'][which]}}}"]
     rows += [f"svg .{name}{{stroke:{COLOURS[colour][which]}}}svg text.{name}{{fill:{COLOURS[colour][which]};stroke:none}}" for name, colour in LINES.items()]
     rows += [f"svg .m-{name}{{stroke:{COLOURS[colour][which]};fill:{COLOURS[colour][which]}}}" for name, colour in MARKS.items()]
     rows += [f"svg .s{at}{{stroke:{COLOURS[name][which]}}}svg text.s{at}{{fill:{COLOURS[name][which]};stroke:none}}" for at, name in enumerate(STRETCHES)]
@@ -39,7 +40,8 @@ def rules(which: int) -> str:
 SHAPES = (
     "svg{font:13px system-ui,-apple-system,'Segoe UI',Roboto,'DejaVu Sans',sans-serif}"
     "svg .l{fill:none;stroke-width:2;stroke-linejoin:round}svg .thin{stroke-width:1.5}svg .tube{stroke-width:7}svg .core{stroke-width:4;stroke-dasharray:none}"
-    "svg text{stroke:none}svg .title{font-size:17px;font-weight:600}svg .halo{stroke-width:4;stroke-linejoin:round}svg .grid,svg .axis{stroke-width:1;fill:none}"
+    "svg text{stroke:none}svg .title{font-size:17px;font-weight:600}svg .halo{stroke-width:4;stroke-linejoin:round}"
+    "svg .grid,svg .axis{stroke-width:1;fill:none}"
     "svg .name{font-weight:600}svg .small{font-size:12px}svg .area{stroke:none;fill-opacity:.25}svg .guide{stroke-width:1;stroke-opacity:.55;fill:none}"
     "svg .open{fill:none;stroke-width:1.8}svg .hit{fill:transparent;stroke:none}svg .cursor{stroke-width:1.5}"
     + "".join(f"svg .{name}.l{{stroke-dasharray:{dash}}}" for name, dash in DASHES.items()))

@@ -41,9 +41,11 @@ def card_of(path: str) -> "Optional[dict[str, object]]":
 def item(page: str, card: "dict[str, object]") -> str:
     """The card of a page. Whatever it says is text, and a path is a path."""
     path = str(card.get("path", ""))
-    drawn = f'<svg viewBox="0 0 300 70" role="img" aria-label="charge over time"><path class="l charge" d="{path}"/></svg>' if PATH.match(path) else ""
+    line = f'<path class="l charge" vector-effect="non-scaling-stroke" d="{path}"/>'
+    drawn = f'<svg viewBox="0 0 100 24" role="img" aria-label="charge over time">{line}</svg>' if PATH.match(path) else ""
     packs = card.get("packs")
-    labels = [f"{pack.get('label', '')}: {pack.get('charge', '')}, {pack.get('left', '')}" for pack in packs if isinstance(pack, dict)] if isinstance(packs, list) else []
+    told = [pack for pack in packs if isinstance(pack, dict)] if isinstance(packs, list) else []
+    labels = [f"{pack.get('label', '')}: {pack.get('charge', '')}, {pack.get('left', '')}" for pack in told]
     counts = card.get("marks")
     marks = [f"{kind} {count}" for kind, count in counts.items()] if isinstance(counts, dict) else []
     lines = [f"{card.get('records', '?')} records, {card.get('time', '?')}", *labels[:8], ", ".join(marks) or "no marks"]
@@ -60,4 +62,5 @@ def index(folder: str) -> str:
         raise Unfit(f"cannot read the pages of {plain(folder)}: {fault.strerror}") from fault
     items = [item(name, card) for name, card in cards if card is not None]
     style = report_style.style()
-    return (report_page.head("Reports", style, "") + f"<body><main><h1>{len(items):,} report{'s' * (len(items) != 1)}</h1><ul class=index>{''.join(items)}</ul></main>\n")
+    title = f"{len(items):,} report{'s' * (len(items) != 1)}"
+    return report_page.head("Reports", style, "") + f"<body><main><h1>{title}</h1><ul class=index>{''.join(items)}</ul></main>\n"

@@ -41,11 +41,13 @@ def card(pack: Pack, name: str) -> str:
     data, rsnsp = pack.seen.data, pack.rsnsp()
     flags = " ".join(flag for flag in pack.seen.flags if not flag.startswith("BL"))
     ohm = f"{1000 / rsnsp:.3g} mΩ" if rsnsp else "not stated: charges and currents are counts"
-    rows = [("address", pack.address.hex(" ").upper()), ("part", PARTS[pack.kind]), ("capacity", report_amounts.spoken(Fraction(report_amounts.whole(data, 0x6A)), rsnsp) + " (Full40)"),
+    capacity = report_amounts.spoken(Fraction(report_amounts.whole(data, 0x6A)), rsnsp)
+    left = f"{data[0x06]} % under load, {data[0x07]} % at rest" if pack.read else "not known: no reading since the power-on"
+    rows = [("address", pack.address.hex(" ").upper()), ("part", PARTS[pack.kind]), ("capacity", capacity + " (Full40)"),
             ("age", f"AS {data[0x14]}/128, {100 * data[0x14] // 128} % of a new pack")]
     rows += [("cycles", str(data[0x1E]))] if pack.kind == records.CAMERA else []
     rows += [("locks", locked(pack)), ("sense resistor", ohm), ("charge at the end", report_amounts.charge(data)),
-             ("left at the end", f"{data[0x06]} % under load, {data[0x07]} % at rest" if pack.read else "not known: no reading since the power-on"), ("flags at the end", flags or "none")]
+             ("left at the end", left), ("flags at the end", flags or "none")]
     if pack.cells:
         rows.append(("saved at the end", report_amounts.saved(pack.cells, rsnsp)))
     told = "".join(f"<dt>{clean(term)}<dd>{clean(text)}" for term, text in rows)
@@ -71,11 +73,12 @@ def knee(story: Story, kept: "set[int]") -> str:
     """Where the voltage falls the most from one reading to the next."""
     read = [(moment.stretch, moment.number, here) for moment in story.of(0) if moment.kind == "reading" and not moment.answer
             for here in [report_picture.value(moment, "voltage")] if here is not None]
-    falls = [(before[2] - after[2], before, after) for before, after in zip(read, read[1:]) if before[0] == after[0]]
+    falls = [(before[2] - after[2], before, after) for before, after in zip(read, read[1:]) if before[0] == after[0]]  # not over a power-on
     fall, before, after = max(falls, key=lambda each: each[0], default=(0.0, (0, 0, 0.0), (0, 0, 0.0)))
     if fall <= 0 or story.tray:
         return ""
-    return (f"<li>The voltage falls the most from one reading to the next between records {linked(before[1], story, kept)} and {linked(after[1], story, kept)}: "
+    where = f"{linked(before[1], story, kept)} and {linked(after[1], story, kept)}"
+    return (f"<li>The voltage falls the most from one reading to the next between records {where}: "
             f"from {exactly(before[2], 2)} V to {exactly(after[2], 2)} V.")
 
 
@@ -97,7 +100,8 @@ def summary(story: Story) -> str:
     for slot, pack in enumerate(story.packs):
         flow, charge = units_of(pack)
         who = f"slot {slot}, " if story.tray else ""
-        for name, unit, places in (("charge", charge, 1), ("active", "%", 0), ("standby", "%", 0), ("voltage", "V", 2), ("current", flow, 1), ("temperature", "°C", 1)):
+        for name, unit, places in (("charge", charge, 1), ("active", "%", 0), ("standby", "%", 0), ("voltage", "V", 2), ("current", flow, 1),
+                                   ("temperature", "°C", 1)):
             if name in pack.courses and (not story.tray or name in ("charge", "active")):
                 items.append(course(who + name, unit, places, pack.courses[name], story, kept))
     items.append(knee(story, kept))
@@ -141,7 +145,8 @@ class Rows:
         if story.tray and f"r{number}" not in self.ids:  # whoever looks for the record finds its first row
             self.ids.add(f"r{number}")
             number = f"<span id=r{number}>{number}</span>" if name != f"r{number}" else number
-        back = "".join(f"<a href=#{WIDE.prefix}{anchor(moment, kind, story.tray)} data-k={kind}>▲ {kind}</a>" for kind in dict.fromkeys(mark.kind for mark in moment.marks))
+        kinds = dict.fromkeys(mark.kind for mark in moment.marks)
+        back = "".join(f"<a href=#{WIDE.prefix}{anchor(moment, kind, story.tray)} data-k={kind}>▲ {kind}</a>" for kind in kinds)
         slot = f"slot {moment.slot}: " if story.tray and moment.slot >= 0 and not moment.words.startswith("slot ") else ""
         told = self.shortened(slot + moment.came) if moment.came or slot else ""
         saved = "; ".join(mark.text for mark in moment.marks if mark.kind == "save")
@@ -180,22 +185,23 @@ def table(story: Story, longest: int) -> "tuple[str, bool]":
     told = "".join(rows.row(moment) for moment in story.kept)
     names = "|".join([*(name for name, _ in MORE), "flags"])
     timed = " data-timed=1" if story.timed else " class=by-number"
-    return (f'<table id=records{timed} data-more="{names}" data-units="{clean(in_script(unit))}"><caption class=quiet>A value stands where a record changed it; '
-            f"the moment above shows all of them.</caption><thead><tr><th scope=col>record<th scope=col>{'hours' if story.timed else ''}"
+    return (f'<table id=records{timed} data-more="{names}" data-units="{clean(in_script(unit))}">'
+            "<caption class=quiet>A value stands where a record changed it; the moment above shows all of them.</caption>"
+            f"<thead><tr><th scope=col>record<th scope=col>{'hours' if story.timed else ''}"
             f"<th scope=col>what it says, and what came of it{heads}<tbody>{told}</table>", rows.cut)
 
 
 # ---- the page
 
 def thumbnail(story: Story) -> str:
-    """The small picture of an index: the charge of each pack, as paths in a frame of 300 by 70."""
+    """The small picture of an index: the charge of each pack, as paths in a frame of 100 by 24."""
     paths = []
     for slot in range(len(story.packs)):
         points = [(moment.at, here) for moment in story.of(slot) for here in [report_picture.value(moment, "charge")] if here is not None]
         if points:
             low, high = min(y for _, y in points), max(y for _, y in points)
             span, end = max(high - low, 1e-9), story.end()
-            paths.append(path([[(2 + 296 * x / end, 66 - 62 * (y - low) / span) for x, y in points]]))
+            paths.append(path([[(1 + 98 * x / end, 22.5 - 21 * (y - low) / span) for x, y in points]]))
     return "".join(paths)
 
 
@@ -208,23 +214,29 @@ def about(story: Story) -> "dict[str, object]":
             "marks": {kind: count for kind, count in story.counts.items() if count}, "path": thumbnail(story)}
 
 
-MOMENT = ('<section class=moment hidden aria-label="A moment of the picture"><label for=moment>Moment: move it, or point at the picture; Enter leads to its row</label>'
-          '<input type=range id=moment min=0 max=0 value=0 step=1><div id=values class=values></div><button type=button id=tell>Show it in the table</button></section>')
-FOOT = ("<footer><p>Every number of a gauge comes from the proved programs of Trovimbe, by a read of the whole map behind each record, which changes nothing; this page, "
-        "its words and its picture are plain and not proved. A conversion is a tick, a sample as many as have passed since the one before; over a power-on the clock "
-        "stands still. Records that take no time are spread over the tick that comes next, in their order.</footer>")
+MOMENT = (
+    '<section class=moment hidden aria-label="A moment of the picture">'
+    "<label for=moment>Moment: move it, or point at the picture; Enter leads to its row</label>"
+    "<input type=range id=moment min=0 max=0 value=0 step=1><div id=values class=values></div>"
+    "<button type=button id=tell>Show it in the table</button></section>")
+FOOT = (
+    "<footer><p>Every number of a gauge comes from the proved programs of Trovimbe, by a read of the whole map behind each record, which changes "
+    "nothing; this page, its words and its picture are plain and not proved. A conversion is a tick, a sample as many as have passed since the one "
+    "before; over a power-on the clock stands still. Records that take no time are spread over the tick that comes next, in their order.</footer>")
 
 
 def thinned(story: Story) -> str:
     if len(story.kept) == story.rows:
         return ""
-    return (f"<p>This session is long: of {story.rows:,} rows {len(story.kept):,} are shown, in the picture and in the table. Of neighbours the first and the last are "
-            "kept, the least and the most of each value, and what is marked (of more than 200 marks of a kind the first and the last of neighbours). "
-            "The summary counts all. <code>./trovimbe explain</code> tells each record.")
+    return (f"<p>This session is long: of {story.rows:,} rows {len(story.kept):,} are shown, in the picture and in the table. Of neighbours the first "
+            "and the last are kept, the least and the most of each value, and what is marked (of more than 200 marks of a kind the first and the last "
+            "of neighbours). The summary counts all. <code>./trovimbe explain</code> tells each record.")
 
 
 def head(title: str, style: str, script: str) -> str:
-    policy = f"default-src 'none'; style-src {digest(style)}; script-src {digest(script) if script else chr(39) + 'none' + chr(39)}; base-uri 'none'; form-action 'none'"
+    """The head of a page. Its policy lets in this style and this script, by their sums, and nothing from anywhere else."""
+    scripts = digest(script) if script else "'none'"
+    policy = f"default-src 'none'; style-src {digest(style)}; script-src {scripts}; base-uri 'none'; form-action 'none'"
     return ('<!DOCTYPE html>\n<html lang=en><meta charset=utf-8><meta name=viewport content="width=device-width,initial-scale=1">'
             f'<meta http-equiv=Content-Security-Policy content="{policy}"><title>{clean(title)}</title><style>{style}</style>\n')
 
@@ -242,19 +254,25 @@ class Around:
                 "all from the same start: lines that lie on each other drew the same current.</figcaption></figure>") if over else ""
         remarks = "".join(f"<p>{clean(remark)}" for remark in story.remarks)
         name = unprinted(story.name)
-        self.before = (
-            head(f"Report of {name}", self.style, self.script)
-            + f'<body><a class=skip href="#records">To the table</a><header><p class=quiet>Report of {clean(name)}<h1>{clean(report_picture.headline(story))}</h1></header>'
-            f'<main>{"" if story.tray else cards}{"" if story.packs else "<p>No image is accepted in it, so there is no pack to look at."}{thinned(story)}{remarks}'
-            f'<h2 id=picture>Picture</h2><figure class=main aria-describedby=summary>{report_picture.drawn(story, WIDE, True)}{report_picture.drawn(story, NARROW, True)}</figure>'
-            f'{MOMENT}<h2>What it shows</h2><ul id=summary>{summary(story)}</ul>{laid}{"<h2>The packs</h2>" + cards if story.tray else ""}'
-            f'<h2 id=table>Record by record</h2>{self.filter()}')
-        self.after = f'</main>{FOOT}<script type="application/json" id=card>{in_script(about(story))}</script><script>{self.script}</script>\n'
+        nobody = "" if story.packs else "<p>No image is accepted in it, so there is no pack to look at."
+        drawn = report_picture.drawn(story, WIDE, True) + report_picture.drawn(story, NARROW, True)
+        self.before = "".join([
+            head(f"Report of {name}", self.style, self.script),
+            f'<body><a class=skip href="#records">To the table</a><header><p class=quiet>Report of {clean(name)}',
+            f"<h1>{clean(report_picture.headline(story))}</h1></header><main>",
+            "" if story.tray else cards, nobody, thinned(story), remarks,
+            f"<h2 id=picture>Picture</h2><figure class=main aria-describedby=summary>{drawn}</figure>{MOMENT}",
+            f"<h2>What it shows</h2><ul id=summary>{summary(story)}</ul>{laid}",
+            f"<h2>The packs</h2>{cards}" if story.tray else "",
+            f"<h2 id=table>Record by record</h2>{self.filter()}"])
+        itself = f'<script type="application/json" id=card>{in_script(about(story))}</script>'
+        self.after = f"</main>{FOOT}{itself}<script>{self.script}</script>\n"
 
     def filter(self) -> str:
         kinds = [kind for kind in KIND_ORDER if any(moment.kind == kind for moment in self.story.kept)]
         choice = "".join(f"<option value={kind}>{kind}" for kind in kinds)
-        return (f'<div class=filter hidden role=search aria-label="Filter of the table"><label>Kind <select id=kind><option value="">all{choice}</select></label>'
+        return ('<div class=filter hidden role=search aria-label="Filter of the table">'
+                f'<label>Kind <select id=kind><option value="">all{choice}</select></label>'
                 "<label><input type=checkbox id=refused> refused alone</label><label><input type=checkbox id=marked> marked alone</label>"
                 "<span id=count role=status></span></div>")
 

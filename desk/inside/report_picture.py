@@ -70,8 +70,8 @@ class Sheet:
     def text(self, x: float, y: float, text: str, style: str = "", anchor: str = "start") -> None:
         end = "" if anchor == "start" else f' text-anchor="{anchor}"'
         room = self.look.width - x - 2
-        if anchor == "start" and sum(13 if letter in WIDE_LETTERS else 8 for letter in text) > room:  # a wide name is made as narrow as the paper asks
-            end += f' textLength="{short(room)}" lengthAdjust="spacingAndGlyphs"' if sum(7 if letter not in WIDE_LETTERS else 11 for letter in text) > room else ""
+        if anchor == "start" and sum(11 if letter in WIDE_LETTERS else 7 for letter in text) > room:  # a wide name is made as narrow as the paper asks
+            end += f' textLength="{short(room)}" lengthAdjust="spacingAndGlyphs"'
         self.add(f'<text x="{short(x)}" y="{short(y)}" class="{style}"{end}>{clean(text)}</text>')
 
     def rule(self, x1: float, y1: float, x2: float, y2: float, style: str) -> None:
@@ -234,7 +234,8 @@ def current_panel(sheet: Sheet, moments: "list[Moment]", unit: str, height: floa
         sheet.rule(sheet.look.left, zero, sheet.look.inner(), zero, "axis")
         sheet.curve([line], "current thin")
         last = ended(driven, "current")
-        sheet.labels([Label(line[-1][1], f"{exactly(last, 1)} {unit}" if unit == "mA" else exactly(last, 0), "current")] if last is not None else [], top, bottom)
+        text = "" if last is None else f"{exactly(last, 1)} {unit}" if unit == "mA" else exactly(last, 0)
+        sheet.labels([Label(line[-1][1], text, "current")], top, bottom)
 
 
 # ---- marks
@@ -293,7 +294,8 @@ def mark(sheet: Sheet, group: "list[Moment]", kind: str, y: float) -> None:
         return
     hit = f'<path class="hit" d="M{short(x - 10)} {short(y - 10)}h20v20h-20z"/>'
     numbers = " ".join(row_of(each, tray) for each in group)
-    sheet.add(f'<a class="mark m-{kind}" href="#{row_of(first, tray)}" id="{sheet.look.prefix}{anchor(first, kind, tray)}" data-r="{numbers}">{inside}{hit}</a>')
+    name = sheet.look.prefix + anchor(first, kind, tray)
+    sheet.add(f'<a class="mark m-{kind}" href="#{row_of(first, tray)}" id="{name}" data-r="{numbers}">{inside}{hit}</a>')
 
 
 def lanes(sheet: Sheet, moments: "list[Moment]") -> None:
@@ -430,6 +432,7 @@ def drawn(story: Story, look: Look, linked: bool) -> str:
     if linked:
         line = f'<path class="cursor" visibility="hidden" d="M0 {short(top)}V{short(bottom)}"/>'
         data = f'data-left="{look.left}" data-right="{look.inner()}" data-low="{sheet.across.low:g}" data-high="{sheet.across.high!r}"'
+        data += f' data-strips="{" ".join(short(top) for top, _ in sheet.panels)}"' if story.tray else ""
         return f'<svg {size} {data} class="{look.prefix}" role="group" aria-label="{clean(title(story))}">{"".join(sheet.parts)}{line}</svg>'
     return "".join(sheet.parts)
 

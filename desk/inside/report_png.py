@@ -51,4 +51,5 @@ def png(svg: str) -> bytes:
     for browser in BROWSERS:
         if shutil.which(browser):
             return by_browser(browser, svg)
-    raise Unfit("a PNG takes rsvg-convert or chromium, and neither is there: install librsvg2-bin or chromium (apt-get install librsvg2-bin), or take report --svg")
+    raise Unfit("a PNG takes rsvg-convert or chromium, and neither is there: install librsvg2-bin or chromium (apt-get install librsvg2-bin), "
+                "or take report --svg")

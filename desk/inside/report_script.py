@@ -13,13 +13,15 @@ const last = {}, seen = rows.map(row => {
   names.forEach((name, at) => { const text = cells[at + 2] ? cells[at + 2].textContent : ''; if (text) now[name] = text; });
   if (row.dataset.m) row.dataset.m.split('|').forEach((text, at) => { if (text) now[more[at]] = text === '-' ? '' : text; });
   last[slot] = now;
-  return {slot, time: +cells[0].textContent.replaceAll(',', ''), now, number: $('th', row).textContent, words: cells[1].firstChild ? cells[1].firstChild.textContent : ''};
+  const words = cells[1].firstChild ? cells[1].firstChild.textContent : '';
+  return {slot, time: table.dataset.timed ? +cells[0].textContent : +$('th', row).textContent, now, number: $('th', row).textContent, words};
 });
 const unit = (name, text) => !units[name] || text.endsWith('counts') ? '' : units[name][0] === '/' ? units[name] : ' ' + units[name];
 const spoken = at => {
   const {time, now, number, words, slot} = seen[at];
   const told = Object.entries(now).filter(([, text]) => text !== '').map(([name, text]) => name + ' ' + text + unit(name, text));
-  return 'record ' + number + (table.dataset.timed ? ', ' + time + ' h' : '') + (slot ? ', slot ' + slot : '') + ': ' + words.split('\n')[0] + '. ' + told.join(', ');
+  const where = (table.dataset.timed ? ', ' + time + ' h' : '') + (slot ? ', slot ' + slot : '');
+  return 'record ' + number + where + ': ' + words.split('\n')[0] + '. ' + told.join(', ');
 };
 const shown = element => element && element.getClientRects().length > 0;
 let here = -1;
@@ -32,7 +34,12 @@ const look = at => {
   slider.value = at;
   slider.setAttribute('aria-valuetext', spoken(at));
   values.textContent = '';
-  const say = (name, text) => { const span = document.createElement('span'), b = document.createElement('b'); span.append(name + ' '); b.textContent = text; span.append(b); values.append(span); };
+  const say = (name, text) => {
+    const span = document.createElement('span'), b = document.createElement('b');
+    b.textContent = text;
+    span.append(name + ' ', b);
+    values.append(span);
+  };
   say('record', number + (slot ? ' (slot ' + slot + ')' : ''));
   if (table.dataset.timed) say('at', time + ' h');
   say('', words.split('\n')[0]);
@@ -43,9 +50,12 @@ const look = at => {
     line.setAttribute('visibility', 'visible');
   }
 };
-const nearest = time => {
-  let best = 0;
-  seen.forEach((moment, at) => { if (Math.abs(moment.time - time) < Math.abs(seen[best].time - time)) best = at; });
+const nearest = (time, slot) => {  // of the pack whose strip it is, in a tray
+  let best = -1;
+  seen.forEach((moment, at) => {
+    if (slot !== '' && moment.slot !== slot) return;
+    if (best < 0 || Math.abs(moment.time - time) < Math.abs(seen[best].time - time)) best = at;
+  });
   return best;
 };
 const go = (row, focus) => {
@@ -64,8 +74,9 @@ if (rows.length) {
 for (const svg of pictures) {
   const follow = event => {
     const box = svg.getBoundingClientRect(), {left, right, low, high} = svg.dataset, wide = svg.viewBox.baseVal.width;
-    const x = (event.clientX - box.left) / box.width * wide;
-    if (x >= left - 4 && x <= +right + 4) look(nearest(+low + (x - left) / (right - left) * (high - low)));
+    const x = (event.clientX - box.left) / box.width * wide, y = (event.clientY - box.top) / box.width * wide;
+    const strip = svg.dataset.strips ? svg.dataset.strips.split(' ').filter(top => y >= top - 24).length - 1 : -1;
+    if (x >= left - 4 && x <= +right + 4) look(nearest(+low + (x - left) / (right - left) * (high - low), strip < 0 ? '' : String(strip)));
   };
   svg.addEventListener('pointermove', event => { if (!event.target.closest('a')) follow(event); });
   svg.addEventListener('pointerdown', event => { if (!event.target.closest('a')) follow(event); });

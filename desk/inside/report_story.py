@@ -237,8 +237,9 @@ class Teller:
         if pack:
             pack.note(piece, taken)
         kind = plain_kind(piece)
+        shown = shows(now.data, now.kind, pack.read, pack.driven) if pack and now else None
         moment = Moment(told.number, slot, tick, step, pack.stretch if pack else 0, KIND_NAMES.get(kind, "other"), words, told.answer,
-                        came_of(told, slot), shows(now.data, now.kind, pack.read, pack.driven) if pack and now else None, marks(told, pack.address if pack else b"", before, now))
+                        came_of(told, slot), shown, marks(told, pack.address if pack else b"", before, now))
         if pack and now and taken and report_saves.may_save(kind, read_before, before, now):
             asked = report_saves.Question(len(self.session), slot, pack.address, report_saves.shown(now))
             self.asked.append((asked, moment, pack))

@@ -13,7 +13,8 @@ PAGE = """
 *{box-sizing:border-box}
 html{scroll-behavior:smooth;-webkit-text-size-adjust:100%}
 @media (prefers-reduced-motion:reduce){html{scroll-behavior:auto}}
-body{margin:0 auto;max-width:1120px;padding:16px;background:var(--paper);color:var(--ink);font:16px/1.5 system-ui,-apple-system,'Segoe UI',Roboto,'DejaVu Sans',sans-serif;overflow-wrap:break-word}
+body{margin:0 auto;max-width:1120px;padding:16px;background:var(--paper);color:var(--ink);overflow-wrap:break-word;
+font:16px/1.5 system-ui,-apple-system,'Segoe UI',Roboto,'DejaVu Sans',sans-serif}
 h1{font-size:1.5rem;line-height:1.25;margin:.2em 0}h2{font-size:1.15rem;margin:1.6em 0 .5em}
 a{color:var(--link)}p{margin:.5em 0}.quiet,footer{color:var(--muted)}
 :focus-visible{outline:3px solid var(--link);outline-offset:2px;border-radius:3px}
@@ -30,7 +31,8 @@ dl{display:grid;grid-template-columns:auto 1fr;gap:2px 14px;margin:0}dt{color:va
 select,button{font:inherit;color:inherit;background:var(--paper);border:1px solid var(--muted);border-radius:6px;padding:4px 8px;min-height:32px}
 input[type=checkbox]{width:20px;height:20px;vertical-align:-4px}
 table{border-collapse:collapse;width:100%;font-size:.9rem;font-variant-numeric:tabular-nums}
-th,td{padding:4px 8px;text-align:right;vertical-align:top;border-bottom:1px solid var(--grid)}th{overflow-wrap:normal}td{white-space:nowrap}thead th{position:sticky;top:0;background:var(--paper);color:var(--muted);font-weight:600}
+th,td{padding:4px 8px;text-align:right;vertical-align:top;border-bottom:1px solid var(--grid)}th{overflow-wrap:normal}td{white-space:nowrap}
+thead th{position:sticky;top:0;background:var(--paper);color:var(--muted);font-weight:600}
 caption{text-align:left}td:nth-of-type(2),thead th:nth-child(3){text-align:left}thead th:nth-child(3){width:50%}tbody th{font-weight:600}
 td:nth-of-type(2){white-space:pre-wrap;overflow-wrap:anywhere;min-width:14em}
 td i{display:block;font-style:normal;color:var(--muted)}tr.no i{color:var(--bad)}td a{display:inline-block;margin-right:8px}
@@ -51,10 +53,11 @@ td:nth-of-type(6)::before{content:"V "}td:nth-of-type(7)::before{content:"curren
 }
 @media print{
 svg .cursor{display:none}body{max-width:none;padding:0;font-size:10pt}.moment,.filter,.skip{display:none}svg.m{display:block}svg.n{display:none}
-h2{break-after:avoid}.main svg.m{max-height:13.5cm;width:auto;max-width:100%}.one dl{grid-template-columns:auto 1fr auto 1fr}figure,.card,tr{break-inside:avoid}thead{display:table-header-group}thead th{position:static}a{color:inherit;text-decoration:none}tr.here,tr:target{background:none}
+h2{break-after:avoid}.main svg.m{max-height:13.5cm;width:auto;max-width:100%}.one dl{grid-template-columns:auto 1fr auto 1fr}figure,.card,tr{break-inside:avoid}
+thead{display:table-header-group}thead th{position:static}a{color:inherit;text-decoration:none}tr.here,tr:target{background:none}
 table{font-size:8pt}
 }
-.index{display:grid;grid-template-columns:repeat(auto-fill,minmax(min(300px,100%),1fr));gap:14px;list-style:none;padding:0}
+#values:empty{min-height:0}.index{display:grid;grid-template-columns:repeat(auto-fill,minmax(min(300px,100%),1fr));gap:14px;list-style:none;padding:0}
 .index a{text-decoration:none;color:inherit;display:block}.index a:hover h3{text-decoration:underline}
 """
 

@@ -36,8 +36,8 @@ class Browser:
         commands, self.say = os.pipe()
         self.hear, answers = os.pipe()
         alone = ["--no-sandbox"] if os.geteuid() == 0 else []
-        words = [name, "--headless", *alone, "--disable-gpu", "--disable-dev-shm-usage", "--no-first-run", "--disable-extensions", "--disable-background-networking",
-                 f"--user-data-dir={self.room}", "--remote-debugging-pipe", "about:blank"]
+        words = [name, "--headless", *alone, "--disable-gpu", "--disable-dev-shm-usage", "--no-first-run", "--disable-extensions",
+                 "--disable-background-networking", f"--user-data-dir={self.room}", "--remote-debugging-pipe", "about:blank"]
         shell = ["bash", "-c", f'exec "$@" 3<&{commands} 4>&{answers}', "bash", *words]
         self.process = subprocess.Popen(shell, stdin=subprocess.DEVNULL, stdout=subprocess.DEVNULL, stderr=subprocess.DEVNULL, pass_fds=(commands, answers))
         os.close(commands)
@@ -124,7 +124,8 @@ class Browser:
     def key(self, name, code, text=""):
         """A key, pressed and let go."""
         for kind in ("keyDown", "keyUp"):
-            self.ask("Input.dispatchKeyEvent", type=kind, key=name, code=name, windowsVirtualKeyCode=code, nativeVirtualKeyCode=code, text=text if kind == "keyDown" else "")
+            self.ask("Input.dispatchKeyEvent", type=kind, key=name, code=name, windowsVirtualKeyCode=code, nativeVirtualKeyCode=code,
+                     text=text if kind == "keyDown" else "")
 
     def point(self, x, y, click=False):
         self.ask("Input.dispatchMouseEvent", type="mouseMoved", x=x, y=y)
