@@ -58,15 +58,15 @@ def card(pack: Pack, name: str) -> str:
 
 # ---- the summary
 
-def linked(number: int, story: Story, kept: "set[int]") -> str:
-    """A record's number, which leads to its row where that is there."""
-    return f'<a href="#r{number}">{number:,}</a>' if number in kept and not story.tray else f"{number:,}"
+def linked(number: int, kept: "set[int]") -> str:
+    """A record's number, which leads to its row, in a tray to the first of its rows, where that is there."""
+    return f'<a href="#r{number}">{number:,}</a>' if number in kept else f"{number:,}"
 
 
-def course(name: str, unit: str, places: int, went: Course, story: Story, kept: "set[int]") -> str:
+def course(name: str, unit: str, places: int, went: Course, kept: "set[int]") -> str:
     first, last, least, most = (exactly(extreme.value, places) for extreme in (went.first, went.last, went.least, went.most))
-    return (f"<li>{name}: {first} {unit} at first and {last} {unit} at the end; least {least} (record {linked(went.least.number, story, kept)}), "
-            f"most {most} (record {linked(went.most.number, story, kept)}).")
+    return (f"<li>{name}: {first} {unit} at first and {last} {unit} at the end; least {least} (record {linked(went.least.number, kept)}), "
+            f"most {most} (record {linked(went.most.number, kept)}).")
 
 
 def knee(story: Story, kept: "set[int]") -> str:
@@ -77,7 +77,7 @@ def knee(story: Story, kept: "set[int]") -> str:
     fall, before, after = max(falls, key=lambda each: each[0], default=(0.0, (0, 0, 0.0), (0, 0, 0.0)))
     if fall <= 0 or story.tray:
         return ""
-    where = f"{linked(before[1], story, kept)} and {linked(after[1], story, kept)}"
+    where = f"{linked(before[1], kept)} and {linked(after[1], kept)}"
     return (f"<li>The voltage falls the most from one reading to the next between records {where}: "
             f"from {exactly(before[2], 2)} V to {exactly(after[2], 2)} V.")
 
@@ -85,7 +85,7 @@ def knee(story: Story, kept: "set[int]") -> str:
 def said_of(story: Story, kind: str, kept: "set[int]") -> str:
     """The marks of a kind, the first few of them by their records."""
     there = [moment for moment in story.kept if any(mark.kind == kind for mark in moment.marks)]
-    first = "; ".join(f"record {linked(moment.number, story, kept)}: " + clean(", ".join(mark.text for mark in moment.marks if mark.kind == kind))
+    first = "; ".join(f"record {linked(moment.number, kept)}: " + clean(", ".join(mark.text for mark in moment.marks if mark.kind == kind))
                       for moment in there[:6])
     rest = story.counts[kind] - min(6, len(there))
     return f"<li>{kind}, {story.counts[kind]:,} in all: {first}{f'; and {rest:,} more' if rest > 0 else ''}."
@@ -103,7 +103,7 @@ def summary(story: Story) -> str:
         for name, unit, places in (("charge", charge, 1), ("active", "%", 0), ("standby", "%", 0), ("voltage", "V", 2), ("current", flow, 1),
                                    ("temperature", "°C", 1)):
             if name in pack.courses and (not story.tray or name in ("charge", "active")):
-                items.append(course(who + name, unit, places, pack.courses[name], story, kept))
+                items.append(course(who + name, unit, places, pack.courses[name], kept))
     items.append(knee(story, kept))
     items += [said_of(story, kind, kept) for kind in KINDS if story.counts[kind]]
     items += [] if story.counts["refused"] else ["<li>No record is refused."]
@@ -200,8 +200,8 @@ def thumbnail(story: Story) -> str:
         points = [(moment.at, here) for moment in story.of(slot) for here in [report_picture.value(moment, "charge")] if here is not None]
         if points:
             low, high = min(y for _, y in points), max(y for _, y in points)
-            span, end = max(high - low, 1e-9), story.end()
-            paths.append(path([[(1 + 98 * x / end, 22.5 - 21 * (y - low) / span) for x, y in points]]))
+            end = story.end()
+            paths.append(path([[(1 + 98 * x / end, 22.5 - 21 * (y - low) / (high - low) if high > low else 12.0) for x, y in points]]))
     return "".join(paths)
 
 

@@ -327,7 +327,7 @@ def guide(sheet: Sheet, x: float, kind: str) -> None:
 def legend(sheet: Sheet, kinds: "list[str]") -> None:
     x = float(sheet.look.left)
     for kind in kinds:
-        wide = 26 + 7 * len(kind)
+        wide = 32 + 7 * len(kind)
         if x + wide > sheet.look.width:
             x, sheet.y = float(sheet.look.left), sheet.y + LANE
         sheet.add(f'<g class="m-{kind}">{shape(kind, x + 8, sheet.y + 8)}</g>')
