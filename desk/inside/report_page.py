@@ -7,7 +7,7 @@ from fractions import Fraction
 
 from . import records, report_amounts, report_picture, report_script, report_style
 from .report_marks import KINDS
-from .report_picture import NARROW, WIDE, anchor, clean, row_of, spoken_time, units_of
+from .report_picture import NARROW, WIDE, anchors, clean, row_of, spoken_time, units_of
 from .report_scale import exactly, path
 from .report_story import Course, Moment, Pack, Story
 from .slips import plain as unprinted
@@ -130,6 +130,7 @@ class Rows:
         self.last: "dict[int, tuple[tuple[str, ...], str]]" = {}
         self.cut = False
         self.ids: "set[str]" = set()
+        self.marks = anchors(story, WIDE)
 
     def shortened(self, text: str) -> str:
         if len(text) <= self.longest:
@@ -146,7 +147,7 @@ class Rows:
             self.ids.add(f"r{number}")
             number = f"<span id=r{number}>{number}</span>" if name != f"r{number}" else number
         kinds = dict.fromkeys(mark.kind for mark in moment.marks)
-        back = "".join(f"<a href=#{WIDE.prefix}{anchor(moment, kind, story.tray)} data-k={kind}>▲ {kind}</a>" for kind in kinds)
+        back = "".join(f"<a href=#{self.marks[moment.number, moment.slot, kind]} data-k={kind}>▲ {kind}</a>" for kind in kinds)
         slot = f"slot {moment.slot}: " if story.tray and moment.slot >= 0 and not moment.words.startswith("slot ") else ""
         told = self.shortened(slot + moment.came) if moment.came or slot else ""
         saved = "; ".join(mark.text for mark in moment.marks if mark.kind == "save")

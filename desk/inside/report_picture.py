@@ -279,6 +279,14 @@ def grouped(sheet: Sheet, moments: "list[Moment]", kind: str) -> "list[list[Mome
     return groups
 
 
+def anchors(story: Story, look: Look) -> "dict[tuple[int, int, str], str]":
+    """The name of the mark that stands for a record, by number, slot and kind: that of the first where several are one."""
+    sheet = Sheet(story, look, True)
+    rows = [story.of(slot) for slot in range(NOBODY, len(story.packs))] if story.tray else [story.kept]
+    groups = [(kind, group) for moments in rows for kind in KINDS for group in grouped(sheet, moments, kind)]
+    return {(moment.number, moment.slot, kind): look.prefix + anchor(group[0], kind, story.tray) for kind, group in groups for moment in group}
+
+
 def mark(sheet: Sheet, group: "list[Moment]", kind: str, y: float) -> None:
     """A mark, which leads to its row where the picture is in a page."""
     first, tray = group[0], sheet.story.tray
