@@ -49,10 +49,13 @@ use Rattle.demands.specs.History.{changed}
 use Rattle.demands.specs.Hundred.{FindsFull, by-sample}
 use Rattle.demands.specs.Slow as slowly
 use Rattle.demands.specs.Slots.{Stands, AsOld}
+use Rattle.demands.specs.Isolation.{SameAt}
 use Rattle.demands.specs.Longer.{formKind, reading, quarters, wholeMap}
 use Rattle.demands.specs.Programming.{Bench, benchLines, Answers}
 use Rattle.demands.proofs.Called.{runs-exist}
 use Rattle.demands.proofs.Demand1.{demand-1, tray-demand-1}
+use Rattle.demands.proofs.Isolation.{isolated-throughout}
+use Rattle.demands.proofs.TrayExample.{isolation-met}
 use Rattle.demands.proofs.Numbers.{each-number-holds}
 use Rattle.demands.proofs.Demand2.{demand-2, tray-demand-2}
 use Rattle.demands.proofs.Slow.{slow}
@@ -184,3 +187,10 @@ one-byte-left σ room x = each-number-holds .session .records σ room (x ∷ [])
 pub missized-behind-sample : (g : Gauge) (room : ℕ) (s : slowly.Sample)
     → slowly.AsConversions g room (slowly.sample s ∷ slowly.other (whole 6 []) ∷ [])
 missized-behind-sample g room s = slow .conversions g room (slowly.sample s ∷ slowly.other (whole 6 []) ∷ []) (refl, tt)
+
+-- ISOLATION: the example meets all that the theorem asks
+pub example-isolated : SameAt (isolation-met .slot) (isolation-met .first) (isolation-met .second) (isolation-met .before) (isolation-met .other-before)
+example-isolated =
+    isolated-throughout (isolation-met .slot) (isolation-met .first) (isolation-met .second) (isolation-met .twins) (isolation-met .taking .earlier)
+    (isolation-met .other-taking .earlier) (isolation-met .place) (isolation-met .before) (isolation-met .other-before) (isolation-met .taking .before)
+    (isolation-met .other-taking .before)
