@@ -2,7 +2,7 @@
 use mathlib.Core.Path.{_≡_, refl, sym, ap, _∙_}
 use mathlib.Core.Bool.{Bool, true, false}
 use mathlib.Core.List.{List, [], _∷_, _++_}
-use Prim.Native.Nat.{ℕ, _+_, _-_, _*_, _/_, _%_, _≤_, _<_}
+use Prim.Native.Nat.{ℕ, zero, suc, _+_, _-_, _*_, _/_, _%_, _≤_, _<_}
 use native.Mathlib.Nat.{add-zero}
 use native.Mathlib.Numerals.{add-one}
 use native.Mathlib.Omega.{arith}
@@ -15,7 +15,8 @@ use Rattle.numbers.proofs.Bounds.{picked}
 use Rattle.slices.specs.Slices.{put, part}
 use Rattle.slices.proofs.Laws.{put-length, put-next, part-rest}
 use Rattle.digits.specs.declared.Twos.{Twos}
-use Rattle.digits.specs.Digits.{lower, pairText, hexText, digitOf, packedPair, packedOf, shownText, placeText, decimalText, Writing}
+use Rattle.digits.specs.Digits.{lower, pairText, hexText, digitOf, packedPair, packedOf, placesOf, shownText, placeText}
+use Rattle.digits.specs.Digits.{shortText, fivesText, decimalText, widthOf, Writing}
 
 -- ---- writing
 
@@ -128,12 +129,37 @@ module _ (n place : ℕ) where
   unfolding shownText
   shown h = rw (le-ltb n place h)
 
+-- a number below 100,000, and any other: what is above its last five digits, and then these
+pub fives-short : (k n : ℕ) → n < 100000 → fivesText k n ≡ shortText n
+fives-short zero n h = refl
+fives-short (suc k) n h = rw (lt-ltb n 100000 h) refl
+
+pub fives-long : (k n : ℕ) → 100000 ≤ n → fivesText (suc k) n ≡ fivesText k (n / 100000) ++ placesOf n
+fives-long k n h = rw (le-ltb n 100000 h) refl
+
+pub decimal-short : (n : ℕ) → n < 100000 → decimalText n ≡ shortText n
+unfolding decimalText
+decimal-short n h = fives-short 3 n h
+
+pub width-short : (n : ℕ) → n < 100000 → widthOf n ≡ 5
+unfolding widthOf
+width-short n h = rw (lt-ltb n 100000 h) refl
+
+pub width-long : (n : ℕ) → 100000 ≤ n → widthOf n ≡ 20
+unfolding widthOf
+width-long n h = rw (le-ltb n 100000 h) refl
+
+pub width-least : (n : ℕ) → 5 ≤ widthOf n
+unfolding widthOf
+width-least n = picked (λ (w : ℕ). 5 ≤ w) (ltb n 100000) 5 20 (λ e. omega arith) (λ e. omega arith)
+
 -- a number of one digit
 pub single : (n : ℕ) → n < 10 → (48 + n) ∷ [] ≡ decimalText n
-unfolding decimalText
+unfolding shortText
 single n h =
     let e : n ≡ n % 10 = omega arith in
-    rw (left-out n 10000 (omega arith), left-out n 1000 (omega arith), left-out n 100 (omega arith), left-out n 10 h) (ap (λ (k : ℕ). (48 + k) ∷ []) e)
+    rw (decimal-short n (omega arith), left-out n 10000 (omega arith), left-out n 1000 (omega arith), left-out n 100 (omega arith), left-out n 10 h)
+    (ap (λ (k : ℕ). (48 + k) ∷ []) e)
 
 -- ---- a bound that the bytes themselves give
 
@@ -147,11 +173,11 @@ shown-few place n digit = picked (λ (xs : List ℕ). length xs ≤ 1) (ltb n pl
 
 -- a number below a thousand has three digits at most
 pub three : (n : ℕ) → n < 1000 → length (decimalText n) ≤ 3
-unfolding decimalText
+unfolding shortText
 three n h =
     let ones = digitOf n ∷ [] in
     let tens = placeText 10 n ++ ones in
-    rw (left-out n 10000 (omega arith), left-out n 1000 h)
+    rw (decimal-short n (omega arith), left-out n 10000 (omega arith), left-out n 1000 h)
     (omega (
       arith,
       length-append (placeText 100 n) tens,

@@ -12,8 +12,7 @@ use Rattle.digits.proofs.upper_digits
 use Rattle.digits.proofs.upper_byte
 use Rattle.digits.proofs.packed
 use Rattle.digits.proofs.counted_up
-use Rattle.digits.proofs.unpacked
-use Rattle.digits.proofs.put_places
+use Rattle.digits.proofs.put_counted
 use Rattle.digits.proofs.put_decimal
 
 pub put-byte-once : Once put_byte.ended put_byte.Reads.Pre put_byte.Reads.Learnt
@@ -50,11 +49,8 @@ packed-once κs a r r′ w w′ p h h′ = (h ∙ sym h′, refl)
 pub counted-up-once : Once counted_up.ended counted_up.Reads.Pre counted_up.Reads.Learnt
 counted-up-once κs a r r′ w w′ p h h′ = (h ∙ sym h′, refl)
 
-pub unpacked-once : Once unpacked.ended unpacked.Reads.Pre unpacked.Reads.Learnt
-unpacked-once κs a r r′ w w′ p h h′ = (h ∙ sym h′, refl)
-
-pub put-places-once : Once put_places.ended put_places.Reads.Pre put_places.Reads.Learnt
-put-places-once κs a r r′ w w′ p h h′ = (h .onward ∙ sym (h′ .onward), λ i. (tt, (tt, ((h .written ∙ sym (h′ .written)) i, (tt, tt)))))
+pub put-counted-once : Once put_counted.ended put_counted.Reads.Pre put_counted.Reads.Learnt
+put-counted-once κs a r r′ w w′ p h h′ = (h .onward ∙ sym (h′ .onward), λ i. (tt, (tt, (tt, ((h .written ∙ sym (h′ .written)) i, (tt, tt))))))
 
 pub put-decimal-once : Once put_decimal.ended put_decimal.Reads.Pre put_decimal.Reads.Learnt
 put-decimal-once κs a r r′ w w′ p h h′ = (h .onward ∙ sym (h′ .onward), λ i. (tt, ((h .written ∙ sym (h′ .written)) i, (tt, tt))))

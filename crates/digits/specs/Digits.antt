@@ -94,8 +94,21 @@ abbrev pub placeText : ℕ → ℕ → List ℕ
 placeText place n = shownText place n (digitOf (n / place))
 
 -- a number below 100,000
+unfoldable pub shortText : ℕ → List ℕ
+shortText n = placeText 10000 n ++ (placeText 1000 n ++ (placeText 100 n ++ (placeText 10 n ++ (digitOf n ∷ []))))
+
+-- a number of at most five digits, and of so many times five more
+abbrev pub fivesText : ℕ → ℕ → List ℕ
+fivesText zero n = shortText n
+fivesText (suc k) n = pick (ltb n 100000) (shortText n) (fivesText k (n / 100000) ++ placesOf n)
+
+-- a number of at most 20 digits, as any below 2^64 is
 unfoldable pub decimalText : ℕ → List ℕ
-decimalText n = placeText 10000 n ++ (placeText 1000 n ++ (placeText 100 n ++ (placeText 10 n ++ (digitOf n ∷ []))))
+decimalText n = fivesText 3 n
+
+-- the most digits that it is said to have: five, or else all 20
+unfoldable pub widthOf : ℕ → ℕ
+widthOf n = pick (ltb n 100000) 5 20
 
 -- ---- what the code promises
 

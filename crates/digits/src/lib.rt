@@ -4,7 +4,8 @@ ghost use mathlib.Core.List.{[], _∷_};
 ghost use Prim.Native.Nat.{_+_, _*_, _≤_, _<_};
 ghost use lib.ListN.{length};
 ghost use Rattle.digits.specs.Digits.{hexOf, lower, upper, pairText, hexText, pairsOf, entryText, hexDigit, hexValue, pairValue};
-ghost use Rattle.digits.specs.Digits.{hexDigits, placesOf, packedPair, packedOf, decimalText, Writing};
+ghost use Rattle.digits.specs.Digits.{hexDigits, placesOf, packedPair, packedOf, shortText, fivesText, decimalText, widthOf, Writing};
+ghost use Rattle.digits.specs.declared.Twos.{Twos};
 
 // ---- bytes
 
@@ -218,7 +219,7 @@ pub fn packed(n: usize) -> Twos
 
 // Those of n made those of n + 1: ninety-nine times of a hundred one or two of them change, and nothing is divided but by 256.
 pub fn counted_up(n: usize, twos: Twos) -> Twos
-    requires { ⌜ n < 100000 ⌝ }
+    requires { ⌜ n < 18446744073709551615 ⌝ }
     requires { ⌜ twos ≡ packedOf n ⌝ }
     ensures { λ r. ⌜ r ≡ packedOf (n + 1) ⌝ }
 {
@@ -240,7 +241,7 @@ pub fn counted_up(n: usize, twos: Twos) -> Twos
 }
 
 // The five digits of a number, of which the last four are packed.
-pub fn unpacked(twos: Twos, n: usize) -> [u8; 5]
+fn unpacked(twos: Twos, n: usize) -> [u8; 5]
     requires { ⌜ twos ≡ packedOf n ⌝ }
     ensures { λ r. ⌜ r ≡ placesOf n ⌝ }
 {
@@ -253,11 +254,12 @@ pub fn unpacked(twos: Twos, n: usize) -> [u8; 5]
     ]
 }
 
-// A number whose five digits are at hand: those from its first one on. How many they are is asked first, so that each stands at a known distance.
-pub fn put_places(five: &[u8; 5], n: usize, out: &mut [u8], at: usize) -> usize
+// A number below 100,000 whose five digits are at hand: those from its first one on. How many they are is asked first, so that each stands at a known
+// distance.
+fn put_places(five: &[u8; 5], n: usize, out: &mut [u8], at: usize) -> usize
     requires { ⌜ now five ≡ placesOf n ⌝ }
     requires { ⌜ at + 5 ≤ length (now out) ⌝ }
-    ensures { λ r. ⌜ Writing 5 (decimalText n) (now (out .entry)) at r (now (out .exit)) ⌝ }
+    ensures { λ r. ⌜ Writing 5 (shortText n) (now (out .entry)) at r (now (out .exit)) ⌝ }
 {
     let all = &five[..];
     if 10000 <= n {
@@ -285,4 +287,68 @@ pub fn put_decimal(n: usize, out: &mut [u8], at: usize) -> usize
     }
     let five = places(n);
     put_places(&five, n, out, at)
+}
+
+// A number of at most ten digits.
+fn put_ten(n: usize, out: &mut [u8], at: usize) -> usize
+    requires { ⌜ n < 10000000000 ⌝ }
+    requires { ⌜ at + 10 ≤ length (now out) ⌝ }
+    ensures { λ r. ⌜ Writing 10 (fivesText 1 n) (now (out .entry)) at r (now (out .exit)) ⌝ }
+{
+    if n < 100000 {
+        return put_decimal(n, out, at);
+    }
+    let next = put_decimal(n / 100000, out, at);
+    let five = places(n);
+    put_bytes(&five, out, next)
+}
+
+// A number of at most fifteen digits.
+fn put_fifteen(n: usize, out: &mut [u8], at: usize) -> usize
+    requires { ⌜ n < 1000000000000000 ⌝ }
+    requires { ⌜ at + 15 ≤ length (now out) ⌝ }
+    ensures { λ r. ⌜ Writing 15 (fivesText 2 n) (now (out .entry)) at r (now (out .exit)) ⌝ }
+{
+    if n < 100000 {
+        return put_decimal(n, out, at);
+    }
+    let next = put_ten(n / 100000, out, at);
+    let five = places(n);
+    put_bytes(&five, out, next)
+}
+
+// A number of which the last four digits are packed, and which may have more than five.
+fn put_long(high: u16, low: u16, n: usize, out: &mut [u8], at: usize) -> usize
+    requires { ⌜ _≡_ {A = Twos} (record { high = high; low = low }) (packedOf n) ⌝ }
+    requires { ⌜ at + widthOf n ≤ length (now out) ⌝ }
+    ensures { λ r. ⌜ Writing (widthOf n) (decimalText n) (now (out .entry)) at r (now (out .exit)) ⌝ }
+{
+    let twos = Twos {
+        high: high,
+        low: low,
+    };
+    let five = unpacked(twos, n);
+    if n < 100000 {
+        return put_places(&five, n, out, at);
+    }
+    let next = put_fifteen(n / 100000, out, at);
+    put_bytes(&five, out, next)
+}
+
+// A number of which the last four digits are packed, the two halves handed over by themselves: as one struct they would be packed once more. Most numbers
+// have no more digits, and for these no other is worked out.
+pub fn put_counted(high: u16, low: u16, n: usize, out: &mut [u8], at: usize) -> usize
+    requires { ⌜ _≡_ {A = Twos} (record { high = high; low = low }) (packedOf n) ⌝ }
+    requires { ⌜ at + widthOf n ≤ length (now out) ⌝ }
+    ensures { λ r. ⌜ Writing (widthOf n) (decimalText n) (now (out .entry)) at r (now (out .exit)) ⌝ }
+{
+    if n < 10000 {
+        let twos = Twos {
+            high: high,
+            low: low,
+        };
+        let five = unpacked(twos, n);
+        return put_places(&five, n, out, at);
+    }
+    put_long(high, low, n, out, at)
 }

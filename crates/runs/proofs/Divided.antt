@@ -25,7 +25,7 @@ first-whole l t w =
     ∙ ap recsOf (append-assoc (take (sizeOf l) l) (drop (sizeOf l) l) t)
     ∙ recs-whole l (drop (sizeOf l) l ++ t) w
 
-taken-first : (n : ℕ) (l t : List ℕ) → recsOf (l ++ t) ≡ wholesIn n l ++ recsOf (leftOver n l ++ t)
+pub taken-first : (n : ℕ) (l t : List ℕ) → recsOf (l ++ t) ≡ wholesIn n l ++ recsOf (leftOver n l ++ t)
 taken-first zero l t = refl
 taken-first (suc n) l t = by (wholeOf l) refl (taken-first n (drop (sizeOf l) l) t)
   where

@@ -10,3 +10,4 @@ pub mod OwnRoom
 pub mod Stepping
 pub mod Turns
 pub mod Divided
+pub mod Wholes

@@ -4,6 +4,7 @@ use Rattle.numbers.specs.Once.{Once}
 use Rattle.runs.proofs.outcome_number
 use Rattle.runs.proofs.outcome_of
 use Rattle.runs.proofs.whole
+use Rattle.runs.proofs.span
 use Rattle.runs.proofs.put_record
 use Rattle.runs.proofs.code
 use Rattle.runs.proofs.refused
@@ -18,6 +19,9 @@ outcome-of-once κs a r r′ w w′ p h h′ = (h ∙ sym h′, refl)
 
 pub whole-once : Once whole.ended whole.Reads.Pre whole.Reads.Learnt
 whole-once κs a r r′ w w′ p h h′ = (h ∙ sym h′, refl)
+
+pub span-once : Once span.ended span.Reads.Pre span.Reads.Learnt
+span-once κs a r r′ w w′ p h h′ = (h ∙ sym h′, refl)
 
 pub put-record-once : Once put_record.ended put_record.Reads.Pre put_record.Reads.Learnt
 put-record-once κs a r r′ w w′ p h h′ = (h .onward ∙ sym (h′ .onward), λ i. (tt, (tt, ((h .written ∙ sym (h′ .written)) i, (tt, tt)))))

@@ -2,7 +2,7 @@
 use mathlib.Core.Path.{_≡_}
 use mathlib.Core.Bool.{false}
 use mathlib.Core.List.{List, [], _∷_, _++_}
-use Prim.Native.Nat.{ℕ, zero, suc, _*_, _≤_}
+use Prim.Native.Nat.{ℕ, zero, suc, _+_, _*_, _≤_}
 use lib.ListN.{length, drop}
 use Rattle.numbers.specs.Choice.{pick}
 use Rattle.runs.specs.Record.{Rec, wholeOf, recOf, sizeOf, recsOf}
@@ -18,6 +18,11 @@ wholesIn (suc n) l = pick (wholeOf l) (recOf l ∷ wholesIn n (drop (sizeOf l) l
 abbrev pub leftOver : ℕ → List ℕ → List ℕ
 leftOver zero l = l
 leftOver (suc n) l = pick (wholeOf l) (leftOver n (drop (sizeOf l) l)) l
+
+-- how many bytes they are
+abbrev pub spanOf : ℕ → List ℕ → ℕ
+spanOf zero l = 0
+spanOf (suc n) l = pick (wholeOf l) (sizeOf l + spanOf n (drop (sizeOf l) l)) 0
 
 -- the records that are answered, read by read: each read joins what was left before it; at the end of input what is left is answered
 abbrev pub answeredIn : ℕ → List ℕ → List (List ℕ) → List Rec

@@ -9,6 +9,7 @@ ghost use Prim.Native.Nat.{_+_, _<_, _≤_};
 ghost use lib.ListN.{length};
 ghost use Rattle.runs.specs.Record.{wholeOf, Recorded};
 ghost use Rattle.runs.specs.Run.{codeOf, outcomeNumber, outcomeOf};
+ghost use Rattle.runs.specs.Divided.{spanOf};
 ghost use Rattle.runs.specs.AnyRecord.{refusedOf, takenRead, frontBy};
 ghost use Rattle.runs.specs.SessionRecord.{toldOf};
 
@@ -54,6 +55,23 @@ pub fn whole(rest: &[u8]) -> bool
     }
     let n = slices::pair(rest, 0) as usize;
     4 + n <= rest.len()
+}
+
+// How many bytes the whole records at the front are, so many records at most.
+pub fn span(bytes: &[u8], most: usize) -> usize
+    ensures { λ r. ⌜ r ≡ spanOf most (now (bytes .entry)) ⌝ }
+{
+    let mut at = 0;
+    let mut n = 0;
+    while n < most {
+        let rest = &bytes[at..];
+        if !whole(rest) {
+            return at;
+        }
+        at = at + (4 + slices::pair(rest, 0) as usize);
+        n += 1;
+    }
+    at
 }
 
 // Writes a record at a place of a lent room, and says where the next one goes.

@@ -8,7 +8,7 @@ use Rattle.runs.specs.Run.{outcomeOf}
 use Rattle.runs.specs.SessionRecord.{didOf}
 use Rattle.session_run.specs.SessionRun.{sessionOf}
 use Rattle.digits.specs.Ascii.{ascii}
-use Rattle.digits.specs.Digits.{hexOf, shownText, decimalText}
+use Rattle.digits.specs.Digits.{hexOf, shownText, shortText, decimalText}
 use Rattle.text.specs.Line.{kindText, replyText, startText, endText}
 use Rattle.text.specs.Text.{headerText, runText}
 use Rattle.session.specs.Session.{sessionText}
@@ -26,5 +26,5 @@ abbrev pub third : List ℕ
 third = ascii "3 ---- 2 -\n"
 
 pub example : sessionText input ≡ headerText ++ (first ++ (second ++ third))
-unfolding runText outcomeOf sessionOf didOf takenOf kindOf recOf sizeOf wholeOf hexOf shownText decimalText kindText replyText startText endText
+unfolding runText outcomeOf sessionOf didOf takenOf kindOf recOf sizeOf wholeOf hexOf shownText shortText decimalText kindText replyText startText endText
 example = refl

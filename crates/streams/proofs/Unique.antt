@@ -1,12 +1,16 @@
--- The contracts of this crate's public functions leave no choice, but for `read_input` and `read_named`, which tell what comes from outside.
+-- The contracts of this crate's public functions leave no choice, but for those that tell what comes from outside.
 use mathlib.Core.Path.{refl, sym, _∙_}
 use Rattle.numbers.specs.Once.{Once}
 use Rattle.streams.proofs.Laws.{same-said, same-room}
+use Rattle.streams.proofs.keep_rest
 use Rattle.streams.proofs.within
 use Rattle.streams.proofs.put_unread
 use Rattle.streams.proofs.put_refused
 use Rattle.streams.proofs.say
 use Rattle.streams.proofs.say_with_file
+
+pub keep-rest-once : Once keep_rest.ended keep_rest.Reads.Pre keep_rest.Reads.Learnt
+keep-rest-once κs a r r′ w w′ p h h′ = (h .counted ∙ sym (h′ .counted), λ i. ((h .written ∙ sym (h′ .written)) i, (tt, (tt, tt))))
 
 pub within-once : Once within.ended within.Reads.Pre within.Reads.Learnt
 within-once κs a r r′ w w′ p h h′ = (h .least ∙ sym (h′ .least), refl)

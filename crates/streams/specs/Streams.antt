@@ -1,11 +1,11 @@
 -- What a program reads, and what it says: one text, on standard output or on standard error.
 use mathlib.Core.Path.{_≡_}
 use mathlib.Core.List.{List, [], _++_}
-use Prim.Native.Nat.{ℕ, _≤_, min}
+use Prim.Native.Nat.{ℕ, _-_, _≤_, min}
 use lib.Dec.{ltb}
 use lib.ListN.{length, take}
 use Rattle.numbers.specs.Choice.{pick}
-use Rattle.slices.specs.Slices.{put}
+use Rattle.slices.specs.Slices.{part, put}
 use Rattle.digits.specs.Ascii.{ascii}
 use Rattle.digits.specs.Digits.{decimalText}
 use Rattle.streams.specs.declared.Stream.{Stream}
@@ -49,3 +49,8 @@ pub record Saying (what : Speech) (before : List ℕ) (said : Said) (after : Lis
   pub stream : said .stream ≡ what .stream
   pub counted : said .count ≡ length (what .text)
   pub written : after ≡ put before 0 (what .text)
+
+-- what stood from one place up to another was moved to the front of the room, and is so many bytes
+pub record RestKept (room : List ℕ) (from end count : ℕ) (after : List ℕ) : Type 0 where
+  pub counted : count ≡ end - from
+  pub written : after ≡ put room 0 (part (end - from) room from)

@@ -8,7 +8,7 @@ ghost use mathlib.Core.Path.{_≡_};
 ghost use Prim.Native.Nat.{_+_, _≤_};
 ghost use lib.ListN.{length};
 ghost use Rattle.digits.specs.Digits.{Writing};
-ghost use Rattle.streams.specs.Streams.{CountWithin, error, unreadText, refusedText, besideText, Saying};
+ghost use Rattle.streams.specs.Streams.{CountWithin, error, unreadText, refusedText, besideText, Saying, RestKept};
 
 // What was read: so many bytes at the front of the room, or a read that failed.
 pub struct Input {
@@ -55,6 +55,36 @@ pub fn read_input(room: &mut [u8]) -> Input
     read_from(STDIN_FILENO, room)
 }
 
+// One read of standard input, of at most so many bytes, into a room from a place on. Where none come the input is at its end, or the read failed.
+pub fn read_some(room: &mut [u8], at: usize, most: usize) -> Input
+    requires { ⌜ at + most ≤ length (now room) ⌝ }
+    ensures { λ r. ⌜ r .count ≤ most ⌝ }
+{
+    let end = at + most;
+    let got = libc::read(STDIN_FILENO, &mut room[at..end]);
+    let count = io::count(got, &room[at..end]);
+    Input {
+        count: count,
+        failed: got < 0,
+    }
+}
+
+// Moves what stands in a room from one place up to another to its front, and says how many bytes it is.
+pub fn keep_rest(room: &mut [u8], from: usize, end: usize) -> usize
+    requires { ⌜ end ≤ length (now room) ⌝ }
+    ensures { λ r. ⌜ RestKept (now (room .entry)) from end r (now (room .exit)) ⌝ }
+{
+    if from == 0 {
+        return end;
+    }
+    let mut i = 0;
+    while from + i < end {
+        room[i] = room[from + i];
+        i += 1;
+    }
+    i
+}
+
 fn say_unread(program: &[u8], name: &[u8]) {
     io::write_all(STDERR_FILENO, program);
     io::write_all(STDERR_FILENO, b": cannot read ");
@@ -84,6 +114,31 @@ pub fn read_named(program: &[u8], word: usize, room: &mut [u8]) -> Input
     let mut name = io::buffer();
     let n = os::arg(word, &mut name);
     let got = read_file(&name[..n], room);
+    if got.failed {
+        say_unread(program, &name[..n]);
+    }
+    got
+}
+
+// The same, but that nothing is read where no file has the name, or the call has no such word.
+pub fn read_kept(program: &[u8], word: usize, room: &mut [u8]) -> Input
+    ensures { λ r. ⌜ r .count ≤ length (now (room .exit)) ⌝ }
+{
+    let mut name = io::buffer();
+    let n = os::arg(word, &mut name);
+    let fd = os::open_read(&name[..n]);
+    if fd < 0 {
+        let missing = os::errno() == libc::ENOENT;
+        if !missing {
+            say_unread(program, &name[..n]);
+        }
+        return Input {
+            count: 0,
+            failed: !missing,
+        };
+    }
+    let got = read_from(fd, room);
+    libc::close(fd);
     if got.failed {
         say_unread(program, &name[..n]);
     }
@@ -128,26 +183,30 @@ pub fn put_refused(number: u8, words: &[u8], room: &mut [u8]) -> Said
     }
 }
 
-fn write_output(name: &[u8], text: &[u8]) {
+fn write_output(name: &[u8], text: &[u8]) -> bool {
     if io::write_all(STDOUT_FILENO, text) {
-        return;
+        return true;
     }
     io::write_all(STDERR_FILENO, name);
     io::write_all(STDERR_FILENO, b": cannot write standard output\n");
+    false
 }
 
-// Writes what is said. Where standard output does not take it, standard error has a line.
-pub fn say(name: &[u8], said: Said, room: &[u8]) {
+// Writes what is said. Where standard output does not take it, standard error has a line. Whether all of it went to standard output, it answers.
+pub fn say_all(name: &[u8], said: Said, room: &[u8]) -> bool {
     let stream = said.stream;
     let count = within(said.count, room);
     match stream {
-        Stream::Output => {
-            write_output(name, &room[..count]);
-        }
+        Stream::Output => write_output(name, &room[..count]),
         Stream::Error => {
             io::write_all(STDERR_FILENO, &room[..count]);
+            false
         }
     }
+}
+
+pub fn say(name: &[u8], said: Said, room: &[u8]) {
+    say_all(name, said, room);
 }
 
 // ---- a file that is written
@@ -285,7 +344,7 @@ fn say_name(program: &[u8], why: &[u8]) -> bool {
 }
 
 // Writes the file that a word of the call names, which is not a link. Where it cannot be written, standard error has a line that says why.
-fn write_named(program: &[u8], word: usize, bytes: &[u8]) -> bool {
+pub fn write_named(program: &[u8], word: usize, bytes: &[u8]) -> bool {
     let mut name = io::buffer();
     let got = os::arg(word, &mut name);
     let cut = os::errno() != 0;

@@ -7,3 +7,4 @@ pub mod Refused
 pub mod Printed
 pub mod AtEnd
 pub mod TakenOut
+pub mod Live

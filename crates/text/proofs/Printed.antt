@@ -19,12 +19,12 @@ use Rattle.text.specs.Text.{headerText, overText, codedText, textOf, run
 use Rattle.text.proofs.Lines.{codes-lines}
 
 -- as many numbers as lines
-codes-length : (ls : List Line) → length (codesOf ls) ≡ length ls
+pub codes-length : (ls : List Line) → length (codesOf ls) ≡ length ls
 codes-length [] = refl
 codes-length (l ∷ ls) = ap suc (codes-length ls)
 
 -- what was put at the front is taken out again
-front : (l vs : List ℕ) (n : ℕ) → n ≡ length vs → length vs ≤ length l → take n (put l 0 vs) ≡ vs
+pub front : (l vs : List ℕ) (n : ℕ) → n ≡ length vs → length vs ≤ length l → take n (put l 0 vs) ≡ vs
 front l vs n e h = rw e (put-read l 0 vs (omega arith))
 
 module _ {S : Type 0} (did : S → ℕ → Rec → Did S) (start : S) (f : Fits did) (s room answers : List ℕ) (r : Result S) (after told : List ℕ) where

@@ -6,6 +6,8 @@ use Rattle.text.proofs.put_fields
 use Rattle.text.proofs.put_done
 use Rattle.text.proofs.put_bare_end
 use Rattle.text.proofs.put_end
+use Rattle.text.proofs.put_codes
+use Rattle.text.proofs.put_header
 use Rattle.text.proofs.report
 use Rattle.text.proofs.put_unrun
 use Rattle.text.proofs.put_meaning
@@ -22,6 +24,12 @@ put-bare-end-once κs a r r′ w w′ p h h′ = (h .onward ∙ sym (h′ .onwar
 
 pub put-end-once : Once put_end.ended put_end.Reads.Pre put_end.Reads.Learnt
 put-end-once κs a r r′ w w′ p h h′ = (h .onward ∙ sym (h′ .onward), λ i. (tt, (tt, ((h .written ∙ sym (h′ .written)) i, (tt, tt)))))
+
+pub put-codes-once : Once put_codes.ended put_codes.Reads.Pre put_codes.Reads.Learnt
+put-codes-once κs a r r′ w w′ p h h′ = (h .onward ∙ sym (h′ .onward), λ i. (tt, (tt, (tt, ((h .written ∙ sym (h′ .written)) i, (tt, tt))))))
+
+pub put-header-once : Once put_header.ended put_header.Reads.Pre put_header.Reads.Learnt
+put-header-once κs a r r′ w w′ p h h′ = (h .onward ∙ sym (h′ .onward), λ i. ((h .written ∙ sym (h′ .written)) i, tt))
 
 pub report-once : Once report.ended report.Reads.Pre report.Reads.Learnt
 report-once κs a r r′ w w′ p h h′ = (h .counted ∙ sym (h′ .counted), λ i. (tt, (tt, (tt, ((h .written ∙ sym (h′ .written)) i, tt)))))

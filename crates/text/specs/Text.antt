@@ -2,13 +2,13 @@
 use mathlib.Core.Path.{_≡_}
 use mathlib.Core.Bool.{Bool}
 use mathlib.Core.List.{List, [], _∷_, _++_}
-use Prim.Native.Nat.{ℕ, _+_, _*_, _/_, _%_, _≤_}
+use Prim.Native.Nat.{ℕ, _+_, _-_, _*_, _/_, _%_, _≤_}
 use lib.Dec.{eqb, leb, ltb}
 use lib.ListN.{length, take, drop}
 use Rattle.numbers.specs.Choice.{pick, both, either}
 use Rattle.slices.specs.Slices.{put}
 use Rattle.digits.specs.Ascii.{ascii}
-use Rattle.digits.specs.Digits.{decimalText}
+use Rattle.digits.specs.Digits.{decimalText, widthOf}
 use Rattle.streams.specs.Streams.{Speech, output, error, refusedText}
 use Rattle.text.specs.Line.{lineText, endText}
 use Rattle.record.specs.declared.Refusal.the-variants.{Order}
@@ -54,6 +54,10 @@ codeAnswer code = code / 65536 % 256
 abbrev pub codeReplied : ℕ → ℕ
 codeReplied code = code / 16777216
 
+-- the digits of the longest number of so many lines, five or all 20
+unfoldable pub lastWidth : ℕ → ℕ → ℕ
+lastWidth first lines = widthOf (first + lines - 1)
+
 -- a line that asks for more reply than is left has what is left
 abbrev pub codesText : ℕ → List ℕ → List ℕ → List ℕ
 codesText number [] replies = []
@@ -66,6 +70,11 @@ codedText Done codes replies = headerText ++ codesText 1 codes replies
 codedText Over codes replies = headerText ++ overText
 
 -- ---- what the code promises
+
+-- the most that lines take that are numbered from a number on, so many, with so many bytes of reply: a number's digits and 12 bytes for each line (4 of its
+-- kind, 3 of its answer, 3 spaces, a dash and the end), and 2 for each byte of the replies
+abbrev pub codesMost : ℕ → ℕ → ℕ → ℕ
+codesMost first lines replied = (lastWidth first lines + 12) * lines + 2 * replied
 
 -- the most that the text can take: the header and the line of answer 1, 17 bytes for each line (5 digits of its number, 4 of its kind, 3 of its answer,
 -- 3 spaces, a dash and the end), and 2 for each byte of the replies

@@ -10,7 +10,7 @@ ghost use lib.ListN.{length, take};
 ghost use Rattle.digits.specs.Digits.{lower, pairsOf, Writing};
 ghost use Rattle.streams.specs.Streams.{Saying, error, refusedText};
 ghost use Rattle.text.specs.Line.{kindText, fieldsText, endText};
-ghost use Rattle.text.specs.Text.{codesText, headerText, overText, codedText, mostOf, fitsOf, Held, endedText, Reporting, unrunSpeech};
+ghost use Rattle.text.specs.Text.{codesMost, codesText, headerText, overText, codedText, mostOf, fitsOf, Held, endedText, Reporting, unrunSpeech};
 ghost use mathlib.Core.List.{_++_};
 ghost use Rattle.text.specs.Text.{imageMeaning, refusedImage, refusedImageText, firstCoded};
 
@@ -74,25 +74,26 @@ pub fn put_end(table: &[u8; 512], reply: &[u8], out: &mut [u8], at: usize) -> us
     digits::put_byte(b'\n', out, next)
 }
 
-// A line's code has its kind, its answer and the length of its reply, which is the next part of the replies. Most codes are below 655360 = 10 * 65536,
-// and have an answer of one digit and no reply; and most of these below 256, which is the kind of a record that is done.
-fn put_codes(codes: &[u64], replies: &[u8], out: &mut [u8], at: usize) -> usize
-    requires { ⌜ length (now codes) ≤ 99999 ⌝ }
-    requires { ⌜ at + (17 * length (now codes) + 2 * length (now replies)) ≤ length (now out) ⌝ }
-    ensures { λ r. ⌜ Writing (17 * length (now (codes .entry)) + 2 * length (now (replies .entry)))
-        (codesText 1 (now (codes .entry)) (now (replies .entry))) (now (out .entry)) at r (now (out .exit)) ⌝ }
+// The lines, numbered from a number on. A line's code has its kind, its answer and the length of its reply, which is the next part of the replies. Most
+// codes are below 655360 = 10 * 65536, and have an answer of one digit and no reply; and most of these below 256, which is the kind of a record that is
+// done.
+pub fn put_codes(first: usize, codes: &[u64], replies: &[u8], out: &mut [u8], at: usize) -> usize
+    requires { ⌜ first + length (now codes) < 18446744073709551616 ⌝ }
+    requires { ⌜ at + codesMost first (length (now codes)) (length (now replies)) ≤ length (now out) ⌝ }
+    ensures { λ r. ⌜ Writing (codesMost first (length (now (codes .entry))) (length (now (replies .entry))))
+        (codesText first (now (codes .entry)) (now (replies .entry))) (now (out .entry)) at r (now (out .exit)) ⌝ }
 {
     let table = digits::lower_pairs();
-    let mut four = digits::packed(1);
+    let mut four = digits::packed(first);
     let mut next = at;
     let mut used = 0;
     let mut i = 0;
     while i < codes.len() {
         let code = codes[i];
+        let number = first + i;
         i += 1;
-        let five = digits::unpacked(four, i);
-        let start = digits::put_places(&five, i, out, next);
-        four = digits::counted_up(i, four);
+        let start = digits::put_counted(four.high, four.low, number, out, next);
+        four = digits::counted_up(number, four);
         if code < 655360 {
             if code < 256 {
                 let end = put_done(&table, code as u8, out, start);
@@ -116,7 +117,7 @@ fn put_codes(codes: &[u64], replies: &[u8], out: &mut [u8], at: usize) -> usize
 
 // ---- the text
 
-fn put_header(out: &mut [u8]) -> usize
+pub fn put_header(out: &mut [u8]) -> usize
     requires { ⌜ 25 ≤ length (now out) ⌝ }
     ensures { λ r. ⌜ Writing 25 headerText (now (out .entry)) 0 r (now (out .exit)) ⌝ }
 {
@@ -138,7 +139,7 @@ fn put_coded(outcome: Outcome, codes: &[u64], replies: &[u8], out: &mut [u8]) ->
     match outcome {
         Outcome::Done => {
             let at = put_header(out);
-            put_codes(codes, replies, out, at)
+            put_codes(1, codes, replies, out, at)
         }
         Outcome::Over => {
             let at = put_header(out);

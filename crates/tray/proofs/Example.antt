@@ -7,7 +7,7 @@ use Rattle.runs.specs.Run.{outcomeOf}
 use Rattle.tray_record.specs.Tray.{trayKindOf, trayDid}
 use Rattle.tray_run.specs.TrayRun.{trayLines}
 use Rattle.digits.specs.Ascii.{ascii}
-use Rattle.digits.specs.Digits.{hexOf, shownText, decimalText}
+use Rattle.digits.specs.Digits.{hexOf, shownText, shortText, decimalText}
 use Rattle.text.specs.Line.{kindText, replyText, startText, endText}
 use Rattle.text.specs.Text.{headerText, runText}
 use Rattle.tray.specs.Tray.{trayText}
@@ -25,5 +25,5 @@ abbrev pub third : List ℕ
 third = ascii "3 ---- 2 -\n"
 
 pub example : trayText input ≡ headerText ++ (first ++ (second ++ third))
-unfolding runText outcomeOf trayLines trayDid trayKindOf recOf sizeOf wholeOf hexOf shownText decimalText kindText replyText startText endText
+unfolding runText outcomeOf trayLines trayDid trayKindOf recOf sizeOf wholeOf hexOf shownText shortText decimalText kindText replyText startText endText
 example = refl

@@ -3,7 +3,7 @@ use Prim.Native.Nat.{_≤_}
 use native.Mathlib.Omega.{arith}
 use denote.Ref.{now}
 use lib.ListN.{drop}
-use Rattle.digits.specs.Digits.{placesOf, decimalText, Writing}
+use Rattle.digits.specs.Digits.{placesOf, shortText, Writing}
 use Rattle.digits.proofs.Laws.{wider, left-out, shown}
 use borrow.Author.Needs.{needs}
 use Rattle.digits.proofs.put_places.Statement.{statement}
@@ -47,7 +47,7 @@ abbrev put-bytes5→start : tie.After-put-bytes5 → tie.Start
 put-bytes5→start c = else1→start (put-bytes5→else4 c .before .before .before)
 
 returns : tie.Need-returns
-unfolding decimalText
+unfolding shortText
 returns c =
     let at-put-bytes = c .before .before in
     let at-start = put-bytes→start at-put-bytes in
@@ -67,7 +67,7 @@ four c =
     rw (at-start .pre .0) at (c .put-bytes2 .ensures)
 
 returns-2 : tie.Need-returns-2
-unfolding decimalText
+unfolding shortText
 returns-2 c =
     let at-put-bytes2 = c .before .before in
     let at-then2 = put-bytes2→then2 at-put-bytes2 in
@@ -77,7 +77,7 @@ returns-2 c =
     (wider (four at-put-bytes2) (omega arith))
 
 returns-3 : tie.Need-returns-3
-unfolding decimalText
+unfolding shortText
 returns-3 c =
     let at-put-bytes3 = c .before .before in
     let at-start = put-bytes3→start at-put-bytes3 in
@@ -86,7 +86,7 @@ returns-3 c =
     (wider (rw (at-start .pre .0) at (at-put-bytes3 .put-bytes3 .ensures)) (omega arith))
 
 returns-4 : tie.Need-returns-4
-unfolding decimalText
+unfolding shortText
 returns-4 c =
     let at-put-bytes4 = c .before .before in
     let at-start = put-bytes4→start at-put-bytes4 in
@@ -95,7 +95,7 @@ returns-4 c =
     (wider (rw (at-start .pre .0) at (at-put-bytes4 .put-bytes4 .ensures)) (omega arith))
 
 returns-5 : tie.Need-returns-5
-unfolding decimalText
+unfolding shortText
 returns-5 c =
     let at-put-bytes5 = c .before .before in
     let at-start = put-bytes5→start at-put-bytes5 in

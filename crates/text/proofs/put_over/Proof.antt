@@ -1,5 +1,5 @@
 -- `text::put_over` meets its contract.
-use Rattle.digits.specs.Digits.{shownText, decimalText}
+use Rattle.digits.specs.Digits.{shownText, shortText, decimalText}
 use Rattle.text.specs.Line.{replyText, endText}
 use Rattle.text.specs.Text.{overText}
 use borrow.Author.Needs.{needs}
@@ -7,7 +7,7 @@ use Rattle.text.proofs.put_over.Statement.{statement}
 use Rattle.text.proofs.put_over.Tie as tie
 
 returns : tie.Need-returns
-unfolding overText decimalText shownText endText replyText
+unfolding overText decimalText shortText shownText endText replyText
 returns c = c .before .before .put-bytes .ensures
 
 pub put-over-spec : {M : Type 1} → statement M

@@ -1,0 +1,70 @@
+-- `runs::span` meets its contract. The invariant: what is behind and what is still ahead make the whole.
+use mathlib.Core.Path.{sym, _∙_}
+use Prim.Native.Nat.{_+_, _-_}
+use native.Mathlib.Omega.{arith}
+use borrow.Author.Tests.{not-true, not-false}
+use denote.Ref.{now}
+use Rattle.runs.proofs.Records.{whole-end}
+use Rattle.runs.proofs.Wholes.{Spanning, spanning, span-more, span-cut, span-full}
+use borrow.Author.Needs.{needs}
+use Rattle.runs.proofs.span.Statement.{statement}
+use Rattle.runs.proofs.span.Tie as tie
+
+abbrev Inv-loop : tie.InvT-loop
+Inv-loop bytes most at₀ n₀ at n = Spanning most bytes n at
+
+abbrev μ-loop : tie.MeasureT-loop
+μ-loop bytes most at₀ n₀ at n = most - n
+
+abbrev turn : tie.Else1 Inv-loop μ-loop → tie.In-loop Inv-loop μ-loop
+turn c = c .before .before .before
+
+-- one record more
+next : (c : tie.After-pair Inv-loop μ-loop) →
+    Spanning (turn (c .before) .before .before .before .args .most) (now (turn (c .before) .before .before .before .args .bytes))
+    (turn (c .before) .before .loop .n + 1) (turn (c .before) .before .loop .at + (4 + c .pair .result))
+next c =
+    let here = turn (c .before) in
+    span-more (here .before .loop .inv) (here .loop-test .taken) (sym (c .before .before .whole .ensures) ∙ not-false _ (c .before .if1 .left))
+    (c .pair .ensures)
+
+loop-holds : tie.Need-loop-holds Inv-loop μ-loop
+loop-holds c = spanning (c .before .args .most) (now (c .before .args .bytes))
+
+returns : tie.Need-returns Inv-loop μ-loop
+returns c =
+    let here = c .before .before .before in
+    span-cut (here .before .loop .inv) (here .loop-test .taken) (sym (c .before .whole .ensures) ∙ not-true _ (c .if1 .taken))
+
+pair-requires : tie.Need-pair-requires Inv-loop μ-loop
+pair-requires c κs = omega (arith, whole-end _ (sym (c .before .whole .ensures) ∙ not-false _ (c .if1 .left)))
+
+add-at-2 : tie.Need-add-at-2 Inv-loop μ-loop
+add-at-2 c = omega (arith, next c .within, turn (c .before) .before .before .before .good)
+
+loop-again : tie.Need-loop-again Inv-loop μ-loop
+loop-again c = next c
+
+returns-2 : tie.Need-returns-2 Inv-loop μ-loop
+returns-2 c = span-full (c .before .loop .inv) (c .loop-test .left)
+
+pub span-spec : {M : Type 1} → statement M
+span-spec =
+    tie.close
+    (tie.spec
+    Inv-loop
+    μ-loop
+    loop-holds
+    (λ c. search needs)
+    (λ c. search needs)
+    (λ c. search needs)
+    (λ c κs. search needs)
+    returns
+    pair-requires
+    (λ c. search needs)
+    (λ c. search needs)
+    add-at-2
+    (λ c. search needs)
+    (λ c. search needs)
+    loop-again
+    returns-2)
