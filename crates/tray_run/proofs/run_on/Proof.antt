@@ -37,32 +37,41 @@ slice-known2→start c = c .before .before .before
 abbrev loop→start : tie.At-loop Inv-loop μ-loop → tie.Start Inv-loop μ-loop
 loop→start c = slice-known2→start (c .before)
 
-abbrev else1→loop : tie.Else1 Inv-loop μ-loop → tie.At-loop Inv-loop μ-loop
-else1→loop c = c .before .before .before
+abbrev whole→loop : tie.After-whole Inv-loop μ-loop → tie.At-loop Inv-loop μ-loop
+whole→loop c = c .before .before
 
 abbrev then1→loop : tie.Then1 Inv-loop μ-loop → tie.At-loop Inv-loop μ-loop
-then1→loop c = c .before .before .before
+then1→loop c = whole→loop (c .before)
 
 abbrev then1→start : tie.Then1 Inv-loop μ-loop → tie.Start Inv-loop μ-loop
 then1→start c = loop→start (then1→loop c)
 
 abbrev else3→loop : tie.Else3 Inv-loop μ-loop → tie.At-loop Inv-loop μ-loop
-else3→loop c = else1→loop (c .before)
+else3→loop c = whole→loop (c .before .before)
 
-abbrev code3→else1 : tie.After-code3 Inv-loop μ-loop → tie.Else1 Inv-loop μ-loop
-code3→else1 c = c .before .before
+abbrev code3→then3 : tie.After-code3 Inv-loop μ-loop → tie.Then3 Inv-loop μ-loop
+code3→then3 c = c .before
+
+abbrev code3→whole : tie.After-code3 Inv-loop μ-loop → tie.After-whole Inv-loop μ-loop
+code3→whole c = code3→then3 c .before .before
 
 abbrev code3→loop : tie.After-code3 Inv-loop μ-loop → tie.At-loop Inv-loop μ-loop
-code3→loop c = else1→loop (code3→else1 c)
+code3→loop c = whole→loop (code3→whole c)
 
 abbrev code3→start : tie.After-code3 Inv-loop μ-loop → tie.Start Inv-loop μ-loop
 code3→start c = loop→start (code3→loop c)
 
+abbrev slot→then1 : tie.After-slot Inv-loop μ-loop → tie.Then1 Inv-loop μ-loop
+slot→then1 c = c .before .before
+
 abbrev slot→loop : tie.After-slot Inv-loop μ-loop → tie.At-loop Inv-loop μ-loop
-slot→loop c = then1→loop (c .before .before)
+slot→loop c = then1→loop (slot→then1 c)
+
+abbrev image-at→slot : tie.After-image-at Inv-loop μ-loop → tie.After-slot Inv-loop μ-loop
+image-at→slot c = c .before
 
 abbrev joined2→slot : tie.Joined2 Inv-loop μ-loop → tie.After-slot Inv-loop μ-loop
-joined2→slot c = c .before .before
+joined2→slot c = image-at→slot (c .before)
 
 abbrev joined2→loop : tie.Joined2 Inv-loop μ-loop → tie.At-loop Inv-loop μ-loop
 joined2→loop c = slot→loop (joined2→slot c)
@@ -70,77 +79,95 @@ joined2→loop c = slot→loop (joined2→slot c)
 abbrev joined2→start : tie.Joined2 Inv-loop μ-loop → tie.Start Inv-loop μ-loop
 joined2→start c = loop→start (joined2→loop c)
 
+abbrev then2→image-at : tie.Then2 Inv-loop μ-loop → tie.After-image-at Inv-loop μ-loop
+then2→image-at c = c .before
+
+abbrev commons→then2 : tie.After-commons Inv-loop μ-loop → tie.Then2 Inv-loop μ-loop
+commons→then2 c = c .before
+
 abbrev commons→image-at : tie.After-commons Inv-loop μ-loop → tie.After-image-at Inv-loop μ-loop
-commons→image-at c = c .before .before
+commons→image-at c = then2→image-at (commons→then2 c)
 
 abbrev commons→loop : tie.After-commons Inv-loop μ-loop → tie.At-loop Inv-loop μ-loop
-commons→loop c = slot→loop (c .before .before .before)
+commons→loop c = slot→loop (image-at→slot (commons→image-at c))
 
 abbrev commons→start : tie.After-commons Inv-loop μ-loop → tie.Start Inv-loop μ-loop
 commons→start c = loop→start (commons→loop c)
 
 abbrev front→slot : tie.After-front Inv-loop μ-loop → tie.After-slot Inv-loop μ-loop
-front→slot c = c .before .before .before
+front→slot c = joined2→slot (c .before)
 
 abbrev front→then1 : tie.After-front Inv-loop μ-loop → tie.Then1 Inv-loop μ-loop
-front→then1 c = front→slot c .before .before
+front→then1 c = slot→then1 (front→slot c)
 
 abbrev front→loop : tie.After-front Inv-loop μ-loop → tie.At-loop Inv-loop μ-loop
-front→loop c = then1→loop (front→then1 c)
+front→loop c = slot→loop (front→slot c)
 
 abbrev front→start : tie.After-front Inv-loop μ-loop → tie.Start Inv-loop μ-loop
-front→start c = loop→start (front→loop c)
+front→start c = then1→start (front→then1 c)
+
+abbrev code→front : tie.After-code Inv-loop μ-loop → tie.After-front Inv-loop μ-loop
+code→front c = c .before
 
 abbrev code→then1 : tie.After-code Inv-loop μ-loop → tie.Then1 Inv-loop μ-loop
-code→then1 c = front→then1 (c .before)
+code→then1 c = front→then1 (code→front c)
 
 abbrev code→loop : tie.After-code Inv-loop μ-loop → tie.At-loop Inv-loop μ-loop
-code→loop c = then1→loop (code→then1 c)
+code→loop c = front→loop (code→front c)
 
 abbrev code→start : tie.After-code Inv-loop μ-loop → tie.Start Inv-loop μ-loop
-code→start c = loop→start (code→loop c)
+code→start c = front→start (code→front c)
 
 abbrev known-arg→then2 : tie.After-known-arg Inv-loop μ-loop → tie.Then2 Inv-loop μ-loop
-known-arg→then2 c = c .before .before
+known-arg→then2 c = commons→then2 (c .before)
+
+abbrev known-arg→image-at : tie.After-known-arg Inv-loop μ-loop → tie.After-image-at Inv-loop μ-loop
+known-arg→image-at c = then2→image-at (known-arg→then2 c)
 
 abbrev known-arg→loop : tie.After-known-arg Inv-loop μ-loop → tie.At-loop Inv-loop μ-loop
-known-arg→loop c = commons→loop (c .before)
+known-arg→loop c = slot→loop (image-at→slot (known-arg→image-at c))
 
 abbrev known-arg→start : tie.After-known-arg Inv-loop μ-loop → tie.Start Inv-loop μ-loop
 known-arg→start c = loop→start (known-arg→loop c)
 
+abbrev match-came→code : tie.At-match-came Inv-loop μ-loop → tie.After-code Inv-loop μ-loop
+match-came→code c = c .before
+
 abbrev match-came→front : tie.At-match-came Inv-loop μ-loop → tie.After-front Inv-loop μ-loop
-match-came→front c = c .before .before
+match-came→front c = code→front (match-came→code c)
 
 abbrev match-came→slot : tie.At-match-came Inv-loop μ-loop → tie.After-slot Inv-loop μ-loop
 match-came→slot c = front→slot (match-came→front c)
 
 abbrev match-came→then1 : tie.At-match-came Inv-loop μ-loop → tie.Then1 Inv-loop μ-loop
-match-came→then1 c = front→then1 (match-came→front c)
+match-came→then1 c = code→then1 (match-came→code c)
 
 abbrev match-came→loop : tie.At-match-came Inv-loop μ-loop → tie.At-loop Inv-loop μ-loop
-match-came→loop c = then1→loop (match-came→then1 c)
+match-came→loop c = code→loop (match-came→code c)
 
 abbrev match-came→start : tie.At-match-came Inv-loop μ-loop → tie.Start Inv-loop μ-loop
-match-came→start c = loop→start (match-came→loop c)
+match-came→start c = code→start (match-came→code c)
 
 abbrev asked→front : tie.After-asked Inv-loop μ-loop → tie.After-front Inv-loop μ-loop
-asked→front c = c .before .before .before
+asked→front c = code→front (c .before .before)
 
-abbrev asked→slot : tie.After-asked Inv-loop μ-loop → tie.After-slot Inv-loop μ-loop
-asked→slot c = front→slot (asked→front c)
+abbrev known-told→asked : tie.After-known-told Inv-loop μ-loop → tie.After-asked Inv-loop μ-loop
+known-told→asked c = c .before
 
 abbrev event→asked : tie.After-event Inv-loop μ-loop → tie.After-asked Inv-loop μ-loop
-event→asked c = c .before .before .before
+event→asked c = known-told→asked (c .before .before)
 
 abbrev event2→slot : tie.After-event2 Inv-loop μ-loop → tie.After-slot Inv-loop μ-loop
-event2→slot c = asked→slot (c .before .before .before)
+event2→slot c = front→slot (asked→front (known-told→asked (c .before .before)))
 
 abbrev event3→asked : tie.After-event3 Inv-loop μ-loop → tie.After-asked Inv-loop μ-loop
-event3→asked c = c .before .before .before
+event3→asked c = known-told→asked (c .before .before)
+
+abbrev known-told2→event : tie.After-known-told2 Inv-loop μ-loop → tie.After-event Inv-loop μ-loop
+known-told2→event c = c .before
 
 abbrev known-told2→asked : tie.After-known-told2 Inv-loop μ-loop → tie.After-asked Inv-loop μ-loop
-known-told2→asked c = event→asked (c .before)
+known-told2→asked c = event→asked (known-told2→event c)
 
 abbrev known-told2→front : tie.After-known-told2 Inv-loop μ-loop → tie.After-front Inv-loop μ-loop
 known-told2→front c = asked→front (known-told2→asked c)
@@ -149,10 +176,13 @@ abbrev known-told2→then1 : tie.After-known-told2 Inv-loop μ-loop → tie.Then
 known-told2→then1 c = front→then1 (known-told2→front c)
 
 abbrev known-told2→loop : tie.After-known-told2 Inv-loop μ-loop → tie.At-loop Inv-loop μ-loop
-known-told2→loop c = then1→loop (known-told2→then1 c)
+known-told2→loop c = front→loop (known-told2→front c)
+
+abbrev pack-joined-arg→event : tie.After-pack-joined-arg Inv-loop μ-loop → tie.After-event Inv-loop μ-loop
+pack-joined-arg→event c = known-told2→event (c .before)
 
 abbrev pack-joined-arg→asked : tie.After-pack-joined-arg Inv-loop μ-loop → tie.After-asked Inv-loop μ-loop
-pack-joined-arg→asked c = known-told2→asked (c .before)
+pack-joined-arg→asked c = event→asked (pack-joined-arg→event c)
 
 abbrev pack-joined-arg→front : tie.After-pack-joined-arg Inv-loop μ-loop → tie.After-front Inv-loop μ-loop
 pack-joined-arg→front c = asked→front (pack-joined-arg→asked c)
@@ -173,16 +203,7 @@ abbrev struct-known→then1 : tie.After-struct-known Inv-loop μ-loop → tie.Th
 struct-known→then1 c = front→then1 (struct-known→front c)
 
 abbrev struct-known→loop : tie.After-struct-known Inv-loop μ-loop → tie.At-loop Inv-loop μ-loop
-struct-known→loop c = then1→loop (struct-known→then1 c)
-
-abbrev change→slot : tie.After-change Inv-loop μ-loop → tie.After-slot Inv-loop μ-loop
-change→slot c = event2→slot (c .before .before .before)
-
-abbrev change2→slot : tie.After-change2 Inv-loop μ-loop → tie.After-slot Inv-loop μ-loop
-change2→slot c = event2→slot (c .before .before .before)
-
-abbrev change3→slot : tie.After-change3 Inv-loop μ-loop → tie.After-slot Inv-loop μ-loop
-change3→slot c = event2→slot (c .before .before .before)
+struct-known→loop c = front→loop (struct-known→front c)
 
 abbrev enum-told2→slot : tie.After-enum-told2 Inv-loop μ-loop → tie.After-slot Inv-loop μ-loop
 enum-told2→slot c = event2→slot (c .before .before .before)
@@ -191,13 +212,13 @@ abbrev transacted-arg→loop : tie.After-transacted-arg Inv-loop μ-loop → tie
 transacted-arg→loop c = struct-known→loop (c .before)
 
 abbrev known-told4→slot : tie.After-known-told4 Inv-loop μ-loop → tie.After-slot Inv-loop μ-loop
-known-told4→slot c = change→slot (c .before)
+known-told4→slot c = event2→slot (c .before .before .before .before)
 
 abbrev known-told5→slot : tie.After-known-told5 Inv-loop μ-loop → tie.After-slot Inv-loop μ-loop
-known-told5→slot c = change2→slot (c .before)
+known-told5→slot c = event2→slot (c .before .before .before .before)
 
 abbrev known-told6→slot : tie.After-known-told6 Inv-loop μ-loop → tie.After-slot Inv-loop μ-loop
-known-told6→slot c = change3→slot (c .before)
+known-told6→slot c = event2→slot (c .before .before .before .before)
 
 abbrev old-label→slot : tie.After-old-label Inv-loop μ-loop → tie.After-slot Inv-loop μ-loop
 old-label→slot c = enum-told2→slot (c .before)
@@ -238,9 +259,6 @@ convert→slot c = old-meter2→slot (c .before)
 abbrev read→slot : tie.After-read Inv-loop μ-loop → tie.After-slot Inv-loop μ-loop
 read→slot c = old-meter→slot (c .before)
 
-abbrev room→event3 : tie.After-room Inv-loop μ-loop → tie.After-event3 Inv-loop μ-loop
-room→event3 c = transacted-arg2→event3 (c .before .before)
-
 abbrev sample→slot : tie.After-sample Inv-loop μ-loop → tie.After-slot Inv-loop μ-loop
 sample→slot c = old-meter3→slot (c .before)
 
@@ -248,7 +266,7 @@ abbrev restarted→slot : tie.After-restarted Inv-loop μ-loop → tie.After-slo
 restarted→slot c = old-label→slot (c .before .before .before)
 
 abbrev struct-known2→event3 : tie.After-struct-known2 Inv-loop μ-loop → tie.After-event3 Inv-loop μ-loop
-struct-known2→event3 c = room→event3 (c .before .before)
+struct-known2→event3 c = transacted-arg2→event3 (c .before .before .before .before)
 
 abbrev struct-known2→asked : tie.After-struct-known2 Inv-loop μ-loop → tie.After-asked Inv-loop μ-loop
 struct-known2→asked c = event3→asked (struct-known2→event3 c)
@@ -260,7 +278,7 @@ abbrev struct-known2→loop : tie.After-struct-known2 Inv-loop μ-loop → tie.A
 struct-known2→loop c = front→loop (struct-known2→front c)
 
 abbrev struct-known2→start : tie.After-struct-known2 Inv-loop μ-loop → tie.Start Inv-loop μ-loop
-struct-known2→start c = loop→start (struct-known2→loop c)
+struct-known2→start c = front→start (struct-known2→front c)
 
 -- some bytes are left where the loop goes on
 more : (c : tie.Then1 Inv-loop μ-loop) → then1→loop c .loop .at < length (now (then1→start c .args .bytes))
@@ -297,41 +315,42 @@ module _ (c : tie.At-match-came Inv-loop μ-loop) where
 
   turned-none : First (c .match .came) → turn
   turned-none w =
-      turn-idle (at-front (match-came→front c)) (match-came→loop c .loop .inv .wf) (w .1 .given .1) (w .3) (w .2) (w .4) (w .5 ∙ c .before .code .ensures)
+      turn-idle (at-front (match-came→front c)) (match-came→loop c .loop .inv .wf) (w .1 .given .1) (w .3) (w .2) (w .4)
+      (w .5 ∙ match-came→code c .code .ensures)
 
   turned-image : (x : Later (c .match .came)) → First x → turn
   turned-image x w =
       let f = at-front (match-came→front c) in
       turn-image f (match-came→loop c .loop .inv .wf) (ran ofTray f (w .1 .given .1 ∙ ap Run (w .4 .given .1))) (w .7 .ensures .1) (w .7 .ensures .0)
-      (w .9) (w .8) (w .10) (w .11 ∙ c .before .code .ensures)
+      (w .9) (w .8) (w .10) (w .11 ∙ match-came→code c .code .ensures)
 
   turned-reading : (x : Later (c .match .came)) (y : Later x) → First y → turn
   turned-reading x y w =
       let f = at-front (match-came→front c) in
       turn-meter f (match-came→loop c .loop .inv .wf) (ran ofTray f (w .1 .given .1 ∙ ap Run (w .4 .given .1 ∙ ap Change (w .7 .given .1))))
       (match-came→slot c .slot .ensures .0) _ (reading-by _ _) _ (w .10 .ensures .1) (w .10 .ensures .0) (w .12) (w .11) (w .13)
-      (w .14 ∙ c .before .code .ensures)
+      (w .14 ∙ match-came→code c .code .ensures)
 
   turned-conversion : (x : Later (c .match .came)) (y : Later x) (z : Later y) → First z → turn
   turned-conversion x y z w =
       let f = at-front (match-came→front c) in
       turn-meter f (match-came→loop c .loop .inv .wf) (ran ofTray f (w .1 .given .1 ∙ ap Run (w .4 .given .1 ∙ ap Change (w .7 .given .1))))
       (match-came→slot c .slot .ensures .0) _ (conversion-by _) _ (w .10 .ensures .1) (w .10 .ensures .0) (w .12) (w .11) (w .13)
-      (w .14 ∙ c .before .code .ensures)
+      (w .14 ∙ match-came→code c .code .ensures)
 
   turned-sample : (x : Later (c .match .came)) (y : Later x) (z : Later y) (v : Later z) → First v → turn
   turned-sample x y z v w =
       let f = at-front (match-came→front c) in
       turn-meter f (match-came→loop c .loop .inv .wf) (ran ofTray f (w .1 .given .1 ∙ ap Run (w .4 .given .1 ∙ ap Change (w .7 .given .1))))
       (match-came→slot c .slot .ensures .0) _ (sample-by _ _) _ (w .10 .ensures .1) (w .10 .ensures .0) (w .12) (w .11) (w .13)
-      (w .14 ∙ c .before .code .ensures)
+      (w .14 ∙ match-came→code c .code .ensures)
 
   turned-power-on : (x : Later (c .match .came)) (y : Later x) (z : Later y) (v : Later z) (u : Later v) → First u → turn
   turned-power-on x y z v u w =
       let f = at-front (match-came→front c) in
       turn-powered f (match-came→loop c .loop .inv .wf) (ran ofTray f (w .1 .given .1 ∙ ap Run (w .4 .given .1 ∙ ap Change (w .7 .given .1))))
       (match-came→slot c .slot .ensures .0) refl _ _ (w .11 .ensures .1) (w .10 .ensures) (w .11 .ensures .0) (w .13) (w .12) (w .14)
-      (w .15 ∙ c .before .code .ensures)
+      (w .15 ∙ match-came→code c .code .ensures)
 
   turned-transaction : (x : Later (c .match .came)) (y : Later x) (z : Later y) (v : Later z) (u : Later v) → Later u → turn
   turned-transaction x y z v u w =
@@ -358,7 +377,7 @@ sub-known c =
       arith,
       image-long
           (part (length (now (commons→start c .args .bytes)) - commons→loop c .loop .at) (now (commons→start c .args .bytes))
-          (commons→loop c .loop .at)) (sym (commons→image-at c .image-at .ensures) ∙ c .before .if2 .taken),
+          (commons→loop c .loop .at)) (sym (commons→image-at c .image-at .ensures) ∙ commons→then2 c .if2 .taken),
     )
 
 part-known-start : tie.Need-part-known-start Inv-loop μ-loop
@@ -367,7 +386,7 @@ part-known-start c =
       arith,
       image-long
           (part (length (now (commons→start c .args .bytes)) - commons→loop c .loop .at) (now (commons→start c .args .bytes))
-          (commons→loop c .loop .at)) (sym (commons→image-at c .image-at .ensures) ∙ c .before .if2 .taken),
+          (commons→loop c .loop .at)) (sym (commons→image-at c .image-at .ensures) ∙ commons→then2 c .if2 .taken),
     )
 
 part-known-end : tie.Need-part-known-end Inv-loop μ-loop
@@ -376,7 +395,7 @@ part-known-end c =
       arith,
       image-long
           (part (length (now (commons→start c .args .bytes)) - commons→loop c .loop .at) (now (commons→start c .args .bytes))
-          (commons→loop c .loop .at)) (sym (commons→image-at c .image-at .ensures) ∙ c .before .if2 .taken),
+          (commons→loop c .loop .at)) (sym (commons→image-at c .image-at .ensures) ∙ commons→then2 c .if2 .taken),
     )
 
 known-requires : tie.Need-known-requires Inv-loop μ-loop
@@ -385,7 +404,7 @@ known-requires c κs =
     let l = part (length s - known-arg→loop c .loop .at) s (known-arg→loop c .loop .at) in (
       known-arg→loop c .loop .inv .wf .few,
       length-take-le 8 (drop 4 l)
-          (omega (arith, length-drop 4 l, image-long l (sym (known-arg→then2 c .before .image-at .ensures) ∙ known-arg→then2 c .if2 .taken))),
+          (omega (arith, length-drop 4 l, image-long l (sym (known-arg→image-at c .image-at .ensures) ∙ known-arg→then2 c .if2 .taken))),
     )
 
 sub-front : tie.Need-sub-front Inv-loop μ-loop
@@ -395,7 +414,7 @@ add-at : tie.Need-add-at Inv-loop μ-loop
 add-at c =
     omega (
       arith,
-      front-within ofTray trayDid did-same TrayWF (code→loop c .loop .inv) (more (code→then1 c)) (at-front (c .before)) .0,
+      front-within ofTray trayDid did-same TrayWF (code→loop c .loop .inv) (more (code→then1 c)) (at-front (code→front c)) .0,
       code→loop c .loop .inv .going .at-fits,
       code→start c .pre .1 .0,
     )
@@ -405,7 +424,7 @@ sub-pack-joined c = omega (arith, ran ofTray (at-front (known-told2→front c)) 
 
 part-pack-joined-start : tie.Need-part-pack-joined-start Inv-loop μ-loop
 part-pack-joined-start c =
-    omega (arith, ran ofTray (at-front (known-told2→front c)) (known-told2→asked c .asked .given .1 ∙ ap Run (c .before .event .given .1)) .head)
+    omega (arith, ran ofTray (at-front (known-told2→front c)) (known-told2→asked c .asked .given .1 ∙ ap Run (known-told2→event c .event .given .1)) .head)
 
 part-pack-joined-end : tie.Need-part-pack-joined-end Inv-loop μ-loop
 part-pack-joined-end c =
@@ -413,7 +432,7 @@ part-pack-joined-end c =
 
 pack-joined-requires : tie.Need-pack-joined-requires Inv-loop μ-loop
 pack-joined-requires c κs =
-    let x = ran ofTray (at-front (pack-joined-arg→front c)) (pack-joined-arg→asked c .asked .given .1 ∙ ap Run (c .before .before .event .given .1)) in
+    let x = ran ofTray (at-front (pack-joined-arg→front c)) (pack-joined-arg→asked c .asked .given .1 ∙ ap Run (pack-joined-arg→event c .event .given .1)) in
     (pack-joined-arg→loop c .loop .inv .wf, ran-taking x .1, ran-taking x .2)
 
 mul-old-meter : tie.Need-mul-old-meter Inv-loop μ-loop
@@ -588,15 +607,15 @@ loop-again c =
 mul-answers-2 : tie.Need-mul-answers-2 Inv-loop μ-loop
 mul-answers-2 c =
     let l = code3→loop c .loop in
-    omega (arith, l .inv .going .slots (c .before .if3 .taken), l .inv .going .at-fits, code3→start c .pre .1 .0)
+    omega (arith, l .inv .going .slots (code3→then3 c .if3 .taken), l .inv .going .at-fits, code3→start c .pre .1 .0)
 
 slice-write-answers-2 : tie.Need-slice-write-answers-2 Inv-loop μ-loop
-slice-write-answers-2 c = going-held trayDid _ (code3→loop c .loop .inv .going) (c .before .if3 .taken) (code3→start c .pre .1 .1)
+slice-write-answers-2 c = going-held trayDid _ (code3→loop c .loop .inv .going) (code3→then3 c .if3 .taken) (code3→start c .pre .1 .1)
 
 add-lines-2 : tie.Need-add-lines-2 Inv-loop μ-loop
 add-lines-2 c =
     let l = code3→loop c .loop in
-    omega (arith, l .inv .going .slots (c .before .if3 .taken), l .inv .going .at-fits, code3→start c .pre .1 .0)
+    omega (arith, l .inv .going .slots (code3→then3 c .if3 .taken), l .inv .going .at-fits, code3→start c .pre .1 .0)
 
 same-length-2 : tie.Need-same-length-2 Inv-loop μ-loop
 same-length-2 c =
@@ -605,8 +624,8 @@ same-length-2 c =
 
 returns : tie.Need-returns Inv-loop μ-loop
 returns c = (
-  ended-cut ofTray trayDid did-same TrayWF did-fits tray-replying (code3→loop c .loop .inv) (c .before .if3 .taken)
-      (sym (code3→else1 c .before .whole .ensures) ∙ code3→else1 c .if1 .left) (c .code3 .ensures),
+  ended-cut ofTray trayDid did-same TrayWF did-fits tray-replying (code3→loop c .loop .inv) (code3→then3 c .if3 .taken)
+      (sym (code3→whole c .whole .ensures) ∙ code3→then3 c .before .if1 .left) (c .code3 .ensures),
   code3→loop c .loop .inv .wf,
 )
 
