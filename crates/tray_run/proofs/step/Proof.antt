@@ -17,23 +17,47 @@ use Rattle.tray_run.proofs.step.Statement.{statement}
 use Rattle.tray_run.proofs.step.Tie as tie
 
 -- places: `a→b` leads from the record of the place a back to that of the place b
-abbrev whole→known : tie.After-whole → tie.After-shared-slice-known
-whole→known c = c .before .before
+abbrev whole→shared-slice-known : tie.After-whole → tie.After-shared-slice-known
+whole→shared-slice-known c = c .before .before
+
+abbrev else1→whole : tie.Else1 → tie.After-whole
+else1→whole c = c .before
+
+abbrev else1→start : tie.Else1 → tie.Start
+else1→start c = whole→shared-slice-known (else1→whole c) .before
+
+abbrev then1→shared-slice-known : tie.Then1 → tie.After-shared-slice-known
+then1→shared-slice-known c = whole→shared-slice-known (c .before)
 
 abbrev then1→start : tie.Then1 → tie.Start
-then1→start c = whole→known (c .before) .before
+then1→start c = then1→shared-slice-known c .before
+
+abbrev pair→then1 : tie.After-pair → tie.Then1
+pair→then1 c = c .before
 
 abbrev pair→start : tie.After-pair → tie.Start
-pair→start c = then1→start (c .before)
+pair→start c = then1→start (pair→then1 c)
+
+abbrev run-on-arg→pair : tie.After-run-on-arg → tie.After-pair
+run-on-arg→pair c = c .before
+
+abbrev run-on-arg→then1 : tie.After-run-on-arg → tie.Then1
+run-on-arg→then1 c = pair→then1 (run-on-arg→pair c)
+
+abbrev run-on-arg→start : tie.After-run-on-arg → tie.Start
+run-on-arg→start c = pair→start (run-on-arg→pair c)
 
 abbrev answers→pair : tie.After-answers → tie.After-pair
-answers→pair c = c .before .before .before
+answers→pair c = run-on-arg→pair (c .before .before)
 
 abbrev answers→start : tie.After-answers → tie.Start
 answers→start c = pair→start (answers→pair c)
 
-abbrev end→run-on : tie.After-after → tie.After-run-on
-end→run-on c = c .before .before .before .before
+abbrev run-on→pair : tie.After-run-on → tie.After-pair
+run-on→pair c = answers→pair (c .before)
+
+abbrev after→run-on : tie.After-after → tie.After-run-on
+after→run-on c = c .before .before .before .before
 
 -- a whole record stands at the front
 is-whole : (c : tie.Then1) → wholeOf (now (then1→start c .args .bytes)) ≡ true
@@ -48,24 +72,24 @@ pair-requires c κs = omega (arith, whole-head (now (then1→start c .args .byte
 
 slice-aggregate-run-on : tie.Need-slice-aggregate-run-on
 slice-aggregate-run-on c =
-    let bytes = now (pair→start (c .before) .args .bytes) in
-    sym (length-take-le _ bytes (omega (arith, ends (c .before), whole-end bytes (is-whole (c .before .before)))))
+    let bytes = now (run-on-arg→start c .args .bytes) in
+    sym (length-take-le _ bytes (omega (arith, ends (run-on-arg→pair c), whole-end bytes (is-whole (run-on-arg→then1 c)))))
 
 run-on-requires : tie.Need-run-on-requires
 run-on-requires c κs =
     let pair = answers→pair c in
     let bytes = now (answers→start c .args .bytes) in
-    let long = length-take-le (4 + pair .pair .result) bytes (omega (arith, ends pair, whole-end bytes (is-whole (pair .before)))) in (
+    let long = length-take-le (4 + pair .pair .result) bytes (omega (arith, ends pair, whole-end bytes (is-whole (pair→then1 pair)))) in (
       answers→start c .pre,
-      (omega (arith, long), one-line bytes _ (is-whole (pair .before)) (ends pair)),
+      (omega (arith, long), one-line bytes _ (is-whole (pair→then1 pair)) (ends pair)),
     )
 
 returns : tie.Need-returns
 returns c =
-    let ran = end→run-on c in
-    let pair = answers→pair (ran .before) in
-    let first = pair .before in (
-      stepped-whole trayDid did-fits (is-whole first) (ends pair) (λ i. whole→known (first .before) .shared-slice-known .given i .fits)
+    let ran = after→run-on c in
+    let pair = run-on→pair ran in
+    let first = pair→then1 pair in (
+      stepped-whole trayDid did-fits (is-whole first) (ends pair) (λ i. then1→shared-slice-known first .shared-slice-known .given i .fits)
           (ran .run-on .ensures .0),
       ran .run-on .ensures .1,
     )
@@ -76,8 +100,8 @@ cut-idle σ room = refl
 
 returns-2 : tie.Need-returns-2
 returns-2 c = (
-  stepped-cut trayDid did-fits (cut-idle _ _) (sym (c .before .whole .ensures) ∙ c .if1 .left),
-  whole→known (c .before) .before .pre,
+  stepped-cut trayDid did-fits (cut-idle _ _) (sym (else1→whole c .whole .ensures) ∙ c .if1 .left),
+  else1→start c .pre,
 )
 
 pub step-spec : {M : Type 1} → statement M

@@ -12,17 +12,23 @@ use Rattle.tray_run.proofs.take_out.Tie as tie
 abbrev and→start : tie.After-and → tie.Start
 and→start c = c .before .before .before
 
-abbrev meters→wide : tie.After-meters → tie.After-wide
-meters→wide c = c .before .before .before
+abbrev then1→and : tie.Then1 → tie.After-and
+then1→and c = c .before
+
+abbrev taken-number2→else1 : tie.After-taken-number2 → tie.Else1
+taken-number2→else1 c = c .before
+
+abbrev wide→then1 : tie.After-wide → tie.Then1
+wide→then1 c = c .before
 
 abbrev sized→wide : tie.After-sized → tie.After-wide
-sized→wide c = meters→wide (c .before)
+sized→wide c = c .before .before .before .before
 
 abbrev sized→then1 : tie.After-sized → tie.Then1
-sized→then1 c = sized→wide c .before
+sized→then1 c = wide→then1 (sized→wide c)
 
 abbrev sized→and : tie.After-sized → tie.After-and
-sized→and c = sized→then1 c .before
+sized→and c = then1→and (sized→then1 c)
 
 abbrev sized→start : tie.After-sized → tie.Start
 sized→start c = and→start (sized→and c)
@@ -31,10 +37,10 @@ abbrev common→wide : tie.After-common → tie.After-wide
 common→wide c = sized→wide (c .before)
 
 abbrev common→then1 : tie.After-common → tie.Then1
-common→then1 c = sized→then1 (c .before)
+common→then1 c = wide→then1 (common→wide c)
 
 abbrev common→and : tie.After-common → tie.After-and
-common→and c = sized→and (c .before)
+common→and c = then1→and (common→then1 c)
 
 abbrev common→start : tie.After-common → tie.Start
 common→start c = and→start (common→and c)
@@ -43,13 +49,28 @@ abbrev label→wide : tie.After-label → tie.After-wide
 label→wide c = common→wide (c .before)
 
 abbrev label→then1 : tie.After-label → tie.Then1
-label→then1 c = common→then1 (c .before)
+label→then1 c = wide→then1 (label→wide c)
 
 abbrev label→and : tie.After-label → tie.After-and
-label→and c = common→and (c .before)
+label→and c = then1→and (label→then1 c)
 
 abbrev label→start : tie.After-label → tie.Start
 label→start c = and→start (label→and c)
+
+abbrev image-out→label : tie.After-image-out → tie.After-label
+image-out→label c = c .before .before .before
+
+abbrev image-out→sized : tie.After-image-out → tie.After-sized
+image-out→sized c = image-out→label c .before .before
+
+abbrev slice-known2→image-out : tie.After-slice-known2 → tie.After-image-out
+slice-known2→image-out c = c .before .before
+
+abbrev then2→image-out : tie.Then2 → tie.After-image-out
+then2→image-out c = slice-known2→image-out (c .before)
+
+abbrev taken-number→image-out : tie.After-taken-number → tie.After-image-out
+taken-number→image-out c = slice-known2→image-out (c .before .before)
 
 and-requires : tie.Need-and-requires
 and-requires c κs = search needs
@@ -101,14 +122,12 @@ same-length c = search needs
 
 returns : tie.Need-returns
 returns c =
-    let at-image-out = c .before .before .before in
-    let at-label = at-image-out .before .before .before in
-    let at-sized = at-label .before .before in
-    let at-commons = at-sized .before .before .before in
-    let at-wide = at-commons .before in
-    let at-then1 = at-wide .before in
-    let at-and = at-then1 .before in
-    let at-start = at-and .before .before .before in
+    let at-image-out = then2→image-out c in
+    let at-sized = image-out→sized at-image-out in
+    let at-wide = sized→wide at-sized in
+    let at-then1 = wide→then1 at-wide in
+    let at-and = then1→and at-then1 in
+    let at-start = and→start at-and in
     let a = at-start .args in
     let i = at-wide .wide .result in
     let inside : i < 8 = omega
@@ -125,15 +144,12 @@ same-length-2 c = search needs
 
 returns-2 : tie.Need-returns-2
 returns-2 c =
-    let at-room = c .before .before .before in
-    let at-image-out = at-room .before in
-    let at-label = at-image-out .before .before .before in
-    let at-sized = at-label .before .before in
-    let at-commons = at-sized .before .before .before in
-    let at-wide = at-commons .before in
-    let at-then1 = at-wide .before in
-    let at-and = at-then1 .before in
-    let at-start = at-and .before .before .before in
+    let at-image-out = taken-number→image-out c in
+    let at-sized = image-out→sized at-image-out in
+    let at-wide = sized→wide at-sized in
+    let at-then1 = wide→then1 at-wide in
+    let at-and = then1→and at-then1 in
+    let at-start = and→start at-and in
     let a = at-start .args in
     let i = at-wide .wide .result in
     let inside : i < 8 = omega
@@ -147,11 +163,11 @@ taken-number-requires-2 c κs = search needs
 
 returns-3 : tie.Need-returns-3
 returns-3 c =
-    let at-and = c .before .before in
+    let at-and = taken-number2→else1 c .before in
     record {
       number = c .taken-number2 .ensures
-          ∙ simp (sym (at-and .and .ensures) ∙ c .before .if1 .left);
-      written = simp (sym (at-and .and .ensures) ∙ c .before .if1 .left);
+          ∙ simp (sym (at-and .and .ensures) ∙ taken-number2→else1 c .if1 .left);
+      written = simp (sym (at-and .and .ensures) ∙ taken-number2→else1 c .if1 .left);
     }
 
 pub take-out-spec : {M : Type 1} → statement M
