@@ -15,7 +15,7 @@ import os
 import struct
 from typing import Callable, Tuple
 
-TROVIMBE_STATE_SIZE, TROVIMBE_IMAGE_SIZE, TROVIMBE_CAMERA_SIZE = 172, 60, 61
+TROVIMBE_STATE_SIZE, TROVIMBE_TRAY_SIZE, TROVIMBE_IMAGE_SIZE, TROVIMBE_CAMERA_SIZE = 172, 1363, 60, 61
 TROVIMBE_RECORD_MAX, TROVIMBE_REPLY_MAX, TROVIMBE_MAP_SIZE = 262, 256, 256
 TROVIMBE_DS2781, TROVIMBE_DS2775 = 1, 8
 TROVIMBE_DONE, TROVIMBE_CUT, TROVIMBE_KIND, TROVIMBE_LENGTH, TROVIMBE_ORDER, TROVIMBE_ADDRESS, TROVIMBE_LOCKS = 0, 2, 3, 4, 5, 6, 7
@@ -45,6 +45,9 @@ def loaded() -> ctypes.CDLL:
     library.trovimbe_start.argtypes, library.trovimbe_start.restype = lent, ctypes.c_uint8
     library.trovimbe_record.argtypes, library.trovimbe_record.restype = lent * 3, Result
     library.trovimbe_image.argtypes, library.trovimbe_image.restype = lent * 2, Result
+    library.trovimbe_tray_start.argtypes, library.trovimbe_tray_start.restype = lent, ctypes.c_uint8
+    library.trovimbe_tray_record.argtypes, library.trovimbe_tray_record.restype = lent * 3, Result
+    library.trovimbe_tray_image.argtypes, library.trovimbe_tray_image.restype = [*lent, ctypes.c_uint8, *lent], Result
     return library
 
 
@@ -78,6 +81,29 @@ def trovimbe_image(state: bytes, room: int = TROVIMBE_CAMERA_SIZE) -> Tuple[int,
     """The answer, and the image of the pack as it is now."""
     image = bytearray(room)
     done: Result = loaded().trovimbe_image(_read(bytes(state)), len(state), _lent(image), len(image))
+    return int(done.answer), bytes(image[:done.count])
+
+
+def trovimbe_tray_start() -> bytearray:
+    """The state of a tray without a pack."""
+    state = bytearray(TROVIMBE_TRAY_SIZE)
+    answer = int(loaded().trovimbe_tray_start(_lent(state), len(state)))
+    if answer:
+        raise Refused(answer)
+    return state
+
+
+def trovimbe_tray_record(state: bytearray, record: bytes, room: int = TROVIMBE_REPLY_MAX) -> Tuple[int, bytes]:
+    """Does a record in a tray, which is changed in its place: its answer and its reply."""
+    reply = bytearray(room)
+    done: Result = loaded().trovimbe_tray_record(_lent(state), len(state), _read(record), len(record), _lent(reply), len(reply))
+    return int(done.answer), bytes(reply[:done.count])
+
+
+def trovimbe_tray_image(state: bytes, slot: int, room: int = TROVIMBE_CAMERA_SIZE) -> Tuple[int, bytes]:
+    """The answer, and the image of the pack in a slot as it is now."""
+    image = bytearray(room)
+    done: Result = loaded().trovimbe_tray_image(_read(bytes(state)), len(state), slot, _lent(image), len(image))
     return int(done.answer), bytes(image[:done.count])
 
 
@@ -115,6 +141,26 @@ def trovimbe_make_long_transaction(count: int, master: bytes) -> bytes:
     return trovimbe_make(7, struct.pack("<H", count) + master)
 
 
+def trovimbe_make_slot_reading(slot: int, volt: int, temp: int) -> bytes:
+    return trovimbe_make(18, struct.pack("<Bii", slot, volt, temp))
+
+
+def trovimbe_make_slot_conversion(slot: int, current: int) -> bytes:
+    return trovimbe_make(19, struct.pack("<Bi", slot, current))
+
+
+def trovimbe_make_slot_sample(slot: int, current: int, tick: int) -> bytes:
+    return trovimbe_make(22, struct.pack("<BiH", slot, current, tick % 65536))
+
+
+def trovimbe_make_slot_power_on(slot: int) -> bytes:
+    return trovimbe_make(21, bytes([slot]))
+
+
+def trovimbe_make_match_read(net_address: bytes, address: int, count: int) -> bytes:
+    return trovimbe_make_long_transaction(count, b"\x55" + net_address[:8] + bytes([0x69, address]))
+
+
 def trovimbe_make_command(count: int, command: int, address: int, data: bytes = b"") -> bytes:
     return trovimbe_make_long_transaction(count, bytes([0xCC, command, address]) + data)
 
@@ -148,6 +194,14 @@ def trovimbe_make_net_address(rnaop: bool = False) -> bytes:
 def trovimbe_map(state: bytearray) -> bytes:
     """All registers as they are, 256 bytes."""
     answer, shown = trovimbe_record(state, trovimbe_make_read(0x00, TROVIMBE_MAP_SIZE))
+    if answer:
+        raise Refused(answer)
+    return shown
+
+
+def trovimbe_tray_map(state: bytearray, net_address: bytes) -> bytes:
+    """All registers of the pack of a tray that has this net address."""
+    answer, shown = trovimbe_tray_record(state, trovimbe_make_match_read(net_address, 0x00, TROVIMBE_MAP_SIZE))
     if answer:
         raise Refused(answer)
     return shown

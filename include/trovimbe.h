@@ -19,7 +19,7 @@
  *              state at most one may run at a time.
  * Buffers      A pointer and the number of bytes that you lend there. No byte outside is read or written, whatever stands in them. A pointer whose
  *              number is 0 may be null. The buffers of one call must not overlap.
- * Stack        Some 5 KB.
+ * Stack        Some 5 KB for a pack and some 15 KB for a tray.
  * Units        A count of current is 1.5625 uV across the sense resistor, above 0 while the pack is charged; a conversion is due each 3600/1024 s.
  *              A count of voltage is 9.76 mV (DS2775: 4.88 mV), of temperature 1/8 degree, of ACR 6.25 uVh across the sense resistor.
  *
@@ -37,6 +37,7 @@ extern "C" {
 
 /* Sizes, in bytes. */
 #define TROVIMBE_STATE_SIZE 172  /* the state of one pack */
+#define TROVIMBE_TRAY_SIZE 1363  /* the state of a tray: up to eight packs on one line */
 #define TROVIMBE_IMAGE_SIZE 60   /* the image of a DS2781 */
 #define TROVIMBE_CAMERA_SIZE 61  /* the image of a DS2775 */
 #define TROVIMBE_RECORD_MAX 262  /* the longest record that is not refused for its length */
@@ -81,6 +82,12 @@ trovimbe_result trovimbe_record(uint8_t *state, size_t size, const uint8_t *reco
 /* Writes the image of the pack as it is now: what outlives a loss of power, 60 bytes, or 61 of a DS2775. 50 to 52; 5 before an image was accepted; 9
  * where the room is too small. The state is only read. */
 trovimbe_result trovimbe_image(const uint8_t *state, size_t size, uint8_t *image, size_t room);
+
+/* The same of a tray: a state of TROVIMBE_TRAY_SIZE bytes, the records of a tray (its images come first, its events name a slot), and the image of the
+ * pack in a slot, 5 where there is none. */
+uint8_t trovimbe_tray_start(uint8_t *state, size_t size);
+trovimbe_result trovimbe_tray_record(uint8_t *state, size_t size, const uint8_t *record, size_t n, uint8_t *reply, size_t room);
+trovimbe_result trovimbe_tray_image(const uint8_t *state, size_t size, uint8_t slot, uint8_t *image, size_t room);
 
 #ifdef __cplusplus
 }
@@ -177,6 +184,36 @@ static inline size_t trovimbe_make_long_transaction(uint8_t *out, size_t room, u
     return trovimbe_make(out, room, 7, counts, 2, master, n);
 }
 
+/* Events of the pack in a slot of a tray, 0 to 7: what the same without a slot is to one pack. Images and transactions are as above. */
+static inline size_t trovimbe_make_slot_reading(uint8_t *out, size_t room, uint8_t slot, int32_t volt, int32_t temp) {
+    uint8_t payload[8];
+    trovimbe_put32(payload, volt);
+    trovimbe_put32(payload + 4, temp);
+    return trovimbe_make(out, room, 18, &slot, 1, payload, sizeof payload);
+}
+static inline size_t trovimbe_make_slot_conversion(uint8_t *out, size_t room, uint8_t slot, int32_t current) {
+    uint8_t payload[4];
+    trovimbe_put32(payload, current);
+    return trovimbe_make(out, room, 19, &slot, 1, payload, sizeof payload);
+}
+static inline size_t trovimbe_make_slot_sample(uint8_t *out, size_t room, uint8_t slot, int32_t current, uint16_t tick) {
+    uint8_t payload[6];
+    trovimbe_put32(payload, current);
+    payload[4] = (uint8_t)(tick & 0xFF);
+    payload[5] = (uint8_t)(tick >> 8);
+    return trovimbe_make(out, room, 22, &slot, 1, payload, sizeof payload);
+}
+static inline size_t trovimbe_make_slot_power_on(uint8_t *out, size_t room, uint8_t slot) { return trovimbe_make(out, room, 21, &slot, 1, NULL, 0); }
+
+/* A read that one pack of a tray answers: Match (55h), its net address, 8 bytes, and from where. */
+static inline size_t trovimbe_make_match_read(uint8_t *out, size_t room, const uint8_t *net_address, uint8_t address, uint16_t count) {
+    uint8_t head[13] = {(uint8_t)(count & 0xFF), (uint8_t)(count >> 8), 0x55};
+    memcpy(head + 3, net_address, 8);
+    head[11] = 0x69;
+    head[12] = address;
+    return trovimbe_make(out, room, 7, head, sizeof head, NULL, 0);
+}
+
 /* Commands that any pack takes: Skip (CCh), the command and an address. */
 static inline size_t trovimbe_make_command(uint8_t *out, size_t room, uint16_t count, uint8_t command, uint8_t address, const uint8_t *data, size_t n) {
     uint8_t head[5] = {(uint8_t)(count & 0xFF), (uint8_t)(count >> 8), 0xCC, command, address};
@@ -211,6 +248,13 @@ static inline uint8_t trovimbe_map(uint8_t *state, size_t size, uint8_t map[TROV
     uint8_t record[16];
     size_t n = trovimbe_make_read(record, sizeof record, 0x00, TROVIMBE_MAP_SIZE);
     return trovimbe_record(state, size, record, n, map, TROVIMBE_MAP_SIZE).answer;
+}
+
+/* The map of the pack of a tray that has this net address. */
+static inline uint8_t trovimbe_tray_map(uint8_t *state, size_t size, const uint8_t *net_address, uint8_t map[TROVIMBE_MAP_SIZE]) {
+    uint8_t record[24];
+    size_t n = trovimbe_make_match_read(record, sizeof record, net_address, 0x00, TROVIMBE_MAP_SIZE);
+    return trovimbe_tray_record(state, size, record, n, map, TROVIMBE_MAP_SIZE).answer;
 }
 
 /* ---- registers in counts. A map has them high byte first. */

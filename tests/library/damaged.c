@@ -1,6 +1,7 @@
-/* damaged.c SEED TIMES: hands the library damaged states, records and rooms of any size, by the thousand, from memory with a page that cannot be
- * touched on both sides: each call is made three times, with each buffer at the front of its pages, at their end, and in memory of its own size from
- * malloc, over which AddressSanitizer watches where this is built with it. All must say and leave the same, nothing outside of a buffer may change, a refusal may change nothing, and a state that is accepted must be accepted again after the record. */
+/* damaged.c SEED TIMES: hands the library, one pack and a tray in turn, damaged states, records and rooms of any size, by the thousand, from memory
+ * with a page that cannot be touched on both sides. Each call is made three times: with each buffer at the front of its pages, at their end, and in
+ * memory of its own size from malloc, over which AddressSanitizer watches where this is built with it. All must say and leave the same, nothing
+ * outside of a buffer may change, a refusal may change nothing, and a state that is accepted must be accepted again after the record. */
 #include <stdio.h>
 #include <stdlib.h>
 #include <sys/mman.h>
@@ -40,7 +41,8 @@ static void lay(struct lent *l, const uint8_t *bytes, size_t size, int at_end) {
 
 static void untouched(const struct lent *l, const char *what) {
     for (uint8_t *p = l->pages; p < l->pages + PAGES * page; p++)
-        if (((uintptr_t)p < (uintptr_t)l->at || (uintptr_t)p >= (uintptr_t)l->at + l->size) && *p != CANARY) printf("a byte outside of the %s was written\n", what), exit(1);
+        if (((uintptr_t)p < (uintptr_t)l->at || (uintptr_t)p >= (uintptr_t)l->at + l->size) && *p != CANARY)
+            printf("a byte outside of the %s was written\n", what), exit(1);
 }
 
 static void as_before(const struct lent *l, const char *what) {
@@ -48,6 +50,7 @@ static void as_before(const struct lent *l, const char *what) {
 }
 
 static struct lent state, record, room;
+static int tray;
 static uint8_t state_bytes[4096], record_bytes[4096], room_bytes[4096], state_left[4096], room_left[4096];
 
 static const uint8_t image[TROVIMBE_IMAGE_SIZE] = {
@@ -81,16 +84,30 @@ static size_t a_record(void) {
     return drawn(12) ? n : drawn((uint32_t)n + 1);
 }
 
+/* The same as an event of a slot, where it is one of a pack. */
+static size_t slotted(size_t n) {
+    static const uint8_t kinds[7] = {0, 0, 18, 19, 0, 21, 22};
+    uint8_t *r = record_bytes;
+    if (n < 4 || r[2] > 6 || !kinds[r[2]] || !drawn(20)) return n;
+    memmove(r + 5, r + 4, n - 4);
+    r[0]++;
+    r[2] = kinds[r[2]];
+    r[4] = (uint8_t)drawn(drawn(4) ? 2 : 12);
+    return n + 1;
+}
+
 /* What both ways of laying the buffers leave must be the same. */
 static void once(unsigned what, size_t states, size_t records, size_t rooms) {
     trovimbe_result first = {0, 0}, done;
+    uint8_t slot = (uint8_t)drawn(10);
     for (int at_end = 0; at_end < 3; at_end++) {
         lay(&state, state_bytes, states, at_end);
         lay(&record, record_bytes, records, at_end);
         lay(&room, room_bytes, rooms, at_end);
-        if (what == 0) done = trovimbe_record(state.at, states, record.at, records, room.at, rooms);
+        if (what == 0) done = (tray ? trovimbe_tray_record : trovimbe_record)(state.at, states, record.at, records, room.at, rooms);
+        else if (what == 1 && tray) done = trovimbe_tray_image(state.at, states, slot, room.at, rooms);
         else if (what == 1) done = trovimbe_image(state.at, states, room.at, rooms);
-        else done.answer = trovimbe_start(state.at, states), done.count = 0;
+        else done.answer = (tray ? trovimbe_tray_start : trovimbe_start)(state.at, states), done.count = 0;
         untouched(&state, "state");
         untouched(&record, "record");
         untouched(&room, "room");
@@ -115,27 +132,32 @@ int main(int count, char **words) {
     page = (size_t)sysconf(_SC_PAGESIZE);
     state.pages = fenced(), record.pages = fenced(), room.pages = fenced();
     for (unsigned long i = 0; i < times; i++) {
-        static uint8_t good[TROVIMBE_STATE_SIZE];
-        size_t states = sizeof good, records = a_record(), rooms = drawn(3) ? 256 : drawn(300);
+        static uint8_t both[2][TROVIMBE_TRAY_SIZE];
+        tray = i & 1;
+        uint8_t *good = both[tray];
+        size_t size = tray ? TROVIMBE_TRAY_SIZE : TROVIMBE_STATE_SIZE, states = size, records = a_record(), rooms = drawn(3) ? 256 : drawn(300);
         unsigned damage = drawn(8);
-        if (i % 512 == 0) trovimbe_start(good, sizeof good);
-        memcpy(state_bytes, good, sizeof good);
-        if (damage == 0) state_bytes[drawn(sizeof good)] = (uint8_t)drawn(256);
-        if (damage == 1) for (unsigned k = drawn(8); k; k--) state_bytes[drawn(sizeof good)] ^= (uint8_t)(1u << drawn(8));
-        if (damage == 2) random_bytes(state_bytes, 400), state_bytes[0] = (uint8_t)drawn(3), states = drawn(3) ? sizeof good : drawn(400);
+        if (tray) records = slotted(records);
+        if (i % 512 < 2) (tray ? trovimbe_tray_start : trovimbe_start)(good, size);
+        memcpy(state_bytes, good, size);
+        if (damage == 0) state_bytes[drawn((uint32_t)size)] = (uint8_t)drawn(256);
+        if (damage == 1) for (unsigned k = drawn(8); k; k--) state_bytes[drawn((uint32_t)size)] ^= (uint8_t)(1u << drawn(8));
+        if (damage == 2) random_bytes(state_bytes, 1500), state_bytes[0] = (uint8_t)(drawn(3) + 128 * drawn(2)), states = drawn(3) ? size : drawn(1500);
         random_bytes(room_bytes, rooms);
         once(0, states, records, rooms);
         uint8_t answer = trovimbe_record(NULL, 0, NULL, 0, NULL, 0).answer; /* null pointers, with no bytes */
         if (answer != TROVIMBE_NO_HEADER) printf("no bytes are answered %u\n", answer), exit(1);
-        trovimbe_result done = trovimbe_record(memcpy(state_left, state_bytes, states), states, record_bytes, records, room_left, rooms);
+        memcpy(state_left, state_bytes, states);
+        trovimbe_result done = (tray ? trovimbe_tray_record : trovimbe_record)(state_left, states, record_bytes, records, room_left, rooms);
         answers[done.answer]++;
         if (done.answer == 0) { /* what was left is a state */
-            memcpy(good, state_left, sizeof good);
-            if (trovimbe_record(state_left, states, (const uint8_t *)"\0\0\0\0", 4, NULL, 0).answer != TROVIMBE_KIND) printf("no state is left\n"), exit(1);
+            memcpy(good, state_left, size);
+            done = (tray ? trovimbe_tray_record : trovimbe_record)(state_left, states, (const uint8_t *)"\0\0\0\0", 4, NULL, 0);
+            if (done.answer != TROVIMBE_KIND) printf("no state is left\n"), exit(1);
         }
         memcpy(state_bytes, state_left, states);
         once(1, states, 0, drawn(2) ? 61 : drawn(80));
-        if (i % 64 == 0) once(2, drawn(2) ? sizeof good : drawn(400), 0, 0);
+        if (i % 64 < 2) once(2, drawn(2) ? size : drawn(1500), 0, 0);
     }
     for (unsigned i = 0; i < 256; i++)
         if (answers[i]) printf("%u:%lu ", i, answers[i]);

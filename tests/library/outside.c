@@ -33,3 +33,17 @@ trovimbe_result trovimbe_record(uint8_t *state, size_t size, const uint8_t *reco
     (void)seen;
     return none;
 }
+
+uint8_t trovimbe_tray_start(uint8_t *state, size_t size) {
+    (void)state;
+    return size == TROVIMBE_TRAY_SIZE ? 0 : TROVIMBE_STATE_ROOM;
+}
+
+trovimbe_result trovimbe_tray_image(const uint8_t *state, size_t size, uint8_t slot, uint8_t *image, size_t room) {
+    (void)slot;
+    return trovimbe_image(state, size, image, room);
+}
+
+trovimbe_result trovimbe_tray_record(uint8_t *state, size_t size, const uint8_t *record, size_t n, uint8_t *reply, size_t room) {
+    return trovimbe_record(state, size, record, n, reply, room);
+}

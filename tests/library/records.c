@@ -36,6 +36,11 @@ int main(void) {
     SHOW(copy, 0x20);
     SHOW(recall, 0x60);
     SHOW(lock, 0x20);
+    SHOW(slot_reading, 3, 772, -160);
+    SHOW(slot_conversion, 7, -1280);
+    SHOW(slot_sample, 0, -120, 65530);
+    SHOW(slot_power_on, 255);
+    SHOW(match_read, bytes, 0x20, 16);
     SHOW(net_address, 0);
     SHOW(net_address, 1);
     printf("%d %d %d %d %d %d\n", (int)trovimbe_current_counts(-120, 50), (int)trovimbe_volt_counts(7.41, TROVIMBE_DS2781),

@@ -1,9 +1,8 @@
 /* walk.c [THREADS]: reads sessions on standard input and runs each record by record through the library. A session is a byte that says whether it is
  * one of a tray, 4 bytes of its length, low byte first, and its bytes. Between two records the state moves to other memory, and the memory that it
  * leaves is overwritten; the records of a session share a room of 65,536 bytes for their replies, as in `session`. Prints what `session` prints, then
- * the image at the end, and a line `end`. So many threads run all sessions at once, each with states of its own: what the first says is printed, and
- * the others have to say the same. With WRONG a byte of a reply is told wrong, which must be
- * seen from outside. */
+ * the image at the end, of a tray that of each slot and of slot 8, and a line `end`. So many threads run all sessions at once, each with states of its
+ * own: what the first says is printed, and the others have to say the same. With WRONG a byte of a reply is told wrong, which must be seen. */
 #include <pthread.h>
 #include <stdarg.h>
 #include <stdio.h>
@@ -33,17 +32,17 @@ static void hex(struct text *text, const uint8_t *bytes, size_t n) {
     say(text, n ? "\n" : "-\n");
 }
 
-static void session(struct text *text, const uint8_t *bytes, size_t n) {
-    uint8_t *state = malloc(TROVIMBE_STATE_SIZE), *reply = malloc(ROOM);
-    size_t at = 0, number = 0, used = 0;
-    if (trovimbe_start(state, TROVIMBE_STATE_SIZE) != TROVIMBE_DONE) say(text, "not started\n");
+static void session(struct text *text, const uint8_t *bytes, size_t n, int tray) {
+    size_t size = tray ? TROVIMBE_TRAY_SIZE : TROVIMBE_STATE_SIZE, at = 0, number = 0, used = 0;
+    uint8_t *state = malloc(size), *reply = malloc(ROOM);
+    if ((tray ? trovimbe_tray_start : trovimbe_start)(state, size) != TROVIMBE_DONE) say(text, "not started\n");
     while (at < n) {
-        uint8_t *elsewhere = malloc(TROVIMBE_STATE_SIZE);
-        memcpy(elsewhere, state, TROVIMBE_STATE_SIZE);
-        memset(state, 0xA5, TROVIMBE_STATE_SIZE);
+        uint8_t *elsewhere = malloc(size);
+        memcpy(elsewhere, state, size);
+        memset(state, 0xA5, size);
         free(state);
         state = elsewhere;
-        trovimbe_result done = trovimbe_record(state, TROVIMBE_STATE_SIZE, bytes + at, n - at, reply + used, ROOM - used);
+        trovimbe_result done = (tray ? trovimbe_tray_record : trovimbe_record)(state, size, bytes + at, n - at, reply + used, ROOM - used);
         number++;
         if (done.answer == TROVIMBE_CUT || done.answer == TROVIMBE_NO_HEADER) {
             say(text, "%zu ---- %s -\n", number, (done.answer == TROVIMBE_NO_HEADER) == (n - at < 4) ? "2" : "wrong");
@@ -58,9 +57,11 @@ static void session(struct text *text, const uint8_t *bytes, size_t n) {
         at += trovimbe_record_size(bytes + at, n - at);
     }
     uint8_t image[TROVIMBE_CAMERA_SIZE];
-    trovimbe_result taken = trovimbe_image(state, TROVIMBE_STATE_SIZE, image, sizeof image);
-    say(text, "image %u ", taken.answer);
-    hex(text, image, taken.count);
+    for (uint8_t slot = 0; slot < (tray ? 9 : 1); slot++) {
+        trovimbe_result taken = tray ? trovimbe_tray_image(state, size, slot, image, sizeof image) : trovimbe_image(state, size, image, sizeof image);
+        say(text, "image %u ", taken.answer);
+        hex(text, image, taken.count);
+    }
     say(text, "end\n");
     free(state);
     free(reply);
@@ -70,7 +71,7 @@ static void *all(void *to) {
     struct text *text = to;
     for (size_t at = 0; at + 5 <= given;) {
         size_t n = input[at + 1] + 256u * input[at + 2] + 65536u * input[at + 3] + 16777216u * (size_t)input[at + 4];
-        session(text, input + at + 5, n);
+        session(text, input + at + 5, n, input[at]);
         at += 5 + n;
     }
     return NULL;

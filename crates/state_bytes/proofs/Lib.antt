@@ -1,4 +1,5 @@
 pub mod Laws
+pub mod Plain
 pub mod TrayLaws
 pub mod Undoing
 pub mod TrayUndoing

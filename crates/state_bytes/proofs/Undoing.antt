@@ -1,5 +1,5 @@
 -- Out and in undo each other, of each struct and so of the state.
-use mathlib.Core.Path.{_≡_, refl, ap, _∙_}
+use mathlib.Core.Path.{_≡_, refl, sym, ap, _∙_}
 use mathlib.Core.Bool.{Bool, true, false}
 use mathlib.Core.List.{List, _∷_}
 use Prim.Native.Nat.{ℕ, suc, _+_, _*_, _^_, _≤_}
@@ -294,6 +294,33 @@ passed b e =
       same = same-equal (stateBytes (sessionAt b)) b (both-hold .1);
       read = rw (h .0, h .1, h .2) refl;
     }
+
+-- what is read of bytes that are a state, and of others
+pub read-held : (b : List ℕ) → stateIn b .number ≡ 0 → record { number = 0; session = sessionAt b } ≡ stateIn b
+read-held b e = sym (passed b e .read)
+
+none-by : (x y z : Bool) (σ : Session)
+    → ((pick x (pick y (pick z (record { number = 0; session = σ }) (noState 52)) (noState 51)) (noState 50)) .number ≡ 0 → ⊥)
+    → noState ((pick x (pick y (pick z (record { number = 0; session = σ }) (noState 52)) (noState 51)) (noState 50)) .number)
+    ≡ pick x (pick y (pick z (record { number = 0; session = σ }) (noState 52)) (noState 51)) (noState 50)
+none-by true true true σ h = absurd (h refl)
+none-by true true false σ h = refl
+none-by true false z σ h = refl
+none-by false y z σ h = refl
+
+pub read-none : (b : List ℕ) → (stateIn b .number ≡ 0 → ⊥) → noState (stateIn b .number) ≡ stateIn b
+unfolding stateIn
+read-none b =
+    none-by (eqb (length b) stateSize) (eqb (getD b 0 0) version)
+    (both (soundMeter (sessionAt b .gauge .meter)) (sameBytes (stateBytes (sessionAt b)) b)) (sessionAt b)
+
+-- the number by the tests, in their order
+pub number-by : (b : List ℕ) → length b ≡ stateSize → getD b 0 0 ≡ version → {t : Bool} → t ≡ told b → pick t 0 52 ≡ stateIn b .number
+number-by b size v {t} e = by t e
+  where
+    by : (t : Bool) → t ≡ told b → pick t 0 52 ≡ stateIn b .number
+    by true e = ap (λ (x : StateIn). x .number) (in-state b size v (sym e))
+    by false e = ap (λ (x : StateIn). x .number) (in-none b size v (sym e))
 
 -- bytes that are a state are as many
 pub in-size : (b : List ℕ) → stateIn b .number ≡ 0 → length b ≡ stateSize

@@ -1,7 +1,7 @@
 -- The state of a session as bytes: one layout for each struct of the state, in the order of `state`; and which bytes are a state.
 use mathlib.Core.Path.{_≡_}
 use mathlib.Core.Bool.{Bool, true}
-use mathlib.Core.List.{List, _∷_, _++_}
+use mathlib.Core.List.{List, [], _∷_, _++_}
 use Prim.Native.Nat.{ℕ, _+_, _*_, _^_}
 use lib.Dec.{eqb, leb, ltb}
 use lib.ListN.{length, getD}
@@ -294,6 +294,20 @@ stateBytes session = version ∷ sessionLayout .out session
 
 unfoldable pub sessionAt : List ℕ → Session
 sessionAt b = sessionLayout .at b 1
+
+-- where the flags of a state stand
+abbrev pub flagPlaces : List ℕ
+flagPlaces = sessionLayout .flagsFrom 1
+
+-- those ahead of the blocks, of the charge and the flow, and from the tick on
+abbrev pub frontFlags : List ℕ
+frontFlags = 1 ∷ 42 ∷ 47 ∷ 48 ∷ 49 ∷ []
+
+abbrev pub middleFlags : List ℕ
+middleFlags = 119 ∷ 120 ∷ 125 ∷ 130 ∷ 131 ∷ 140 ∷ []
+
+abbrev pub endFlags : List ℕ
+endFlags = 143 ∷ 167 ∷ 168 ∷ 169 ∷ 170 ∷ 171 ∷ []
 
 -- no state: the number of the refusal, and the state before the first record
 abbrev pub noState : ℕ → StateIn

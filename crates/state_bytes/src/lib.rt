@@ -30,11 +30,11 @@ ghost use Rattle.state.specs.State.{countsCycles};
 ghost use Rattle.bus.specs.Ask.{sameBytes};
 ghost use Rattle.runs.specs.SessionRecord.{SessionWF};
 ghost use Rattle.tray_record.specs.Tray.{TrayWF};
-ghost use Rattle.state_bytes.specs.Layout.{flagByte, flagIn};
+ghost use Rattle.state_bytes.specs.Layout.{flagByte, flagIn, plainAt};
 ghost use Rattle.state_bytes.specs.State.{profileIn, cellsLayout, chargeLayout, cyclesLayout, flowLayout, shownLayout, traceLayout, averageLayout};
 ghost use Rattle.state_bytes.specs.State.{resultsLayout, flagsLayout, meterLayout, gaugeLayout, labelLayout, commonLayout, headBytes};
 ghost use Rattle.state_bytes.specs.State.{fromCycles, fromFlow, fromCharge};
-ghost use Rattle.state_bytes.specs.State.{sessionAt, stateBytes, noState, stateIn, StateStepped};
+ghost use Rattle.state_bytes.specs.State.{sessionAt, stateBytes, flagPlaces, frontFlags, middleFlags, endFlags, noState, stateIn, StateStepped};
 ghost use Rattle.state_bytes.specs.State.{soundCharge, soundAverage, soundShown, uncountedBy, soundMeter, StateOut};
 ghost use Rattle.state_bytes.specs.TrayState.{packsOut, trayAt, trayStateBytes, soundEach, soundTray, noTrayState, trayStateIn};
 ghost use Rattle.state_bytes.specs.TrayState.{TrayStateOut, TrayStateStepped};
@@ -531,14 +531,54 @@ fn same(left: &[u8], right: &[u8]) -> bool
     true
 }
 
-// Whether a session is written as these bytes.
-fn written_as(session: Session, bytes: &[u8]) -> bool
+// Whether each flag of a state is 0 or 1, those of the front, of the charge and the flow, and of the end.
+fn plain_front(bytes: &[u8]) -> bool
     requires { ⌜ length (now bytes) ≡ 172 ⌝ }
-    ensures { λ r. ⌜ r ≡ sameBytes (stateBytes session) (now (bytes .entry)) ⌝ }
+    ensures { λ r. ⌜ r ≡ plainAt (now (bytes .entry)) frontFlags ⌝ }
 {
-    let mut again = [0u8; 172];
-    put_state(session, &mut again);
-    same(&again, bytes)
+    let locks = numbers::and(
+        bytes[47] < 2,
+        numbers::and(bytes[48] < 2, numbers::and(bytes[49] < 2, true)),
+    );
+    numbers::and(bytes[1] < 2, numbers::and(bytes[42] < 2, locks))
+}
+
+fn plain_middle(bytes: &[u8]) -> bool
+    requires { ⌜ length (now bytes) ≡ 172 ⌝ }
+    ensures { λ r. ⌜ r ≡ plainAt (now (bytes .entry)) middleFlags ⌝ }
+{
+    let flow = numbers::and(
+        bytes[130] < 2,
+        numbers::and(bytes[131] < 2, numbers::and(bytes[140] < 2, true)),
+    );
+    numbers::and(
+        bytes[119] < 2,
+        numbers::and(bytes[120] < 2, numbers::and(bytes[125] < 2, flow)),
+    )
+}
+
+fn plain_end(bytes: &[u8]) -> bool
+    requires { ⌜ length (now bytes) ≡ 172 ⌝ }
+    ensures { λ r. ⌜ r ≡ plainAt (now (bytes .entry)) endFlags ⌝ }
+{
+    let flags = numbers::and(
+        bytes[169] < 2,
+        numbers::and(bytes[170] < 2, numbers::and(bytes[171] < 2, true)),
+    );
+    numbers::and(
+        bytes[143] < 2,
+        numbers::and(bytes[167] < 2, numbers::and(bytes[168] < 2, flags)),
+    )
+}
+
+fn plain_flags(bytes: &[u8]) -> bool
+    requires { ⌜ length (now bytes) ≡ 172 ⌝ }
+    ensures { λ r. ⌜ r ≡ plainAt (now (bytes .entry)) flagPlaces ⌝ }
+{
+    numbers::and(
+        plain_front(bytes),
+        numbers::and(plain_middle(bytes), plain_end(bytes)),
+    )
 }
 
 // What was read: the state, or the number of the refusal and the state before the first record.
@@ -557,25 +597,39 @@ fn no_state(number: u8) -> StateIn
     }
 }
 
-// The state that the bytes are: 50 where they are too few or too many, 51 for another version, 52 where they are no well-formed state.
+// Which bytes are a state: 50 where they are too few or too many, 51 for another version, 52 where they are no well-formed state, else 0. A value is
+// written as the bytes that it was read from where each flag among them is 0 or 1.
+fn state_number(bytes: &[u8]) -> u8
+    ensures { λ r. ⌜ r ≡ stateIn (now (bytes .entry)) .number ⌝ }
+{
+    if bytes.len() != 172 {
+        return 50;
+    }
+    if bytes[0] != 1 {
+        return 51;
+    }
+    let session = session_at(bytes);
+    numbers::choose8(
+        numbers::and(sound(session.gauge.meter), plain_flags(bytes)),
+        0,
+        52,
+    )
+}
+
+// The state that the bytes are.
 pub fn state_in(bytes: &[u8]) -> StateIn
     ensures { λ r. ⌜ r ≡ stateIn (now (bytes .entry)) ⌝ }
     ensures kept { λ r. ⌜ SessionWF (r .session) ⌝ }
 {
-    if bytes.len() != 172 {
-        return no_state(50);
-    }
-    if bytes[0] != 1 {
-        return no_state(51);
-    }
-    let session = session_at(bytes);
-    if numbers::and(sound(session.gauge.meter), written_as(session, bytes)) {
+    let number = state_number(bytes);
+    if number == 0 {
+        let session = session_at(bytes);
         return StateIn {
             number: 0,
             session: session,
         };
     }
-    no_state(52)
+    no_state(number)
 }
 
 // What a step by state bytes says: 0, its answer and how many bytes it replied; or the number of bytes that are no state.
@@ -589,12 +643,12 @@ pub struct StateStep {
 pub fn state_step(state: &mut [u8], bytes: &[u8], room: &mut [u8]) -> StateStep
     ensures { λ r. ⌜ StateStepped (now (state .entry)) (now (bytes .entry)) (now (room .entry)) r (now (state .exit)) (now (room .exit)) ⌝ }
 {
-    let held = state_in(state);
-    if held.number == 0 {
-        let session = held.session;
+    let number = state_number(state);
+    if number == 0 {
+        let session = session_at(state);
         let done = session_run::step(session, bytes, room);
         let after = done.session;
-        state_out(after, state);
+        put_state(after, state);
         return StateStep {
             number: 0,
             answer: done.answer,
@@ -602,7 +656,7 @@ pub fn state_step(state: &mut [u8], bytes: &[u8], room: &mut [u8]) -> StateStep
         };
     }
     StateStep {
-        number: held.number,
+        number: number,
         answer: 0,
         replied: 0,
     }

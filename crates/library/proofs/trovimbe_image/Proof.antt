@@ -1,19 +1,70 @@
-use Rattle.library.proofs.Calls.{image-taken, image-none}
+use mathlib.Core.Path.{ap}
+use Rattle.gauge.specs.Image.{sizeFor}
+use Rattle.session_run.specs.SessionRun.{takeOutNumber, takeOutRoom}
+use Rattle.state_bytes.specs.declared.StateIn.{StateIn}
+use Rattle.library.specs.Library.{keptPack}
+use Rattle.library.proofs.Calls.{image-none, image-refused, image-taken}
 use borrow.Author.Needs.{needs}
 use Rattle.library.proofs.trovimbe_image.Statement.{statement}
 use Rattle.library.proofs.trovimbe_image.Tie as tie
 
+-- places: `a→b` leads from the record of the place a back to that of the place b
+abbrev in→start : tie.After-state-in → tie.Start
+in→start c = c .before .before .before
+
+abbrev else1→in : tie.Else1 → tie.After-state-in
+else1→in c = c .before .before .before
+
+abbrev out→else1 : tie.After-take-out → tie.Else1
+out→else1 c = c .before .before
+
 returns : tie.Need-returns
 returns c =
-    let called = c .before .before in
-    let test = called .before .before in
-    image-taken (test .before .before .before .state-in .ensures .0) (test .if1 .taken) (called .taken .ensures)
+    let held = c .before .before .before .before in
+    let read = held .state-in .ensures .0 in
+    rw (c .said .ensures)
+    (image-none keptPack takeOutNumber takeOutRoom (λ σ. sizeFor (σ .gauge))
+    (ap (λ (x : StateIn). x .number) read) (c .before .if1 .taken))
 
 returns-2 : tie.Need-returns-2
 returns-2 c =
     let test = c .before in
-    rw (c .refused .ensures) (image-none (test .before .before .before .state-in .ensures .0) (test .if1 .left))
+    let out = test .before .before .before in
+    let first = out→else1 out in
+    let held = else1→in first in
+    let read = held .state-in .ensures .0 in
+    let taken = out .take-out .ensures in
+    rw (c .said2 .ensures)
+    (image-refused keptPack takeOutNumber takeOutRoom (λ σ. sizeFor (σ .gauge))
+    (ap (λ (x : StateIn). x .number) read) (ap (λ (x : StateIn). x .session) read) (first .if1 .left)
+    (taken .number) (taken .written) (test .if2 .taken))
+
+returns-3 : tie.Need-returns-3
+returns-3 c =
+    let sized = c .before in
+    let test = sized .before in
+    let out = test .before .before .before in
+    let first = out→else1 out in
+    let held = else1→in first in
+    let read = held .state-in .ensures .0 in
+    let taken = out .take-out .ensures in
+    rw (c .said3 .ensures)
+    (image-taken keptPack takeOutNumber takeOutRoom (λ σ. sizeFor (σ .gauge))
+    (ap (λ (x : StateIn). x .number) read) (ap (λ (x : StateIn). x .session) read) (first .if1 .left)
+    (taken .number) (taken .written) (test .if2 .left) (sized .image-size .ensures))
 
 pub trovimbe-image-spec : {M : Type 1} → statement M
 trovimbe-image-spec =
-    tie.close (tie.spec (λ c κs. search needs) (λ c κs. search needs) (λ c. search needs) returns (λ c κs. search needs) returns-2)
+    tie.close
+    (tie.spec
+    (λ c κs. search needs)
+    (λ c κs. search needs)
+    returns
+    (λ c κs. search needs)
+    (λ c κs. search needs)
+    (λ c. search needs)
+    returns-2
+    (λ c κs. search needs)
+    (λ c κs. search needs)
+    (λ c. search needs)
+    returns-3)

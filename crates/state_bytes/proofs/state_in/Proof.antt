@@ -1,88 +1,44 @@
-use mathlib.Core.Path.{_≡_, sym, ap, _∙_}
+use mathlib.Core.Path.{_≡_, sym, ap, subst, _∙_}
 use denote.Ref.{now}
-use Rattle.numbers.specs.Choice.{both}
-use Rattle.numbers.proofs.Bounds.{both-true}
-use Rattle.bus.specs.Ask.{sameBytes}
 use Rattle.runs.specs.declared.Session.{Session}
-use Rattle.state_bytes.specs.State.{soundMeter, stateBytes}
-use Rattle.state_bytes.proofs.Undoing.{told, in-length, in-version, in-state, in-none, sound-meter}
+use Rattle.runs.specs.SessionRecord.{SessionWF}
+use Rattle.state_bytes.specs.declared.StateIn.{StateIn}
+use Rattle.state_bytes.specs.State.{noState, stateIn}
+use Rattle.state_bytes.proofs.Undoing.{in-size, read-held, read-none, undoing}
 use borrow.Author.Needs.{needs}
 use Rattle.state_bytes.proofs.state_in.Statement.{statement}
 use Rattle.state_bytes.proofs.state_in.Tie as tie
 
--- places: `a→b` leads from the record of the place a back to that of the place b
 abbrev then1→start : tie.Then1 → tie.Start
-then1→start c = c .before .before
+then1→start c = c .before .before .before
 
-abbrev then2→else1 : tie.Then2 → tie.Else1
-then2→else1 c = c .before .before
+-- the bytes are a state
+is-state : (c : tie.Then1) → stateIn (now (then1→start c .args .bytes)) .number ≡ 0
+is-state c = sym (c .before .state-number .ensures) ∙ c .if1 .taken
 
-abbrev else2→else1 : tie.Else2 → tie.Else1
-else2→else1 c = c .before .before
-
-abbrev else1→start : tie.Else1 → tie.Start
-else1→start c = c .before .before
-
-abbrev and→read : tie.After-and → tie.After-session-at
-and→read c = c .before .before .before
-
-abbrev and→else2 : tie.After-and → tie.Else2
-and→else2 c = and→read c .before
-
-abbrev and→start : tie.After-and → tie.Start
-and→start c = else1→start (else2→else1 (and→else2 c))
-
--- what both tests say, of the state that the bytes are
-tested : (c : tie.After-and) → c .and .result ≡ told (now (and→start c .args .bytes))
-tested c =
-    let b = now (and→start c .args .bytes) in
-    let at = and→read c .session-at .ensures in
-    c .and .ensures
-    ∙ (λ i. both (c .before .before .sound .ensures i) (c .before .written-as .ensures i))
-    ∙ ap (λ (s : Session). both (soundMeter (s .gauge .meter)) (sameBytes (stateBytes s) b)) at
+session-at-requires : tie.Need-session-at-requires
+session-at-requires c κs = in-size (now (then1→start c .args .bytes)) (is-state c)
 
 returns : tie.Need-returns
-returns c = (c .no-state .ensures .0 ∙ in-length (now (then1→start (c .before) .args .bytes)) (c .before .if1 .taken), c .no-state .ensures .1)
+returns c =
+    let b = now (then1→start (c .before) .args .bytes) in
+    let read = ap (λ (s : Session). record { number = 0; session = s }) (c .session-at .ensures) ∙ read-held b (is-state (c .before)) in
+    (read, subst (λ (x : StateIn). SessionWF (x .session)) (sym read) (undoing .sound b (is-state (c .before)) .wf))
 
 returns-2 : tie.Need-returns-2
 returns-2 c =
-    let long = then2→else1 (c .before) in (
-      c .no-state2 .ensures .0 ∙ in-version (now (else1→start long .args .bytes)) (long .if1 .left) (c .before .if2 .taken),
-      c .no-state2 .ensures .1,
-    )
-
-returns-3 : tie.Need-returns-3
-returns-3 c =
-    let second = and→else2 (c .before) in
-    let b = now (and→start (c .before) .args .bytes) in
-    let at = and→read (c .before) .session-at .ensures in
-    let good = sym (tested (c .before)) ∙ c .if3 .taken in (
-      ap (λ (s : Session). record { number = 0; session = s }) at ∙ in-state b (else2→else1 second .if1 .left) (second .if2 .left) good,
-      rw at (record { gauge = record { meter = sound-meter _ (both-true _ _ good .0) .0 } }),
-    )
-
-returns-4 : tie.Need-returns-4
-returns-4 c =
-    let found = c .before .before in
-    let second = and→else2 found in
-    let bad = sym (tested found) ∙ c .before .if3 .left in (
-      c .no-state3 .ensures .0 ∙ in-none (now (and→start found .args .bytes)) (else2→else1 second .if1 .left) (second .if2 .left) bad,
-      c .no-state3 .ensures .1,
-    )
+    let test = c .before in
+    let counted = test .before in
+    let b = now (counted .before .before .args .bytes) in
+    let none = read-none b (λ e. test .if1 .left (counted .state-number .ensures ∙ e)) in
+    (c .no-state .ensures .0 ∙ ap noState (counted .state-number .ensures) ∙ none, c .no-state .ensures .1)
 
 pub state-in-spec : {M : Type 1} → statement M
 state-in-spec =
     tie.close
     (tie.spec
     (λ c κs. search needs)
+    session-at-requires
     returns
-    (λ c. search needs)
     (λ c κs. search needs)
-    returns-2
-    (λ c κs. search needs)
-    (λ c κs. search needs)
-    (λ c κs. search needs)
-    (λ c κs. search needs)
-    returns-3
-    (λ c κs. search needs)
-    returns-4)
+    returns-2)

@@ -1,0 +1,74 @@
+use mathlib.Core.Path.{ap}
+use Rattle.gauge.specs.Image.{sizeFor}
+use Rattle.tray_record.specs.Tray.{packOf}
+use Rattle.tray_run.specs.TrayRun.{slotOutNumber, slotOutRoom}
+use Rattle.state_bytes.specs.declared.TrayStateIn.{TrayStateIn}
+use Rattle.library.specs.Library.{keptTray}
+use Rattle.library.proofs.Calls.{image-none, image-refused, image-taken}
+use borrow.Author.Needs.{needs}
+use Rattle.library.proofs.trovimbe_tray_image.Statement.{statement}
+use Rattle.library.proofs.trovimbe_tray_image.Tie as tie
+
+-- places: `a→b` leads from the record of the place a back to that of the place b
+abbrev in→start : tie.After-tray-state-in → tie.Start
+in→start c = c .before .before .before
+
+abbrev else1→in : tie.Else1 → tie.After-tray-state-in
+else1→in c = c .before .before .before
+
+abbrev out→else1 : tie.After-take-out → tie.Else1
+out→else1 c = c .before .before
+
+returns : tie.Need-returns
+returns c =
+    let held = c .before .before .before .before in
+    let slot = in→start held .args .slot in
+    let read = held .tray-state-in .ensures .0 in
+    rw (c .said .ensures)
+    (image-none keptTray (λ τ. slotOutNumber τ slot) (λ τ. slotOutRoom τ slot) (λ τ. sizeFor (packOf τ slot))
+    (ap (λ (x : TrayStateIn). x .number) read) (c .before .if1 .taken))
+
+returns-2 : tie.Need-returns-2
+returns-2 c =
+    let test = c .before in
+    let out = test .before .before .before in
+    let first = out→else1 out in
+    let held = else1→in first in
+    let slot = in→start held .args .slot in
+    let read = held .tray-state-in .ensures .0 in
+    let taken = out .take-out .ensures in
+    rw (c .said2 .ensures)
+    (image-refused keptTray (λ τ. slotOutNumber τ slot) (λ τ. slotOutRoom τ slot) (λ τ. sizeFor (packOf τ slot))
+    (ap (λ (x : TrayStateIn). x .number) read) (ap (λ (x : TrayStateIn). x .tray) read) (first .if1 .left)
+    (taken .number) (taken .written) (test .if2 .taken))
+
+returns-3 : tie.Need-returns-3
+returns-3 c =
+    let sized = c .before in
+    let test = sized .before in
+    let out = test .before .before .before in
+    let first = out→else1 out in
+    let held = else1→in first in
+    let slot = in→start held .args .slot in
+    let read = held .tray-state-in .ensures .0 in
+    let taken = out .take-out .ensures in
+    rw (c .said3 .ensures)
+    (image-taken keptTray (λ τ. slotOutNumber τ slot) (λ τ. slotOutRoom τ slot) (λ τ. sizeFor (packOf τ slot))
+    (ap (λ (x : TrayStateIn). x .number) read) (ap (λ (x : TrayStateIn). x .tray) read) (first .if1 .left)
+    (taken .number) (taken .written) (test .if2 .left) (sized .image-size .ensures))
+
+pub trovimbe-tray-image-spec : {M : Type 1} → statement M
+trovimbe-tray-image-spec =
+    tie.close
+    (tie.spec
+    (λ c κs. search needs)
+    (λ c κs. search needs)
+    returns
+    (λ c κs. search needs)
+    (λ c κs. search needs)
+    (λ c. search needs)
+    returns-2
+    (λ c κs. search needs)
+    (λ c κs. search needs)
+    (λ c. search needs)
+    returns-3)

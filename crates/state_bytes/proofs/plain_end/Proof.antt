@@ -1,0 +1,24 @@
+use borrow.Author.Needs.{needs}
+use Rattle.state_bytes.proofs.plain_end.Statement.{statement}
+use Rattle.state_bytes.proofs.plain_end.Tie as tie
+
+returns : tie.Need-returns
+returns c = cc
+
+pub plain-end-spec : {M : Type 1} → statement M
+plain-end-spec =
+    tie.close
+    (tie.spec
+    (λ c. search needs)
+    (λ c. search needs)
+    (λ c. search needs)
+    (λ c κs. search needs)
+    (λ c κs. search needs)
+    (λ c κs. search needs)
+    (λ c. search needs)
+    (λ c. search needs)
+    (λ c. search needs)
+    (λ c κs. search needs)
+    (λ c κs. search needs)
+    (λ c κs. search needs)
+    returns)

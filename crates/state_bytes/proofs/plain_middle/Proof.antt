@@ -1,0 +1,24 @@
+use borrow.Author.Needs.{needs}
+use Rattle.state_bytes.proofs.plain_middle.Statement.{statement}
+use Rattle.state_bytes.proofs.plain_middle.Tie as tie
+
+returns : tie.Need-returns
+returns c = cc
+
+pub plain-middle-spec : {M : Type 1} → statement M
+plain-middle-spec =
+    tie.close
+    (tie.spec
+    (λ c. search needs)
+    (λ c. search needs)
+    (λ c. search needs)
+    (λ c κs. search needs)
+    (λ c κs. search needs)
+    (λ c κs. search needs)
+    (λ c. search needs)
+    (λ c. search needs)
+    (λ c. search needs)
+    (λ c κs. search needs)
+    (λ c κs. search needs)
+    (λ c κs. search needs)
+    returns)
