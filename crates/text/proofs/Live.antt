@@ -11,6 +11,7 @@ use lib.ListN.{length, getD, take, drop, length-take, drop-of-length-le, List·g
 use lib.Seq.{getD-take}
 use Rattle.numbers.proofs.Bounds.{times}
 use Rattle.slices.specs.Slices.{put}
+use Rattle.slices.proofs.Laws.{put-length}
 use Rattle.digits.specs.Digits.{Writing}
 use Rattle.streams.specs.declared.Stream.the-variants.{Output}
 use Rattle.runs.specs.Record.{Rec, cut, wholeOf, recOf, sizeOf, recsOf}
@@ -20,7 +21,7 @@ use Rattle.runs.proofs.Records.{Bytes, recs-cons, rec-cut, size-cut}
 use Rattle.runs.proofs.Lines.{AllCoded, Fits, lines-length, lines-coded, lines-fit}
 use Rattle.runs.proofs.Steps.{roomy-lines, roomy-end}
 use Rattle.runs.proofs.Divided.{taken-first, divided, carried-on}
-use Rattle.runs.proofs.Wholes.{span-records, wholes-few}
+use Rattle.runs.proofs.Wholes.{span-within, span-records, wholes-few}
 use Rattle.text.specs.Line.{lineText}
 use Rattle.text.specs.Text.{headerText, linesText, codesText}
 use Rattle.text.specs.Live.{cutText, liveLines, liveEnd, Turning, printedIn, endIn, ReadsWithin, ReadByRead, Resumed}
@@ -109,6 +110,14 @@ bytes-first n l h i = by (ltb i n) refl
         let none = List·getD-eq-default (take n l) 0 {n = i} (omega (arith, length-take n l, ltb-false i n e)) in
         omega (arith, none)
 
+-- the bytes of the records of a turn
+module _ (most : ℕ) (bytes : List ℕ) {used : ℕ} (span : used ≡ spanOf most bytes) where
+  pub span-short : used ≤ length bytes
+  span-short = subst (λ (k : ℕ). k ≤ length bytes) (sym span) (span-within most bytes)
+
+  pub span-few : length (recsOf (take used bytes)) ≤ most
+  span-few = subst (λ (k : ℕ). length (recsOf (take k bytes)) ≤ most) (sym span) (omega (arith, ap length (span-records most bytes), wholes-few most bytes))
+
 module _ {S : Type 0} (did : S → ℕ → Rec → Did S) (f : Fits did) (same : (σ : S) (room : ℕ) (r : Rec) → 256 ≤ room → did σ room r ≡ did σ 256 r)
     (most : ℕ) {σ : S} (bytes : List ℕ) {room answers : List ℕ} {used : ℕ} {r : Result S} {after told : List ℕ} (span : used ≡ spanOf most bytes)
     (run : Running did σ (take used bytes) room answers r after told) (roomy : 256 * most ≤ length room) (enough : most ≤ length answers) where
@@ -128,6 +137,10 @@ module _ {S : Type 0} (did : S → ℕ → Rec → Did S) (f : Fits did) (same :
   pub lines-within : r .lines ≤ length answers
   lines-within = omega (arith, lines-told, wholes-few most bytes)
 
+  -- the lent rooms keep their lengths, and hold what is told
+  pub told-within : r .lines ≤ length told
+  told-within = omega (arith, lines-within, ap length (run .answered) ∙ put-length answers 0 (codesOf (linesAfter did σ (length room) (recsOf (take used bytes)))))
+
   codes-told : take (r .lines) told ≡ codesOf (liveLines did σ (wholesIn most bytes))
   codes-told =
       let codes = codesOf (liveLines did σ (wholesIn most bytes)) in
@@ -136,8 +149,11 @@ module _ {S : Type 0} (did : S → ℕ → Rec → Did S) (f : Fits did) (same :
       let count : r .lines ≡ length codes = run .lines ∙ ap length lines-same ∙ sym size in
       rw told-here (front answers codes (r .lines) count (omega (arith, count, lines-within)))
 
-  replied-within : r .replied ≤ length room
+  pub replied-within : r .replied ≤ length room
   replied-within = omega (arith, run .replied, lines-fit did f σ (length room) (recsOf (take used bytes)))
+
+  pub after-within : r .replied ≤ length after
+  after-within = omega (arith, replied-within, ap length (run .replies) ∙ put-length room 0 (repliesOf (linesAfter did σ (length room) (recsOf (take used bytes)))))
 
   replies-told : take (r .replied) after ≡ repliesOf (liveLines did σ (wholesIn most bytes))
   replies-told =

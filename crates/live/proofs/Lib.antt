@@ -1,0 +1,3 @@
+pub mod Serving
+pub mod Theorems
+pub mod Unique

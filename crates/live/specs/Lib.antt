@@ -1,0 +1,2 @@
+pub mod Live
+pub mod Theorems
