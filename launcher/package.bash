@@ -55,7 +55,7 @@ package() { # DIR
 filled() {
     tools=$kit/on/$(uname -m)/toolchain
     cp -- "$tools/lib/ld-linux-x86-64.so.2" "$tools/lib/libc.so.6" "$folder/lib" || return
-    for program in "${programs[@]}"; do cp -- "$top/target/bin/$program" "$folder/bin" || return; done
+    for program in "${programs[@]}"; do cp -- "$top/target/bin/${second[$program]-$program}" "$folder/bin" || return; done
     find_desk # by name, and not the whole folder: what Python left there would change with the next run, and its sum would be wrong
     (cd "$top" && shopt -s nullglob && carry trovimbe launcher/{pages,words,start,packaged}.bash VERSION LICENSE CHANGELOG.md Makefile \
         docs/trovimbe.1 docs/{FORMATS,WORDS,BUS,FIRST-TEN-MINUTES}.md docs/programs/*.txt completion/trovimbe.bash examples/* \

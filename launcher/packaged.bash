@@ -1,7 +1,7 @@
 # In a package: the programs are built, in bin/, with the loader and the C library of the kit in lib/; PACKAGE.txt says what they are of.
 
 programs=()
-for file in "$top"/bin/*; do programs+=("${file##*/}"); done
+for file in "$top"/bin/*; do add_program "${file##*/}"; done
 
 # Leaves the program in `bin` and what starts it in `runner`.
 ready() { # NAME
@@ -9,7 +9,7 @@ ready() { # NAME
         say "the programs of this package are for x86-64, and this machine is $(uname -m): in a checkout, with the kit, they run on Arm too"
         exit 2
     fi
-    bin=$top/bin/$1
+    bin=$top/bin/${second[$1]-$1}
     runner=("$top/lib/ld-linux-x86-64.so.2" --library-path "$top/lib")
 }
 

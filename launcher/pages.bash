@@ -15,6 +15,16 @@ show() { # TEXT
 
 has_page() { [[ $1 =~ ^[a-z][a-z0-9_]*$ ]] && [ -f "$top/docs/programs/$1.txt" ]; }
 
+# A program that has a second name: with a word more it keeps its state in a file.
+declare -A second=([resume]=live)
+
+# Adds a program, and its second name, to the list.
+add_program() { # CRATE
+    local name
+    programs+=("$1")
+    for name in "${!second[@]}"; do [ "${second[$name]}" != "$1" ] || programs+=("$name"); done
+}
+
 is_program() { # NAME
     local program
     for program in "${programs[@]}"; do [ "$program" != "$1" ] || return 0; done

@@ -12,7 +12,7 @@ while IFS= read -r line || [ -n "$line" ]; do
     crate=${line%%:*}
     crate=${crate//[[:space:]]/}
     below[$crate]=${line#*:}
-    [ ! -f "$top/crates/$crate/src/main.rt" ] || programs+=("$crate")
+    [ ! -f "$top/crates/$crate/src/main.rt" ] || add_program "$crate"
 done <"$top/crates.txt"
 
 # Leaves the kit's folder in `kit` and what names it in `identity`; fails where there is none.
@@ -23,15 +23,17 @@ find_kit() {
     identity=$(<"$kit/KIT-ID")
 }
 
-# Leaves the files of a program in `bin`, `stamp` and `log`, and the folders of its crate and of each crate of ours below it in `folders`; a name
-# that crates.txt does not list is a library of the kit. `proves` is what rt is told, `wrought` what is done with that which it made.
+# Leaves the crate of a program in `made`, its files in `bin`, `stamp` and `log`, and the folders of its crate and of each crate of ours below it in
+# `folders`; a name that crates.txt does not list is a library of the kit. `proves` is what rt is told, `wrought` what is done with that which it made.
 aim() { # NAME
-    name=$1 proves=(check "$1") wrought=true ending='so it is not run'
-    bin=$top/target/bin/$1
+    name=$1
+    made=${second[$1]-$1}
+    proves=(check "$made") wrought=true ending='so it is not run'
+    bin=$top/target/bin/$made
     stamp=$bin.stamp
-    log=$top/target/trovimbe-$1.log
+    log=$top/target/trovimbe-$made.log
     folders=() seen=' '
-    reach "$1"
+    reach "$made"
 }
 
 reach() { # CRATE
@@ -103,7 +105,7 @@ build() {
         flock 9
     fi
     fresh && return
-    [ -x "$bin" ] || rm -f "$top/target/stamp/$name"
+    [ -x "$bin" ] || rm -f "$top/target/stamp/$made"
     rm -f "$stamp"
     if { echo "$identity" >"$stamp.begun" && : >"$log"; } then
         (cd "$top" && exec "$rt" "${proves[@]}") </dev/null 2>&1 9>&- | follow >"$log"

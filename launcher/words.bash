@@ -1,22 +1,25 @@
 # What the words of a call mean, by the first line of the program's page: a bare word has to be given; [FILE] may be, and is then standard input;
-# [--word] is an option; [..] stands for any words, which are handed on.
+# [--word] is an option; [--word=NAME] is one with a word of its own, which the program gets behind the others; [..] stands for any words, which are
+# handed on.
 
 # Leaves the words for the program in `given`, FILE, where there is one, in `file`, and the options in `options`; `reads` says whether the
 # program reads standard input.
 take_words() { # WORD..
-    local takes word needs=0 allowed=' '
+    local takes word needs=0 allowed=' ' valued=()
     given=() file=() options=' ' reads=''
     read -ra takes <<<"${call#"$name"}"
     for word in "${takes[@]}"; do
         case $word in
         '[..]') given=("$@") && return ;;
         '[FILE]') reads=1 ;;
+        '[--'*=*']') word=${word#[} allowed+="${word%%=*}= " ;;
         '[--'*']') word=${word#[} allowed+="${word%]} " ;;
         *) needs=$((needs + 1)) ;;
         esac
     done
     for word in "$@"; do
         case $word in
+        --*=*) [[ $allowed == *" ${word%%=*}= "* ]] || misused && valued+=("${word#*=}") ;;
         --*) [[ $allowed == *" $word "* ]] || misused && options+="$word " ;;
         *) given+=("$word") ;;
         esac
@@ -26,6 +29,7 @@ take_words() { # WORD..
         unset "given[needs]"
     fi
     [ ${#given[@]} -eq "$needs" ] || misused
+    given+=("${valued[@]}")
 }
 
 misused() {
@@ -58,7 +62,7 @@ hint() {
     if [ -t 0 ]; then
         say "$name reads from the terminal: type its input and end it with Ctrl-D on a line of its own, or stop by Ctrl-C and name a file: $self $call"
     elif [ -t 2 ] && [ -f /dev/stdin ]; then
-        case $name in session | image | tray | tray_image) hint_session ;; esac
+        case $name in session | live | resume | image | tray | tray_image) hint_session ;; esac
     fi
 }
 
