@@ -25,7 +25,8 @@ returns-2 c =
     let at-start = at-else1 .before .before in
     let n = at-start .args .n in
     rw (fives-long 0 n (at-else1 .if1 .left))
-    (wider (then (rw (decimal-short (n / 100000) (omega (arith, at-start .pre .0))) at (at-above .put-decimal2 .ensures)) (rw (at-places .places .ensures) at (at-put .put-bytes .ensures))) (omega arith))
+    (wider (then (rw (decimal-short (n / 100000) (omega (arith, at-start .pre .0))) at (at-above .put-decimal2 .ensures))
+    (rw (at-places .places .ensures) at (at-put .put-bytes .ensures))) (omega arith))
 
 pub put-ten-spec : {M : Type 1} → statement M
 put-ten-spec =
