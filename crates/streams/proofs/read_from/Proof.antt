@@ -21,23 +21,32 @@ abbrev μ-loop : tie.MeasureT-loop
 μ-loop fd room₀ count₀ room count = length room₀ - count
 
 -- places: `a→b` leads from the record of the place a back to that of the place b
-abbrev room2→read : tie.After-room2 Inv-loop μ-loop → tie.After-read Inv-loop μ-loop
-room2→read c = c .before .before .before
+abbrev read→in-loop : tie.After-read Inv-loop μ-loop → tie.In-loop Inv-loop μ-loop
+read→in-loop c = c .before .before
+
+abbrev slice-known2→read : tie.After-slice-known2 Inv-loop μ-loop → tie.After-read Inv-loop μ-loop
+slice-known2→read c = c .before .before
+
+abbrev count→slice-known2 : tie.After-count Inv-loop μ-loop → tie.After-slice-known2 Inv-loop μ-loop
+count→slice-known2 c = c .before .before .before
+
+abbrev else1→count : tie.Else1 Inv-loop μ-loop → tie.After-count Inv-loop μ-loop
+else1→count c = c .before
 
 abbrev else1→read : tie.Else1 Inv-loop μ-loop → tie.After-read Inv-loop μ-loop
-else1→read c = room2→read (c .before .before .before)
+else1→read c = slice-known2→read (count→slice-known2 (else1→count c))
 
 abbrev else1→in-loop : tie.Else1 Inv-loop μ-loop → tie.In-loop Inv-loop μ-loop
-else1→in-loop c = else1→read c .before .before
+else1→in-loop c = read→in-loop (else1→read c)
 
 abbrev else1→loop : tie.Else1 Inv-loop μ-loop → tie.At-loop Inv-loop μ-loop
 else1→loop c = else1→in-loop c .before
 
 abbrev then1→read : tie.Then1 Inv-loop μ-loop → tie.After-read Inv-loop μ-loop
-then1→read c = room2→read (c .before .before .before)
+then1→read c = slice-known2→read (count→slice-known2 (c .before))
 
 abbrev then1→loop : tie.Then1 Inv-loop μ-loop → tie.At-loop Inv-loop μ-loop
-then1→loop c = then1→read c .before .before .before
+then1→loop c = read→in-loop (then1→read c) .before
 
 loop-holds : tie.Need-loop-holds Inv-loop μ-loop
 loop-holds c = (omega arith, refl)
@@ -53,7 +62,7 @@ add-count c =
       arith,
       back-length (else1→loop c .loop .room) (else1→read c .read .last .1 .0) (else1→loop c .loop .count) (else1→loop c .loop .inv .0)
           (else1→read c .read .kept .1 .0),
-      c .before .count .ensures .0 .0,
+      else1→count c .count .ensures .0 .0,
       else1→in-loop c .loop-test .taken,
     )
 
@@ -67,7 +76,7 @@ loop-again c =
     let now-there = take i l ++ (else1→read c .read .last .1 .0 ++ drop (length l - i) (drop i l)) in
     let same = back-length (else1→loop c .loop .room) (else1→read c .read .last .1 .0) (else1→loop c .loop .count) (else1→loop c .loop .inv .0)
     (else1→read c .read .kept .1 .0) ∙ else1→loop c .loop .inv .1 in
-    let few : c .before .count .result ≤ length now-there - i = rest-size now-there i (c .before .count .ensures .0 .0) in
+    let few : else1→count c .count .result ≤ length now-there - i = rest-size now-there i (else1→count c .count .ensures .0 .0) in
     (omega (arith, few, same, else1→loop c .loop .inv .1, else1→in-loop c .loop-test .taken), same)
 
 same-length-2 : tie.Need-same-length-2 Inv-loop μ-loop
