@@ -33,6 +33,9 @@ def attempt(name, tried):
     return True
 
 
+SECOND_NAMES = {"resume": "live"}  # a program that is run under a second name too, with the crate that it is
+
+
 @functools.cache
 def loader(name):
     """Our program NAME as `./trovimbe` starts it."""
@@ -40,7 +43,7 @@ def loader(name):
     tools = os.path.join(kit, "on", os.uname().machine, "toolchain")
     emulator = os.path.join(tools, "bin", "qemu-x86_64")
     return [*([emulator] if os.access(emulator, os.X_OK) else []), os.path.join(tools, "lib", "ld-linux-x86-64.so.2"), "--library-path",
-            os.path.join(tools, "lib"), os.path.join(TOP, "target", "bin", name)]
+            os.path.join(tools, "lib"), os.path.join(TOP, "target", "bin", SECOND_NAMES.get(name, name))]
 
 
 PLAIN = {name: value for name, value in os.environ.items() if not name.startswith("QEMU_")}  # as the script's
@@ -64,7 +67,7 @@ def ran(command, **how):
         ended.returncode = ended.returncode or int(ended.stderr != b"")
         return ended
     ended = subprocess.run(command, stderr=subprocess.PIPE, check=False, **how)
-    if ours and ended.returncode in (0, 1) and b"it is not run" not in ended.stderr and os.path.exists(os.path.join(TOP, "target", "bin", command[1] + ".stamp")):
+    if ours and ended.returncode in (0, 1) and b"it is not run" not in ended.stderr and os.path.exists(os.path.join(TOP, "target", "bin", SECOND_NAMES.get(command[1], command[1]) + ".stamp")):
         ASKED.add(ours)
     return ended
 

@@ -13,7 +13,7 @@ use Rattle.session_run.specs.SessionRun.{emptyOf}
 use Rattle.state_bytes.specs.declared.StateIn.{StateIn}
 use Rattle.state_bytes.specs.State.{stateIn}
 use Rattle.text.specs.Text.{headerText, packSpeech}
-use Rattle.text.specs.Live.{cutText}
+use Rattle.text.specs.Live.{leftText}
 
 -- what is lent for a turn: 256 bytes of reply room for each of 1,024 records, an answer for each, and 32 bytes of text and two for each byte of reply
 pub record Lent (room told text : ℕ) : Type 0 where
@@ -36,8 +36,8 @@ unfoldable pub startSpeech : ℕ → Speech
 startSpeech number = pick (eqb number 0) (output headerText) (error (refusedText number (stateWords number)))
 
 -- what is said last, with so many bytes left; or where a read failed
-unfoldable pub endSpeech : List ℕ → Bool → ℕ → ℕ → Speech
-endSpeech program failed number left = pick failed (error (unreadText program)) (output (cutText number left))
+unfoldable pub lastSpeech : List ℕ → Bool → ℕ → ℕ → Speech
+lastSpeech program failed number left = pick failed (error (unreadText program)) (output (leftText number left))
 
 abbrev pub unloadedWords : List ℕ
 unloadedWords = ascii "no image was accepted"

@@ -10,7 +10,7 @@ ghost use lib.ListN.{length};
 ghost use Rattle.streams.specs.Streams.{Saying};
 ghost use Rattle.text.specs.Live.{Turning};
 ghost use Rattle.runs.specs.SessionRecord.{SessionWF, didOf};
-ghost use Rattle.live.specs.Live.{Lent, heldOf, startSpeech, endSpeech, atEndSpeech};
+ghost use Rattle.live.specs.Live.{Lent, heldOf, startSpeech, lastSpeech, atEndSpeech};
 
 // What a turn did: the state after it, how many records it answered, how many bytes they were, and what is said.
 struct Turned {
@@ -63,7 +63,7 @@ fn ended(program: &[u8], number: usize, left: usize, failed: bool, out: &mut [u8
     requires { ⌜ length (now program) ≤ 8 ⌝ }
     requires { ⌜ number + 1 < 18446744073709551616 ⌝ }
     requires { ⌜ 64 ≤ length (now out) ⌝ }
-    ensures { λ r. ⌜ Saying (endSpeech (now (program .entry)) failed number left) (now (out .entry)) r (now (out .exit)) ⌝ }
+    ensures { λ r. ⌜ Saying (lastSpeech (now (program .entry)) failed number left) (now (out .entry)) r (now (out .exit)) ⌝ }
 {
     if failed {
         return streams::put_unread(program, out);

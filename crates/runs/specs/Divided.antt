@@ -20,9 +20,9 @@ leftOver zero l = l
 leftOver (suc n) l = pick (wholeOf l) (leftOver n (drop (sizeOf l) l)) l
 
 -- how many bytes they are
-abbrev pub spanOf : ℕ → List ℕ → ℕ
-spanOf zero l = 0
-spanOf (suc n) l = pick (wholeOf l) (sizeOf l + spanOf n (drop (sizeOf l) l)) 0
+abbrev pub wholesSpan : ℕ → List ℕ → ℕ
+wholesSpan zero l = 0
+wholesSpan (suc n) l = pick (wholeOf l) (sizeOf l + wholesSpan n (drop (sizeOf l) l)) 0
 
 -- the records that are answered, read by read: each read joins what was left before it; at the end of input what is left is answered
 abbrev pub answeredIn : ℕ → List ℕ → List (List ℕ) → List Rec

@@ -9,7 +9,7 @@ ghost use Prim.Native.Nat.{_+_, _<_, _≤_};
 ghost use lib.ListN.{length};
 ghost use Rattle.runs.specs.Record.{wholeOf, Recorded};
 ghost use Rattle.runs.specs.Run.{codeOf, outcomeNumber, outcomeOf};
-ghost use Rattle.runs.specs.Divided.{spanOf};
+ghost use Rattle.runs.specs.Divided.{wholesSpan};
 ghost use Rattle.runs.specs.AnyRecord.{refusedOf, takenRead, frontBy};
 ghost use Rattle.runs.specs.SessionRecord.{toldOf};
 
@@ -59,7 +59,7 @@ pub fn whole(rest: &[u8]) -> bool
 
 // How many bytes the whole records at the front are, so many records at most.
 pub fn span(bytes: &[u8], most: usize) -> usize
-    ensures { λ r. ⌜ r ≡ spanOf most (now (bytes .entry)) ⌝ }
+    ensures { λ r. ⌜ r ≡ wholesSpan most (now (bytes .entry)) ⌝ }
 {
     let mut at = 0;
     let mut n = 0;

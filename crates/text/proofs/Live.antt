@@ -16,7 +16,7 @@ use Rattle.digits.specs.Digits.{Writing}
 use Rattle.streams.specs.declared.Stream.the-variants.{Output}
 use Rattle.runs.specs.Record.{Rec, cut, wholeOf, recOf, sizeOf, recsOf}
 use Rattle.runs.specs.Run.{Did, silently, Line, lineOf, linesAfter, endAfter, codesOf, repliesOf, Result, Running}
-use Rattle.runs.specs.Divided.{wholesIn, leftOver, spanOf, inputOf}
+use Rattle.runs.specs.Divided.{wholesIn, leftOver, wholesSpan, inputOf}
 use Rattle.runs.proofs.Records.{Bytes, recs-cons, rec-cut, size-cut}
 use Rattle.runs.proofs.Lines.{AllCoded, Fits, lines-length, lines-coded, lines-fit}
 use Rattle.runs.proofs.Steps.{roomy-lines, roomy-end}
@@ -24,7 +24,7 @@ use Rattle.runs.proofs.Divided.{taken-first, divided, carried-on}
 use Rattle.runs.proofs.Wholes.{span-within, span-records, wholes-few}
 use Rattle.text.specs.Line.{lineText}
 use Rattle.text.specs.Text.{headerText, linesText, codesText}
-use Rattle.text.specs.Live.{cutText, liveLines, liveEnd, Turning, printedIn, endIn, ReadsWithin, ReadByRead, Resumed}
+use Rattle.text.specs.Live.{leftText, liveLines, liveEnd, Turning, printedIn, endIn, ReadsWithin, ReadByRead, Resumed}
 use Rattle.text.proofs.Lines.{codes-lines}
 use Rattle.text.proofs.Printed.{codes-length, front}
 
@@ -46,7 +46,7 @@ left-records x xs w =
 
 module _ {S : Type 0} (did : S → ℕ → Rec → Did S) (idle : (σ : S) (room : ℕ) → did σ room cut ≡ silently σ 2) where
   -- it is answered 2, and leaves the state
-  cut-told : (σ : S) (number : ℕ) (left : List ℕ) → wholeOf left ≡ false → cutText number (length left) ≡ linesText number (liveLines did σ (recsOf left))
+  cut-told : (σ : S) (number : ℕ) (left : List ℕ) → wholeOf left ≡ false → leftText number (length left) ≡ linesText number (liveLines did σ (recsOf left))
   cut-told σ number [] w = refl
   cut-told σ number (x ∷ xs) w =
       sym (
@@ -111,7 +111,7 @@ bytes-first n l h i = by (ltb i n) refl
         omega (arith, none)
 
 -- the bytes of the records of a turn
-module _ (most : ℕ) (bytes : List ℕ) {used : ℕ} (span : used ≡ spanOf most bytes) where
+module _ (most : ℕ) (bytes : List ℕ) {used : ℕ} (span : used ≡ wholesSpan most bytes) where
   pub span-short : used ≤ length bytes
   span-short = subst (λ (k : ℕ). k ≤ length bytes) (sym span) (span-within most bytes)
 
@@ -119,7 +119,7 @@ module _ (most : ℕ) (bytes : List ℕ) {used : ℕ} (span : used ≡ spanOf mo
   span-few = subst (λ (k : ℕ). length (recsOf (take k bytes)) ≤ most) (sym span) (omega (arith, ap length (span-records most bytes), wholes-few most bytes))
 
 module _ {S : Type 0} (did : S → ℕ → Rec → Did S) (f : Fits did) (same : (σ : S) (room : ℕ) (r : Rec) → 256 ≤ room → did σ room r ≡ did σ 256 r)
-    (most : ℕ) {σ : S} (bytes : List ℕ) {room answers : List ℕ} {used : ℕ} {r : Result S} {after told : List ℕ} (span : used ≡ spanOf most bytes)
+    (most : ℕ) {σ : S} (bytes : List ℕ) {room answers : List ℕ} {used : ℕ} {r : Result S} {after told : List ℕ} (span : used ≡ wholesSpan most bytes)
     (run : Running did σ (take used bytes) room answers r after told) (roomy : 256 * most ≤ length room) (enough : most ≤ length answers) where
   records : recsOf (take used bytes) ≡ (wholesIn most bytes)
   records = ap (λ (k : ℕ). recsOf (take k bytes)) span ∙ span-records most bytes
@@ -139,7 +139,9 @@ module _ {S : Type 0} (did : S → ℕ → Rec → Did S) (f : Fits did) (same :
 
   -- the lent rooms keep their lengths, and hold what is told
   pub told-within : r .lines ≤ length told
-  told-within = omega (arith, lines-within, ap length (run .answered) ∙ put-length answers 0 (codesOf (linesAfter did σ (length room) (recsOf (take used bytes)))))
+  told-within =
+      let ls = linesAfter did σ (length room) (recsOf (take used bytes)) in
+      omega (arith, lines-within, ap length (run .answered) ∙ put-length answers 0 (codesOf ls))
 
   codes-told : take (r .lines) told ≡ codesOf (liveLines did σ (wholesIn most bytes))
   codes-told =
@@ -153,7 +155,9 @@ module _ {S : Type 0} (did : S → ℕ → Rec → Did S) (f : Fits did) (same :
   replied-within = omega (arith, run .replied, lines-fit did f σ (length room) (recsOf (take used bytes)))
 
   pub after-within : r .replied ≤ length after
-  after-within = omega (arith, replied-within, ap length (run .replies) ∙ put-length room 0 (repliesOf (linesAfter did σ (length room) (recsOf (take used bytes)))))
+  after-within =
+      let ls = linesAfter did σ (length room) (recsOf (take used bytes)) in
+      omega (arith, replied-within, ap length (run .replies) ∙ put-length room 0 (repliesOf ls))
 
   replies-told : take (r .replied) after ≡ repliesOf (liveLines did σ (wholesIn most bytes))
   replies-told =
@@ -188,7 +192,7 @@ module _ {S : Type 0} (did : S → ℕ → Rec → Did S) (f : Fits did) (same :
 -- ---- what is left at the end of the input
 
 -- the code 131072 is that of the kind 0 and the answer 2
-pub cut-coded : (number left few : ℕ) → few ≡ min left 1 → codesText number (take few (131072 ∷ [])) [] ≡ cutText number left
+pub cut-coded : (number left few : ℕ) → few ≡ min left 1 → codesText number (take few (131072 ∷ [])) [] ≡ leftText number left
 cut-coded number zero few e =
     let none : few ≡ 0 = omega arith in
     rw none refl

@@ -11,14 +11,14 @@ use Rattle.runs.specs.declared.Outcome.the-variants.{Done}
 use Rattle.runs.specs.Record.{Rec, recsOf}
 use Rattle.runs.specs.Run.{Did, Line, linesAfter, endAfter, repliesOf, codesOf}
 use Rattle.runs.specs.Step.{ownRoom}
-use Rattle.runs.specs.Divided.{wholesIn, leftOver, spanOf, inputOf}
+use Rattle.runs.specs.Divided.{wholesIn, leftOver, wholesSpan, inputOf}
 use Rattle.text.specs.Line.{lineText}
 use Rattle.text.specs.Text.{headerText, linesText, textOf}
 
 -- of so many bytes that are left at the end of the input: they are of a record that is cut, which is answered 2
-abbrev pub cutText : ℕ → ℕ → List ℕ
-cutText number zero = []
-cutText number (suc left) = lineText number 0 2 []
+abbrev pub leftText : ℕ → ℕ → List ℕ
+leftText number zero = []
+leftText number (suc left) = lineText number 0 2 []
 
 module _ {S : Type 0} (did : S → ℕ → Rec → Did S) where
   -- the lines of records from a state on, each with 256 bytes of reply room; and the state behind them
@@ -33,14 +33,14 @@ module _ {S : Type 0} (did : S → ℕ → Rec → Did S) where
       (replied told text : List ℕ) : Type 0 where
     pub state : after ≡ liveEnd σ (wholesIn most bytes)
     pub counted : lines ≡ length (wholesIn most bytes)
-    pub used : spent ≡ spanOf most bytes
+    pub used : spent ≡ wholesSpan most bytes
     pub saying : Saying (output (linesText number (liveLines σ (wholesIn most bytes)))) out said text
     pub replies : replied ≡ put room 0 (repliesOf (liveLines σ (wholesIn most bytes)))
     pub answered : told ≡ put answers 0 (codesOf (liveLines σ (wholesIn most bytes)))
 
   -- what is printed turn by turn, and the state at the end: each read joins what was left before it
   abbrev pub printedIn : ℕ → S → ℕ → List ℕ → List (List ℕ) → List ℕ
-  printedIn most σ number left [] = cutText number (length left)
+  printedIn most σ number left [] = leftText number (length left)
   printedIn most σ number left (read ∷ reads) =
       linesText number (liveLines σ (wholesIn most (left ++ read)))
       ++ printedIn most (liveEnd σ (wholesIn most (left ++ read))) (number + length (wholesIn most (left ++ read))) (leftOver most (left ++ read)) reads

@@ -72,7 +72,9 @@ run-on-requires c κs =
     )
 
 slice-reshare-prefix-put-codes : tie.Need-slice-reshare-prefix-put-codes
-slice-reshare-prefix-put-codes c = lines-told (c .before .before .before .before .before)
+slice-reshare-prefix-put-codes c =
+    let ran = c .before .before .before .before in
+    lines-told (ran .before)
 
 slice-aggregate-put-codes : tie.Need-slice-aggregate-put-codes
 slice-aggregate-put-codes c =
@@ -109,7 +111,8 @@ returns : tie.Need-returns
 returns c =
     let at-put-codes = c .before .before in
     let ran = at-put-codes .before .before .before .before in
-    let at-run-on = ran .before .before .before .before .before in
+    let at-lines = ran .before .before .before in
+    let at-run-on = at-lines .before .before in
     let a = start at-run-on in (
       turned didOf did-fits did-own 1024 (now (a .args .bytes)) (spanned at-run-on .span .ensures) (at-run-on .run-on .ensures .0) (roomy at-run-on)
           (enough at-run-on) (λ i. known (spanned at-run-on) .shared-slice-known .given i .fits) (a .args .first) (at-put-codes .put-codes .ensures),

@@ -8,13 +8,13 @@ use lib.ListN.{length, take, length-take}
 use lib.Seq.{length-take-le}
 use Rattle.text.proofs.Going.{most-long}
 use Rattle.text.proofs.Live.{cut-coded}
-use Rattle.live.specs.Live.{endSpeech}
+use Rattle.live.specs.Live.{lastSpeech}
 use borrow.Author.Needs.{needs}
 use Rattle.live.proofs.ended.Statement.{statement}
 use Rattle.live.proofs.ended.Tie as tie
 
 returns : tie.Need-returns
-unfolding endSpeech
+unfolding lastSpeech
 returns c =
     let at-put-unread = c .before .before in
     rw (at-put-unread .before .before .if1 .taken) (at-put-unread .put-unread .ensures)
@@ -33,7 +33,7 @@ put-codes-requires c κs =
     (omega (arith, few, at-start .pre .1 .0), omega (arith, few, most-long (at-start .args .number) (length cut) 0, at-start .pre .1 .1))
 
 returns-2 : tie.Need-returns-2
-unfolding endSpeech
+unfolding lastSpeech
 returns-2 c =
     let at-put-codes = c .before .before in
     let at-lesser = at-put-codes .before .before .before .before in

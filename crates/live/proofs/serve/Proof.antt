@@ -35,7 +35,7 @@ abbrev more→read : tie.After-struct-known2 Inv-loop μ-loop → tie.After-read
 more→read c = known→read (c .before .before)
 
 abbrev answered→more : tie.After-answered Inv-loop μ-loop → tie.After-struct-known2 Inv-loop μ-loop
-answered→more c = c .before .before .before .before .before
+answered→more c = (c .before .before .before) .before .before
 
 abbrev session→answered : tie.After-session Inv-loop μ-loop → tie.After-answered Inv-loop μ-loop
 session→answered c = (c .before .before .before .before) .before .before .before .before
