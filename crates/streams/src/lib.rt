@@ -193,7 +193,7 @@ fn write_output(name: &[u8], text: &[u8]) -> bool {
 }
 
 // Writes what is said. Where standard output does not take it, standard error has a line. Whether all of it went to standard output, it answers.
-pub fn say_all(name: &[u8], said: Said, room: &[u8]) -> bool {
+fn pass_on(name: &[u8], said: Said, room: &[u8]) -> bool {
     let stream = said.stream;
     let count = within(said.count, room);
     match stream {
@@ -205,8 +205,12 @@ pub fn say_all(name: &[u8], said: Said, room: &[u8]) -> bool {
     }
 }
 
+pub fn say_all(name: &[u8], said: Said, room: &[u8]) -> bool {
+    pass_on(name, said, room)
+}
+
 pub fn say(name: &[u8], said: Said, room: &[u8]) {
-    say_all(name, said, room);
+    pass_on(name, said, room);
 }
 
 // ---- a file that is written
