@@ -5,12 +5,12 @@ use mathlib.Core.List.{List, [], _∷_}
 use Prim.Native.Nat.{ℕ, zero, suc, _<_}
 use native.Mathlib.Nat.{mod-eq-of-lt}
 use native.Mathlib.Omega.{arith}
-use borrow.Author.Tests.{lt-ltb, ne-eqb, eqb-true, eqb-false}
+use borrow.Author.Tests.{lt-ltb, eqb-true, eqb-false}
 use lib.Bits.{bitAnd, and-comm, and-mask}
 use lib.Dec.{eqb}
 use lib.ListN.{length, getD}
 use lib.Seq.{ext-getD}
-use Rattle.numbers.specs.Choice.{pick, either}
+use Rattle.numbers.specs.Choice.{pick}
 use Rattle.bus.specs.declared.Transaction.{Transaction}
 use Rattle.params.specs.Params.{rnaopOf}
 use Rattle.replies.specs.Reply.{sourceByte}
@@ -24,8 +24,7 @@ use Rattle.record.specs.declared.Refusal.the-variants as refusal
 use Rattle.record.specs.declared.Event.the-variants.{Image, Change, Transact}
 use Rattle.record.specs.declared.Taken.{Taken}
 use Rattle.record.specs.declared.Taken.the-variants.{Run, Refused}
-use Rattle.record.specs.Record.{refusalNumber, masterOf, fittedOf}
-use Rattle.record.proofs.Fits.{refusal-range}
+use Rattle.record.specs.Record.{masterOf, fittedOf}
 use Rattle.runs.proofs.AnyRecord.{reply-length}
 use Rattle.runs.specs.Record.{whole, recsOf}
 use Rattle.runs.specs.Run.{Did}
@@ -39,7 +38,7 @@ use Rattle.tray_record.specs.Tray.{emptyTray, packOf, wiredFirst, Reach, one, e
 use Rattle.hex.specs.Theorems.{Bytes}
 use Rattle.demands.specs.Longer.{formKind}
 use Rattle.demands.specs.Slots.{andOver, EachAsPlain, TransactionsAsPlain}
-use Rattle.demands.proofs.Choice.{contrary, either-none, either-true}
+use Rattle.demands.proofs.Choice.{contrary, either-true}
 use Rattle.demands.proofs.Moments.{running}
 use Rattle.demands.proofs.Fitted.{fitted-has}
 use Rattle.demands.proofs.Small.{SmallGauge, reply-bytes}
@@ -47,7 +46,7 @@ use Rattle.demands.proofs.SmallRuns.{slot-small}
 use Rattle.demands.proofs.Packs.{Eight, acted-pack, acted-count}
 use Rattle.demands.proofs.Asked.{Asks, tray-asks}
 use Rattle.demands.proofs.Alone.{transaction-kind}
-use Rattle.demands.proofs.Slots.{asks-plain}
+use Rattle.demands.proofs.Slots.{refused-opens, asks-plain}
 use Rattle.demands.proofs.Distinct.{Distinct, end-distinct, selects, Quiet, Whom, alone, all, none, whom}
 
 -- The AND of bytes
@@ -152,8 +151,7 @@ each-same : {s : List ℕ} {τ : Tray} {d : Did Tray} (f g : ℕ → Did Session
 each-same {s} {τ} {d} f g e h = record {
   answer = λ i low. h .answer i low ∙ ap (λ (x : Did Session). x .answer) (e i low);
   pack = λ i low. h .pack i low ∙ ap (λ (x : Did Session). x .state .gauge) (e i low);
-  count = h .count;
-  closed = h .closed;
+  opening = h .opening;
   size = λ i low. h .size i low ∙ ap (λ (x : Did Session). length (x .reply)) (e i low);
   byte = λ bytes k less.
       let same : (i : ℕ) → i < τ .count → getD (f i .reply) k 0 ≡ getD (g i .reply) k 0 = λ i low. ap (λ (x : Did Session). getD (x .reply) k 0) (e i low) in
@@ -169,10 +167,7 @@ module _ (s : List ℕ) (τ : Tray) (h : Distinct τ) (small : Bytes s → (i : 
   refused-each r = record {
     answer = λ i low. refl;
     pack = λ i low. refl;
-    count = refl;
-    closed =
-        let z : refusalNumber r ≡ 0 → ⊥ = λ e. omega (arith, refusal-range r) in
-        sym (ap (either (τ .closed)) (ne-eqb (refusalNumber r) 0 z) ∙ either-none (τ .closed));
+    opening = refused-opens τ p r;
     size = λ i low. refl;
     byte = λ bytes k less. absurd (omega arith);
   }
@@ -186,8 +181,7 @@ module _ (s : List ℕ) (τ : Tray) (h : Distinct τ) (small : Bytes s → (i : 
       record {
         answer = λ i low. refl;
         pack = λ i low. each-acts t master τ (h .eight) reach w i low;
-        count = acted-count t master τ reach;
-        closed = sym (either-true (τ .closed));
+        opening = record { count = acted-count t master τ reach; closed = sym (either-true (τ .closed)) };
         size = λ i low. long ∙ sym (reply-length (packOf τ i) t master);
         byte = λ bytes k less.
             each-byte t master τ (h .eight) reach w k (rw long at less) (λ i low. reply-bytes (packOf τ i) (small bytes i) t master k);

@@ -77,7 +77,7 @@ slot-image-in-its-size d i room answer after w there size out =
 -- SLOTS: the last slot that has a pack
 pub last-slot-as-old : (c : Call Tray) → Within trayDid emptyTray c → (i : ℕ) → suc i ≡ c .ran .state .count → (n m : ℕ) → Stands n m
     → (room : ℕ) (p : List ℕ)
-    → AsOld i (trayDid (c .ran .state) room (whole n (i ∷ p))) (didOf (loadedWith (packOf (c .ran .state) i)) room (whole m p))
+    → AsOld (c .ran .state) i (trayDid (c .ran .state) room (whole n (i ∷ p))) (didOf (loadedWith (packOf (c .ran .state) i)) room (whole m p))
 last-slot-as-old c w i last n m stands room p = slots-as-old .events c w i (omega (arith, last)) n m stands room p
 
 -- PROGRAMMING: with 30 answers lent; with reply room for 32 bytes, and for one less

@@ -28,19 +28,26 @@ pub data Stands : ℕ → ℕ → Type 0 where
   sample : Stands 22 6
   power-on : Stands 21 5
 
+-- what becomes of the tray itself: it has as many packs, and what is done closes its opening
+pub record Closes (τ : Tray) (d : Did Tray) : Type 0 where
+  pub count : d .state .count ≡ τ .count
+  pub closed : d .state .closed ≡ either (τ .closed) (eqb (d .answer) 0)
+
 -- the slot's pack does what the gauge of a plain session does, and the answer and the reply are the same
-pub record AsOld (i : ℕ) (d : Did Tray) (f : Did Session) : Type 0 where
+pub record AsOld (τ : Tray) (i : ℕ) (d : Did Tray) (f : Did Session) : Type 0 where
   pub answer : d .answer ≡ f .answer
   pub reply : d .reply ≡ f .reply
   pub pack : packOf (d .state) i ≡ f .state .gauge
+  pub opening : Closes τ d
 
 -- in the state that any run leaves, with any room: an event of a slot that has a pack, and a transaction that the search matches to a slot
 pub record SlotsAsOld : Type 0 where
   pub events : (c : Call Tray) → Within trayDid emptyTray c → (i : ℕ) → i < c .ran .state .count → (n m : ℕ) → Stands n m →
       (room : ℕ) (p : List ℕ)
-      → AsOld i (trayDid (c .ran .state) room (whole n (i ∷ p))) (didOf (loadedWith (packOf (c .ran .state) i)) room (whole m p))
+      → AsOld (c .ran .state) i (trayDid (c .ran .state) room (whole n (i ∷ p))) (didOf (loadedWith (packOf (c .ran .state) i)) room (whole m p))
   pub matched : (c : Call Tray) → Within trayDid emptyTray c → (i room : ℕ) (f : Form) (p : List ℕ) → reachIn (c .ran .state) f p ≡ one i
-      → AsOld i (trayDid (c .ran .state) room (whole (formKind f) p)) (didOf (loadedWith (packOf (c .ran .state) i)) room (whole (formKind f) p))
+      → AsOld (c .ran .state) i (trayDid (c .ran .state) room (whole (formKind f) p))
+      (didOf (loadedWith (packOf (c .ran .state) i)) room (whole (formKind f) p))
 
 -- ---- every pack, with any transaction, whomever it addresses: "Skip and net address reads go to every pack, and each reply byte is the bitwise AND of
 -- theirs." So it is where the search matches a pack, since each other pack is not selected then, does nothing and replies FFh
@@ -54,9 +61,7 @@ andOver (suc n) byte = bitAnd (andOver n byte) (byte n)
 pub record EachAsPlain (s : List ℕ) (τ : Tray) (d : Did Tray) (plain : ℕ → Did Session) : Type 0 where
   pub answer : (i : ℕ) → i < τ .count → d .answer ≡ plain i .answer
   pub pack : (i : ℕ) → i < τ .count → packOf (d .state) i ≡ plain i .state .gauge
-  -- as many packs, and a transaction that is done closes the opening
-  pub count : d .state .count ≡ τ .count
-  pub closed : d .state .closed ≡ either (τ .closed) (eqb (d .answer) 0)
+  pub opening : Closes τ d
   pub size : (i : ℕ) → i < τ .count → length (d .reply) ≡ length (plain i .reply)
   -- where s is of bytes, so that every reply is
   pub byte : Bytes s → (k : ℕ) → k < length (d .reply)
