@@ -241,8 +241,8 @@ put-bare-end-requires c κs =
 loop-again : tie.Need-loop-again Inv-loop μ-loop
 loop-again c =
     let turn = slice-known4→in-loop c in (
-      more-done (in-loop→loop turn .loop .inv .0) (turn .loop-test .taken) (few turn) (slice-known4→then2 c .if2 .taken) (slice-known4→put-counted c .put-counted .ensures)
-          (slice-known4→put-done c .put-done .ensures) (slice-known4→put-bare-end c .put-bare-end .ensures),
+      more-done (in-loop→loop turn .loop .inv .0) (turn .loop-test .taken) (few turn) (slice-known4→then2 c .if2 .taken)
+          (slice-known4→put-counted c .put-counted .ensures) (slice-known4→put-done c .put-done .ensures) (slice-known4→put-bare-end c .put-bare-end .ensures),
       next-four (slice-known4→counted-up c),
     )
 
