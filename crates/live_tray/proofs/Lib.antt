@@ -1,0 +1,3 @@
+pub mod TrayServing
+pub mod Theorems
+pub mod Unique

@@ -1,0 +1,2 @@
+pub mod LiveTray
+pub mod Theorems
