@@ -16,7 +16,7 @@ show() { # TEXT
 has_page() { [[ $1 =~ ^[a-z][a-z0-9_]*$ ]] && [ -f "$top/docs/programs/$1.txt" ]; }
 
 # A program that has a second name: with a word more it keeps its state in a file.
-declare -A second=([resume]=live)
+declare -A second=([resume]=live [resume_tray]=live_tray)
 
 # Adds a program, and its second name, to the list.
 add_program() { # CRATE

@@ -32,7 +32,7 @@ strictly() {
     return "$refused"
 }
 
-# A program cannot ask for a file's mode, so where `mend` or `resume` replaces a plain file the umask leaves the new one what that file lets be read and written.
+# A program cannot ask for a file's mode, so where a program replaces a plain file the umask leaves the new one what that file lets be read and written.
 keep_mode() { # FILE
     local mode
     if [ -f "$1" ] && [ ! -L "$1" ] && mode=$(stat -c %a -- "$1"); then umask "$(printf %o $((0777 & ~0$mode)))"; fi
@@ -41,7 +41,7 @@ keep_mode() { # FILE
 # Runs the program and ends.
 start() { # WORD..
     local ended
-    case $name in mend | resume) keep_mode "$1" ;; esac
+    case $name in mend | resume | resume_tray) keep_mode "$1" ;; esac
     if [[ $options != *' --strict '* ]]; then
         told "$@"
         exit

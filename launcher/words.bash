@@ -1,11 +1,11 @@
 # What the words of a call mean, by the first line of the program's page: a bare word has to be given; [FILE] may be, and is then standard input;
-# [--word] is an option; [--word=NAME] is one with a word of its own, which the program gets behind the others; [..] stands for any words, which are
-# handed on.
+# [--word] is an option; [--word=NAME] is one with a word of its own, which the program gets behind the others; [A B] are words that may be
+# given, together; [..] stands for any words, which are handed on.
 
 # Leaves the words for the program in `given`, FILE, where there is one, in `file`, and the options in `options`; `reads` says whether the
 # program reads standard input.
 take_words() { # WORD..
-    local takes word needs=0 allowed=' ' valued=()
+    local takes word needs=0 more=0 allowed=' ' valued=()
     given=() file=() options=' ' reads=''
     read -ra takes <<<"${call#"$name"}"
     for word in "${takes[@]}"; do
@@ -14,6 +14,7 @@ take_words() { # WORD..
         '[FILE]') reads=1 ;;
         '[--'*=*']') word=${word#[} allowed+="${word%%=*}= " ;;
         '[--'*']') word=${word#[} allowed+="${word%]} " ;;
+        '['* | *']') more=$((more + 1)) ;;
         *) needs=$((needs + 1)) ;;
         esac
     done
@@ -24,6 +25,7 @@ take_words() { # WORD..
         *) given+=("$word") ;;
         esac
     done
+    [ ${#given[@]} -lt $((needs + more)) ] || needs=$((needs + more))
     if [ -n "$reads" ] && [ ${#given[@]} -eq $((needs + 1)) ]; then
         file=("${given[needs]}")
         unset "given[needs]"
@@ -62,7 +64,7 @@ hint() {
     if [ -t 0 ]; then
         say "$name reads from the terminal: type its input and end it with Ctrl-D on a line of its own, or stop by Ctrl-C and name a file: $self $call"
     elif [ -t 2 ] && [ -f /dev/stdin ]; then
-        case $name in session | live | resume | image | tray | tray_image) hint_session ;; esac
+        case $name in session | live | resume | image | tray | live_tray | resume_tray | tray_image) hint_session ;; esac
     fi
 }
 

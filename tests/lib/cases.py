@@ -2,6 +2,7 @@
 import fcntl
 import functools
 import os
+import re
 import shutil
 import subprocess
 import sys
@@ -11,6 +12,7 @@ TOP = os.path.dirname(os.path.dirname(os.path.dirname(os.path.abspath(__file__))
 COMMAND = os.path.join(TOP, "trovimbe")
 SECOND = os.path.join(TOP, "tests", "second_program", "second.c")
 LONG = "--long" in sys.argv[1:]
+SECOND_NAMES = {"resume": "live", "resume_tray": "live_tray"}  # by its second name a program takes other words, and has a page for that
 
 
 class Wrong(Exception):
@@ -33,9 +35,6 @@ def attempt(name, tried):
     return True
 
 
-SECOND_NAMES = {"resume": "live"}  # a program that is run under a second name too, with the crate that it is
-
-
 @functools.cache
 def loader(name):
     """Our program NAME as `./trovimbe` starts it."""
@@ -46,15 +45,20 @@ def loader(name):
             os.path.join(tools, "lib"), os.path.join(TOP, "target", "bin", SECOND_NAMES.get(name, name))]
 
 
+def called(programs):
+    """The names of some programs, a second one behind the first."""
+    return [name for program in programs for name in [program, *(second for second, first in SECOND_NAMES.items() if first == program)]]
+
+
 PLAIN = {name: value for name, value in os.environ.items() if not name.startswith("QEMU_")}  # as the script's
 ASKED = set()  # (name, how many words) of each program of ours that `./trovimbe` has run: it is proved, built and takes so many
 
 
 @functools.cache
 def own_words(name):
-    """How many words the program itself gets: those of its page that are no FILE and no option, which the script takes."""
+    """How many words the program itself has to get: those of its page that are no FILE, no option and no word that may be left away."""
     with open(os.path.join(TOP, "docs", "programs", name + ".txt"), encoding="utf-8") as page:
-        return sum(not word.startswith("[") for word in page.readline().split()[1:])
+        return len(re.sub(r"\[.*?\]", "", page.readline()).split()) - 1
 
 
 def ran(command, **how):
@@ -67,7 +71,8 @@ def ran(command, **how):
         ended.returncode = ended.returncode or int(ended.stderr != b"")
         return ended
     ended = subprocess.run(command, stderr=subprocess.PIPE, check=False, **how)
-    if ours and ended.returncode in (0, 1) and b"it is not run" not in ended.stderr and os.path.exists(os.path.join(TOP, "target", "bin", SECOND_NAMES.get(command[1], command[1]) + ".stamp")):
+    built = os.path.join(TOP, "target", "bin", SECOND_NAMES.get(command[1], command[1]) + ".stamp") if ours else ""
+    if ours and ended.returncode in (0, 1) and b"it is not run" not in ended.stderr and os.path.exists(built):
         ASKED.add(ours)
     return ended
 
