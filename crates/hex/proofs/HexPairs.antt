@@ -6,7 +6,8 @@ use Rattle.record.specs.Record.{addressedOf, orderedOf, judgedAmong}
 use Rattle.hex.specs.Line.{formedOf, sumsToZero, expectedOf, checkedLineOf}
 use Rattle.hex.specs.Export.{bothAccepted, exportAnswer}
 use Rattle.hex.specs.Import.{wholeText, importAnswer}
-use Rattle.hex.specs.HexPairs.{ExportAlone, ExportImageFirst, ImportAlone, ImportFormFirst, ImportSumFirst, ImportRecordFirst, ImportLineFirst, ImportWholeFirst}
+use Rattle.hex.specs.HexPairs.{ExportAlone, ExportImageFirst, ImportAlone, ImportFormFirst, ImportSumFirst, ImportRecordFirst}
+use Rattle.hex.specs.HexPairs.{ImportLineFirst, ImportWholeFirst}
 
 pub export-alone : ExportAlone
 unfolding exportAnswer bothAccepted judgedAmong addressedOf orderedOf crc.bitOf crc.eightOf crc.nextOf

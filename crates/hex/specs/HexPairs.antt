@@ -102,7 +102,7 @@ abbrev pub ImportLineFirst : Type 0
 ImportLineFirst =
     imports (misplaced ++ (unformed ++ rest)) 48 ∷ imports (misplaced ++ (missummed ++ rest)) 48
     ∷ imports (missummed ++ (unformedMisplaced ++ rest)) 48 ∷ []
-    ≡ 42 ∷ 42 ∷ 41 ∷ []
+    ≡ replicate 2 42 ++ (41 ∷ [])
 
 -- 43 before 45: a record missing, or the whole text, and a room of 47
 abbrev pub ImportWholeFirst : Type 0
