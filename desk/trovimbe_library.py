@@ -103,7 +103,7 @@ def trovimbe_tray_record(state: bytearray, record: bytes, room: int = TROVIMBE_R
 def trovimbe_tray_image(state: bytes, slot: int, room: int = TROVIMBE_CAMERA_SIZE) -> Tuple[int, bytes]:
     """The answer, and the image of the pack in a slot as it is now."""
     image = bytearray(room)
-    done: Result = loaded().trovimbe_tray_image(_read(bytes(state)), len(state), slot, _lent(image), len(image))
+    done: Result = loaded().trovimbe_tray_image(_read(bytes(state)), len(state), bytes([slot])[0], _lent(image), len(image))
     return int(done.answer), bytes(image[:done.count])
 
 

@@ -58,7 +58,7 @@ enum trovimbe_answer {
     TROVIMBE_TICKS = 11,        /* sample: 0 ticks or more than 64 since the last one */
     TROVIMBE_TWICE = 12,        /* tray, image: a pack with this address is there already */
     TROVIMBE_STATE_LENGTH = 50, /* a state has another number of bytes */
-    TROVIMBE_STATE_VERSION = 51, /* the state is of another version of the library, or of a tray where a pack is wanted, or the other way round */
+    TROVIMBE_STATE_VERSION = 51, /* the bytes are as many, and the state is of another version of the library */
     TROVIMBE_NO_STATE = 52,     /* the bytes are no state: a flag is neither 0 nor 1, or a number is out of its bounds */
     TROVIMBE_STATE_ROOM = 53,   /* start: the room is not that of a state */
     TROVIMBE_NO_HEADER = 54     /* fewer than the 4 bytes of a record's header were handed over */
@@ -121,7 +121,7 @@ static inline const char *trovimbe_meaning(uint8_t answer) {
 /* ---- records. Each helper writes a record to `out` and returns how many bytes it has; 0, and nothing is written, where `room` is too small. */
 
 static inline size_t trovimbe_make(uint8_t *out, size_t room, unsigned kind, const uint8_t *head, size_t heads, const uint8_t *payload, size_t n) {
-    if (heads + n > 65535 || room < 4 + heads + n) return 0;
+    if (n > 65535 - heads || room < 4 + heads + n) return 0; /* in this order: no sum wraps, however large n is */
     out[0] = (uint8_t)((heads + n) & 0xFF);
     out[1] = (uint8_t)((heads + n) >> 8);
     out[2] = (uint8_t)(kind & 0xFF);
@@ -226,7 +226,7 @@ static inline size_t trovimbe_make_read(uint8_t *out, size_t room, uint8_t addre
 static inline size_t trovimbe_make_write(uint8_t *out, size_t room, uint8_t address, const uint8_t *data, size_t n) {
     return trovimbe_make_command(out, room, 0, 0x6C, address, data, n);
 }
-/* Shadow to EEPROM, EEPROM to shadow, and lock for good, of the block that has the address. */
+/* Shadow to EEPROM, EEPROM to shadow, and lock for good, of the block that has the address. A lock does nothing unless bit 6 of 1Fh was set by a write. */
 static inline size_t trovimbe_make_copy(uint8_t *out, size_t room, uint8_t address) {
     return trovimbe_make_command(out, room, 0, 0x48, address, NULL, 0);
 }
@@ -250,7 +250,7 @@ static inline uint8_t trovimbe_map(uint8_t *state, size_t size, uint8_t map[TROV
     return trovimbe_record(state, size, record, n, map, TROVIMBE_MAP_SIZE).answer;
 }
 
-/* The map of the pack of a tray that has this net address. */
+/* The map of the pack of a tray that has this net address; FFh everywhere where none has it. As any transaction it closes the tray: no image comes after. */
 static inline uint8_t trovimbe_tray_map(uint8_t *state, size_t size, const uint8_t *net_address, uint8_t map[TROVIMBE_MAP_SIZE]) {
     uint8_t record[24];
     size_t n = trovimbe_make_match_read(record, sizeof record, net_address, 0x00, TROVIMBE_MAP_SIZE);
@@ -286,7 +286,7 @@ static inline unsigned trovimbe_as(const uint8_t *map) { return map[0x14]; }    
 static inline unsigned trovimbe_full(const uint8_t *map) { return trovimbe_u16(map, 0x16); }      /* 2^-14 of Full40, as AE and SE */
 static inline unsigned trovimbe_ae(const uint8_t *map) { return trovimbe_u16(map, 0x18); }
 static inline unsigned trovimbe_se(const uint8_t *map) { return trovimbe_u16(map, 0x1A); }
-static inline unsigned trovimbe_cycles(const uint8_t *map) { return map[0x1E]; } /* of a DS2775; 255 of a DS2781 */
+static inline unsigned trovimbe_cycles(const uint8_t *map) { return map[0x1E]; } /* of a DS2775, in steps of two cycles; 255 of a DS2781 */
 /* EEPROM, 1Fh */
 static inline int trovimbe_lock(const uint8_t *map) { return map[0x1F] >> 6 & 1; }
 static inline int trovimbe_bl1(const uint8_t *map) { return map[0x1F] >> 1 & 1; }
@@ -315,7 +315,7 @@ static inline int trovimbe_tbp34(const uint8_t *map) { return trovimbe_s8(map, 0
 static inline int trovimbe_tbp23(const uint8_t *map) { return trovimbe_s8(map, 0x7D); }
 static inline int trovimbe_tbp12(const uint8_t *map) { return trovimbe_s8(map, 0x7E); }
 
-/* ---- registers in units. A current or a charge goes by the sense resistor that the pack states; all of these are 0 where RSNSP is 0. */
+/* ---- registers in units. A current or a charge goes by the sense resistor that the pack states, and is 0 where RSNSP is 0. */
 
 enum trovimbe_chip { TROVIMBE_DS2781 = 1, TROVIMBE_DS2775 = 8 }; /* the kind of the record that brought the image */
 

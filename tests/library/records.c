@@ -45,5 +45,9 @@ int main(void) {
     SHOW(net_address, 1);
     printf("%d %d %d %d %d %d\n", (int)trovimbe_current_counts(-120, 50), (int)trovimbe_volt_counts(7.41, TROVIMBE_DS2781),
            (int)trovimbe_volt_counts(3.7, TROVIMBE_DS2775), (int)trovimbe_temp_counts(-4.5), (int)trovimbe_nearest(1e300), (int)trovimbe_nearest(-1e300));
+    /* a length that no sum may wrap at: nothing is written */
+    volatile size_t huge = SIZE_MAX;
+    if (trovimbe_make_transaction(out, sizeof out, 0, bytes, huge) || trovimbe_make_long_transaction(out, sizeof out, 0, bytes, huge)) return 1;
+    if (trovimbe_make_write(out, sizeof out, 0x20, bytes, huge) || trovimbe_make_write(out, sizeof out, 0x20, bytes, huge - 4)) return 1;
     return 0;
 }

@@ -14,7 +14,7 @@ use Rattle.tray_run.specs.TrayRun.{slotHeld}
 use Rattle.state_bytes.specs.declared.TrayStateIn.{TrayStateIn}
 use Rattle.state_bytes.specs.TrayState.{trayStateIn}
 use Rattle.text.specs.Text.{headerText, packSpeech}
-use Rattle.text.specs.Live.{cutText}
+use Rattle.text.specs.Live.{leftText}
 
 -- what is lent for a turn: 256 bytes of reply room for each of 1,024 records, an answer for each, and 32 bytes of text and two for each byte of reply
 pub record TrayLent (room told text : ℕ) : Type 0 where
@@ -38,7 +38,7 @@ trayStartSpeech number = pick (eqb number 0) (output headerText) (error (refused
 
 -- what is said last, with so many bytes left; or where a read failed
 unfoldable pub trayEndSpeech : List ℕ → Bool → ℕ → ℕ → Speech
-trayEndSpeech program failed number left = pick failed (error (unreadText program)) (output (cutText number left))
+trayEndSpeech program failed number left = pick failed (error (unreadText program)) (output (leftText number left))
 
 -- the slot that a word names: one digit, 0 to 7; 8, which no tray has, stands for any other word
 unfoldable pub slotNamed : List ℕ → ℕ
