@@ -176,16 +176,18 @@ class Reader:
 
 @dataclass
 class Writer:
-    """Statements to records. `check` gives the CRC of seven bytes of an address, and `opened` the lines of a file that is included."""
+    """Statements to records. `check` gives the CRC of seven bytes of an address, and `opened` the lines of a file that is included.
+    `typed` says whether somebody types them at a terminal."""
     check: Callable[[bytes], int]
     opened: Callable[[Word, str], "Iterable[str]"]
     names: "dict[str, list[Word]]" = field(default_factory=dict)
     packs: Packs = field(default_factory=Packs)
+    typed: bool = False
 
     # ---- a text
 
     def pieces(self, file: str, lines: Iterable[str], depth: int = 0) -> Iterator[Piece]:
-        for statement in lexer.statements(file, lines):
+        for statement in lexer.statements(file, lines, self.typed and depth == 0):
             yield from self.said(statement, depth)
 
     def said(self, statement: "list[Word]", depth: int = 0) -> Iterator[Piece]:

@@ -59,12 +59,16 @@ def words_of(file: str, number: int, line: str) -> Iterator[Word]:
         yield Word(place, word, quoted(place, word[1:-1]) if kind == "text" else None)
 
 
-def statements(file: str, lines: Iterable[str]) -> Iterator["list[Word]"]:
-    """The statements of a text: each line with the indented lines below it."""
+def statements(file: str, lines: Iterable[str], typed: bool = False) -> Iterator["list[Word]"]:
+    """The statements of a text: each line with the indented lines below it. Of one that is typed an empty line ends a statement too: who types wants
+    its answer before the next one."""
     gathered: "list[Word]" = []
     for number, line in enumerate(lines, 1):
         words = list(words_of(file, number, line))
         if not words:
+            if typed and gathered and not line.strip():
+                yield gathered
+                gathered = []
             continue
         if gathered and not line[0].isspace():
             yield gathered

@@ -99,6 +99,11 @@ def lines(name: str) -> "tuple[str, Iterable[str]]":
     return ("standard input", readable(sys.stdin.buffer, "standard input")) if name == "-" else (name, opened_text(name))
 
 
+def typed(name: str) -> bool:
+    """Whether the input is typed at a terminal."""
+    return name == "-" and sys.stdin.isatty()
+
+
 def opened_text(name: str) -> Iterator[str]:
     with binary(name) as file:
         yield from readable(file, name)
