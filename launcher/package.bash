@@ -58,7 +58,7 @@ filled() {
     for program in "${programs[@]}"; do cp -- "$top/target/bin/${second[$program]-$program}" "$folder/bin" || return; done
     find_desk # by name, and not the whole folder: what Python left there would change with the next run, and its sum would be wrong
     (cd "$top" && shopt -s nullglob && carry trovimbe launcher/{pages,words,start,packaged}.bash VERSION LICENSE CHANGELOG.md Makefile \
-        docs/trovimbe.1 docs/{FORMATS,WORDS,BUS,FIRST-TEN-MINUTES}.md docs/programs/*.txt completion/trovimbe.bash examples/*.* \
+        docs/trovimbe.1 docs/{FORMATS,WORDS,BUS,FIRST-TEN-MINUTES}.md docs/programs/*.txt completion/trovimbe.bash examples/*.* examples/year \
         "${desk[@]/#/desk/}" desk/inside/*.py) || return
     front_page >"$folder/PACKAGE.txt" || return
     (cd "$folder" && find . -type f ! -name PACKAGE.txt -print0 | LC_ALL=C sort -z | xargs -0 sha256sum >>PACKAGE.txt)
