@@ -447,7 +447,8 @@ def drawn(story: Story, look: Look, linked: bool) -> str:
 
 def title(story: Story) -> str:
     labels = [pack.seen.label for pack in story.packs if pack.seen]
-    return f"Picture of {', '.join(labels) or story.name}: charge, per cents, voltage, current and temperature over time, with marks"
+    drawn = "charge and per cent of each pack" if story.tray else "charge, per cents, voltage, current and temperature"
+    return f"Picture of {', '.join(labels) or story.name}: {drawn} over time, with marks"
 
 
 def headline(story: Story) -> str:

@@ -118,9 +118,10 @@ static void statement(const char *word) {
     }
 }
 
-int main(void) {
+int main(int words, char **word) {
     char text[2048];
     size_t used = 0;
+    if (words > 1) { fprintf(stderr, "%s takes no words: give it the case on standard input, as %s <%s\n", word[0], word[0], word[1]); return 2; }
     if (trovimbe_start(state, sizeof state) != TROVIMBE_DONE) return 2;
     while (used < sizeof text - 1 && fgets(text + used, (int)(sizeof text - used), stdin)) {
         line++;
