@@ -212,6 +212,7 @@ Amounts = Callable[[bytes], float]
 
 
 def _at(address: int, size: int = 1, signed: bool = False, weight: int = 1, share: int = 1) -> Counts:
+    """A register in counts; bits below a count, which a gauge shows as 0, are left away, so it is rounded down, as in the header."""
     return lambda shown: int.from_bytes(shown[address:address + size], "big", signed=signed) * weight // share
 
 
@@ -265,7 +266,7 @@ def _times(counts: Counts, weight: float) -> Amounts:
 
 
 def _v(counts: Counts) -> Callable[..., float]:
-    return lambda shown, chip=TROVIMBE_DS2781: counts(shown) * (0.00488 if chip == TROVIMBE_DS2775 else 0.00976)
+    return lambda shown, chip=TROVIMBE_DS2781: counts(shown) * (0.0048828 if chip == TROVIMBE_DS2775 else 0.00976)
 
 
 trovimbe_raac_mah, trovimbe_rsac_mah, trovimbe_temp_c = _times(trovimbe_raac, 1.6), _times(trovimbe_rsac, 1.6), _times(trovimbe_temp, 0.125)

@@ -21,7 +21,9 @@
  *              number is 0 may be null. The buffers of one call must not overlap.
  * Stack        Some 5 KB for a pack and some 15 KB for a tray.
  * Units        A count of current is 1.5625 uV across the sense resistor, above 0 while the pack is charged; a conversion is due each 3600/1024 s.
- *              A count of voltage is 9.76 mV (DS2775: 4.88 mV), of temperature 1/8 degree, of ACR 6.25 uVh across the sense resistor.
+ *              A count of temperature is 1/8 degree, of ACR 6.25 uVh across the sense resistor. A count of voltage is 9.76 mV of the whole stack in a
+ *              DS2781. In a DS2775 it is 4.8828 mV of one cell: that chip measures both of its cells and holds their average against VCHG and VAE. A
+ *              reading has one voltage, so hand over that average; what is shown, VCHG and VAE are volts per cell then, half of the pack's.
  *
  * The entries are proved; the helpers below them, which are `static inline`, are plain C. */
 #ifndef TROVIMBE_H
@@ -276,7 +278,8 @@ static inline unsigned trovimbe_rarc(const uint8_t *map) { return map[0x06]; }  
 static inline unsigned trovimbe_rsrc(const uint8_t *map) { return map[0x07]; }               /* per cent */
 /* measured */
 static inline int trovimbe_iavg(const uint8_t *map) { return trovimbe_s16(map, 0x08); }
-static inline int trovimbe_temp(const uint8_t *map) { return trovimbe_s16(map, 0x0A) / 32; }
+/* TEMP and VOLT are counts x 32. What stands in their low five bits, as in the FFh of a pack that is not there, is left away: rounded down. */
+static inline int trovimbe_temp(const uint8_t *map) { return (trovimbe_s16(map, 0x0A) - (map[0x0B] & 31)) / 32; }
 static inline unsigned trovimbe_volt(const uint8_t *map) { return trovimbe_u16(map, 0x0C) / 32; }
 static inline int trovimbe_current(const uint8_t *map) { return trovimbe_s16(map, 0x0E); }
 /* counted */
@@ -321,7 +324,7 @@ enum trovimbe_chip { TROVIMBE_DS2781 = 1, TROVIMBE_DS2775 = 8 }; /* the kind of 
 
 static inline double trovimbe_ma(const uint8_t *map, double counts) { return counts * 0.0015625 * trovimbe_rsnsp(map); }
 static inline double trovimbe_mah(const uint8_t *map, double counts) { return counts * 0.00625 * trovimbe_rsnsp(map); }
-static inline double trovimbe_v(enum trovimbe_chip chip, double counts) { return counts * (chip == TROVIMBE_DS2775 ? 0.00488 : 0.00976); }
+static inline double trovimbe_v(enum trovimbe_chip chip, double counts) { return counts * (chip == TROVIMBE_DS2775 ? 0.0048828 : 0.00976); }
 static inline double trovimbe_share(double counts) { return counts * 100.0 / 16384.0; } /* per cent of Full40 */
 
 static inline double trovimbe_rsns_mohm(const uint8_t *map) { return trovimbe_rsnsp(map) ? 1000.0 / trovimbe_rsnsp(map) : 0.0; }

@@ -56,6 +56,9 @@ def columns(head: "list[str]", place: Place, wanted: "dict[str, str]") -> "dict[
             if wanted.get(measure, "") in (name.strip(), bare) or measure not in wanted and bare in known:
                 unit = "ticks" if bare in ("tick", "ticks") else unit or USUAL[measure]
                 found.setdefault(measure, Column(at, name.strip(), unit))
+    if len(head) == 1 and (";" in head[0] or "\t" in head[0]):
+        raise Slip(place, "the cells of this file have semicolons or tabs between them", "expected commas, RFC 4180: write it anew as such a CSV, "
+                   "with a point for decimals")
     for measure, name in wanted.items():
         if measure not in found:
             raise Slip(place, f"no column is called {name}", f"the columns are {', '.join(head)}; {nearest(name, [h.strip().lower() for h in head])}")

@@ -7,7 +7,7 @@ CHARGE = Fraction(625, 10**8)          # Vh: 6.25 µVh, a count of ACR
 CAPACITY = Fraction(16, 10)            # mAh: a count of RAAC and RSAC
 TEMPERATURE = Fraction(1, 8)           # °C
 TICKS_AN_HOUR = 1024
-VOLTAGE = {1: Fraction(976, 10**5), 8: Fraction(488, 10**5)}  # V, by the kind of the image: 9.76 mV in 001, 4.88 mV in 000
+VOLTAGE = {1: Fraction(976, 10**5), 8: Fraction(48828, 10**7)}  # V, by the kind of the image: 9.76 mV of the stack in 001, 4.8828 mV of a cell in 000
 
 SCALE = {"": 0, "m": -3, "u": -6, "µ": -6, "μ": -6}
 BASES = ("V", "Ah", "A", "Ohm", "Ω")
