@@ -70,12 +70,15 @@ hint() {
 
 # Looks at the first bytes of the file that is standard input, without taking them from the program.
 hint_session() {
-    local bytes count printable=' (09|0a|0d|[2-6].|7[0-9a-e])'
+    local bytes count rest='' next=' [89ab].' letters=' (09|0a|0d|[2-6].|7[0-9a-e])'
+    letters="$letters| (c[2-9a-f]|d.)$next| e.$next$next| f[0-4]$next$next$next" # UTF-8
     [ -s /dev/stdin ] || { say "the input is empty, and a session has records"; return; }
     bytes=$(od -An -v -tx1 -N 512 /dev/stdin 2>/dev/null | tr -d '\n')
     count=$((${#bytes} / 3))
-    if [[ $bytes =~ ^($printable)+$ ]]; then
-        say "this looks like hex text or another text, and not like the bytes of a session: docs/FIRST-TEN-MINUTES.md shows how to make bytes of hex text"
+    [ "$count" -lt 512 ] || rest="( (c[2-9a-f]|d.|e.($next)?|f[0-4]($next){0,2}))?" # of a longer text the last letter may be cut here
+    if [[ $bytes =~ ^($letters)+$rest$ ]]; then
+        say "this looks like hex text or another text, and not like the bytes of a session: \`$self write\` makes them of words (docs/WORDS.md), and" \
+            "docs/FIRST-TEN-MINUTES.md shows how to make them of hex text"
     elif [[ $count == 60 && $bytes == ' 3d'* ]]; then
         say "this looks like a pack's image, and not like a session: a record of it begins with the bytes 3c 00 01 00, as in docs/FIRST-TEN-MINUTES.md"
     elif [[ $count == 61 && $bytes == ' 32'* ]]; then

@@ -1,17 +1,19 @@
 """Words to records: the language of docs/WORDS.md, one statement after the other."""
+import copy
 import itertools
 import re
 from dataclasses import dataclass, field
 from fractions import Fraction
-from typing import Callable, Iterable, Iterator, NoReturn, Optional, TypeVar
+from typing import Callable, Iterable, Iterator, NoReturn, Optional, TypeVar, Union
 
 from . import image, lexer, records, units
 from .lexer import Word
 from .packs import Pack, Packs
 from .records import Cut, Piece, Record
-from .slips import Place, Slip, nearest
+from .slips import Place, Slip, Unfit, nearest
 
 Value = TypeVar("Value")
+Tell = Callable[[Union[Slip, Unfit]], None]
 
 AMOUNT = re.compile(r"([+-]?[0-9]{1,15}(?:\.[0-9]{1,15})?)([A-Za-zµμΩ°%]*)$")
 BYTE = re.compile(r"[0-9A-Fa-f]{2}$")
@@ -176,19 +178,30 @@ class Reader:
 
 @dataclass
 class Writer:
-    """Statements to records. `check` gives the CRC of seven bytes of an address, and `opened` the lines of a file that is included.
-    `typed` says whether somebody types them at a terminal."""
+    """Statements to records. `check` gives the CRC of seven bytes of an address, and `opened` the lines of a file that is included. `tell` is there where
+    somebody types them at a terminal, who is told of a slip and can say the statement again."""
     check: Callable[[bytes], int]
     opened: Callable[[Word, str], "Iterable[str]"]
     names: "dict[str, list[Word]]" = field(default_factory=dict)
     packs: Packs = field(default_factory=Packs)
-    typed: bool = False
+    tell: "Optional[Tell]" = None
 
     # ---- a text
 
     def pieces(self, file: str, lines: Iterable[str], depth: int = 0) -> Iterator[Piece]:
-        for statement in lexer.statements(file, lines, self.typed and depth == 0):
-            yield from self.said(statement, depth)
+        tell = self.tell if depth == 0 else None
+        for statement in lexer.statements(file, lines, tell):
+            yield from self.whole(statement, tell) if tell else self.said(statement, depth)
+
+    def whole(self, statement: "list[Word]", tell: "Tell") -> "list[Piece]":
+        """All records of a statement that is typed, or none where it has a slip: then names, packs and their ticks are as they were before it."""
+        names, packs = dict(self.names), copy.deepcopy(self.packs)
+        try:
+            return list(self.said(statement))
+        except (Slip, Unfit) as fault:
+            self.names, self.packs = names, packs
+            tell(fault)
+            return []
 
     def said(self, statement: "list[Word]", depth: int = 0) -> Iterator[Piece]:
         """The records of one statement."""

@@ -1,7 +1,7 @@
 """Words of a text, each with its place; a statement is a line and the indented lines below it."""
 import os
 import re
-from typing import Iterable, Iterator, NamedTuple, Optional
+from typing import Callable, Iterable, Iterator, NamedTuple, Optional
 
 from .slips import Place, Slip
 
@@ -59,23 +59,28 @@ def words_of(file: str, number: int, line: str) -> Iterator[Word]:
         yield Word(place, word, quoted(place, word[1:-1]) if kind == "text" else None)
 
 
-def statements(file: str, lines: Iterable[str], typed: bool = False) -> Iterator["list[Word]"]:
-    """The statements of a text: each line with the indented lines below it. Of one that is typed an empty line ends a statement too: who types wants
-    its answer before the next one."""
+def statements(file: str, lines: Iterable[str], tell: "Optional[Callable[[Slip], None]]" = None) -> Iterator["list[Word]"]:
+    """The statements of a text: each line with the indented lines below it. Of one that is typed, where `tell` is given, an empty line ends a statement
+    too: who types wants its answer before the next one. A slip is told there, and its statement is left out, to the end."""
     gathered: "list[Word]" = []
+    left_out = False
     for number, line in enumerate(lines, 1):
-        words = list(words_of(file, number, line))
-        if not words:
-            if typed and gathered and not line.strip():
-                yield gathered
-                gathered = []
-            continue
-        if gathered and not line[0].isspace():
+        ends = line[:1].strip() not in ("", "#") or tell is not None and not line.strip()
+        if gathered and ends:
             yield gathered
             gathered = []
-        gathered += words
-        if len(gathered) > MOST_WORDS:
-            raise Slip(words[0].place, f"the statement has over {MOST_WORDS:,} words by here", "say it in parts: a line that is not indented begins a new one")
+        left_out = left_out and not ends
+        try:
+            words = [] if left_out else list(words_of(file, number, line))
+            if len(gathered) + len(words) > MOST_WORDS:
+                raise Slip(words[0].place, f"the statement has over {MOST_WORDS:,} words by here",
+                           "say it in parts: a line that is not indented begins a new one")
+            gathered += words
+        except Slip as slip:
+            if tell is None:
+                raise
+            tell(slip)
+            gathered, left_out = [], True
     if gathered:
         yield gathered
 

@@ -1,16 +1,12 @@
 """What a report is made of: records as bytes, records as words, or a logger's CSV, each told from the others."""
-import codecs
 import io
 from typing import Iterator, NamedTuple, Optional
 
-from . import logger, pack_file, proved, records, start
+from . import logger, looks, pack_file, proved, records, start
 from .language import Writer
 from .packs import Packs
 from .records import Piece
-from .slips import Unfit
-
-LOOKED_AT = 4096  # bytes by which words are told from bytes
-BLANK = b"\t\n\r\f"
+from .slips import Place, Slip, Unfit
 
 
 class Csv(NamedTuple):
@@ -18,17 +14,6 @@ class Csv(NamedTuple):
     pack: str
     columns: "dict[str, str]"
     fill: bool
-
-
-def is_text(head: bytes) -> bool:
-    """Whether bytes can be words: UTF-8 without the control characters that every record of under 256 bytes has, zeros to begin with."""
-    if not head or any(byte < 32 and byte not in BLANK for byte in head):
-        return False
-    try:
-        codecs.getincrementaldecoder("utf-8")().decode(head, len(head) < LOOKED_AT)  # the last letter of a longer text may be cut here
-    except UnicodeDecodeError:
-        return False
-    return True
 
 
 def whole(name: str) -> bytes:
@@ -56,9 +41,19 @@ def pieces(name: str, csv: Optional[Csv]) -> Iterator[Piece]:
     data = whole(name)
     if csv is not None:
         return logged(called(name), text_lines(name, data), csv)
-    if is_text(data[:LOOKED_AT]):
-        return Writer(proved.checksum, start.included).pieces(called(name), text_lines(name, data))
-    return records.pieces(io.BytesIO(data))
+    head = data[:looks.LOOKED_AT]
+    if not looks.is_text(head):
+        return records.pieces(io.BytesIO(data))
+    if looks.is_csv(head):
+        raise no_words(called(name), text_lines(name, data), looks.opening(head))
+    return Writer(proved.checksum, start.included).pieces(called(name), text_lines(name, data))
+
+
+def no_words(name: str, lines: "list[str]", opening: str) -> Slip:
+    """The slip that a logger's file is handed over as if it were words."""
+    number = next((at for at, line in enumerate(lines, 1) if opening in line), 1)
+    return Slip(Place(name, number, 1, opening), "this looks like the head of a logger's CSV, and not like words",
+                "draw it with --csv --pack=PACK: PACK is the image of the pack that was logged, or words that say one")
 
 
 def logged(name: str, lines: "list[str]", csv: Csv) -> Iterator[Piece]:

@@ -5,7 +5,7 @@ import os
 import sys
 from typing import BinaryIO, Callable, Iterable, Iterator
 
-from . import proved
+from . import looks, proved, records
 from .lexer import Word
 from .slips import Place, Slip, Unfit, nearest, plain
 
@@ -92,6 +92,18 @@ def named(words: "list[str]") -> str:
 def shown() -> None:
     """Lets go of what was written, before more input is waited for: whoever hands over one record after the other gets each answer at once."""
     sys.stdout.flush()
+
+
+def pieces(name: str, program: str) -> records.Pieces:
+    """The records of a file or of standard input, as they come. Who sits at a terminal is told where they look like something else; they stay as they are."""
+    file = binary(name)
+    read: "Callable[[int], bytes]" = getattr(file, "read1", None) or file.read
+
+    def told(head: bytes) -> None:
+        hint = looks.hint(head, SELF, program, "FILE" if name == "-" else plain(name))
+        if hint:
+            said(f"{program}: {hint}", OK)
+    return records.Pieces(looks.watched(read, told) if proved.watched() else read, shown)
 
 
 def lines(name: str) -> "tuple[str, Iterable[str]]":
