@@ -19,6 +19,7 @@ AMOUNT = re.compile(r"([+-]?[0-9]{1,15}(?:\.[0-9]{1,15})?)([A-Za-zµμΩ°%]*)$"
 BYTE = re.compile(r"[0-9A-Fa-f]{2}$")
 HEX = re.compile(r"([0-9A-Fa-f]{1,4})h$")
 NAME = re.compile(r"[A-Za-z][A-Za-z0-9_-]*$")
+CELLS = re.compile(r'[^#"]*[,;]')  # a line that may be a row of a CSV
 WORDS = ("let", "include", "pack", "reading", "conversion", "sample", "power-on", "slot", "read", "write", "copy", "recall", "lock", "net-address",
          "transaction", "skip", "match", "long", "short", "tick", "record", "bytes")
 EVENTS = ("reading", "conversion", "sample", "power-on")
@@ -227,7 +228,7 @@ class Writer:
             self.let(words)
             return
         reader = Reader(words, self.names)
-        first = reader.choice("a statement", WORDS)
+        first = reader.choice("a statement" + (", and a logger's CSV becomes records by `from_csv`" if CELLS.match(words[0].place.text) else ""), WORDS)
         if first == "slot":
             yield from self.slotted(reader)
         elif first in EVENTS:

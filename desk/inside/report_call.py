@@ -42,7 +42,7 @@ def understood(words: "list[str]") -> Call:
         elif word in FLAGS:
             flags.add(word)
         elif word.startswith("-") and word != "-":
-            raise Misused(f"it does not take {plain(word)}")
+            raise Misused(start.mistaken([word], (*TAKES, *FLAGS)) or f"it does not take {plain(word)}")
         else:
             files.append(word)
     call = Call(flags, given, files)
