@@ -39,8 +39,11 @@ class Refused(Exception):
 
 @functools.lru_cache(maxsize=None)
 def loaded() -> ctypes.CDLL:
-    """The library; an OSError says that it is not built, or not for this machine."""
-    library = ctypes.CDLL(LIBRARY)
+    """The library; an OSError says that it is not built, or not for this machine, and what to do."""
+    try:
+        library = ctypes.CDLL(LIBRARY)
+    except OSError as fault:
+        raise OSError(f"{fault}: `./trovimbe library` builds it, for programs of x86-64") from fault
     lent = [ctypes.c_void_p, ctypes.c_size_t]
     library.trovimbe_start.argtypes, library.trovimbe_start.restype = lent, ctypes.c_uint8
     library.trovimbe_record.argtypes, library.trovimbe_record.restype = lent * 3, Result
