@@ -53,7 +53,7 @@ def columns(head: "list[str]", place: Place, wanted: "dict[str, str]") -> "dict[
     for at, name in enumerate(head):
         bare, unit = split_name(name)
         for measure, known in NAMES.items():
-            if wanted.get(measure, "") in (name.strip(), bare) or measure not in wanted and bare in known:
+            if (wanted[measure] in (name.strip(), bare)) if measure in wanted else bare in known:
                 unit = "ticks" if bare in ("tick", "ticks") else unit or USUAL[measure]
                 found.setdefault(measure, Column(at, name.strip(), unit))
     if len(head) == 1 and (";" in head[0] or "\t" in head[0]):
@@ -85,14 +85,25 @@ class Logger:
                 if not any(cell.strip() for cell in cells):
                     continue
                 if found is None:
-                    cells[0] = cells[0].lstrip("\ufeff")  # as some spreadsheets write it
-                    found = columns(cells, place, self.wanted)
+                    found = self.head(cells, place)
                 else:
                     yield self.row(cells, place, found)
             if found is None:
                 raise Slip(Place(file, 1, 1, ""), "the file is empty", "expected a head with the names of the columns, as time,current")
         except csv.Error as fault:
             raise Slip(Place(file, taken.line_num, 1, ""), f"this is no CSV: {fault}", "expected rows of cells with commas between them, RFC 4180") from fault
+
+    def head(self, cells: "list[str]", place: Place) -> "Optional[dict[str, Column]]":
+        """The columns of the first row; None of a comment ahead of it, in which some loggers say who they are."""
+        cells[0] = cells[0].lstrip("\ufeff")  # as some spreadsheets write it
+        comment = cells[0].startswith("#")
+        cells[0] = cells[0].lstrip("# ") if comment else cells[0]
+        try:
+            return columns(cells, place, self.wanted)
+        except Slip:
+            if not comment:
+                raise
+            return None
 
     def row(self, cells: "list[str]", place: Place, found: "dict[str, Column]") -> Row:
         def cell(measure: str) -> str:
