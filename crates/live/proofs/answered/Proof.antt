@@ -16,15 +16,28 @@ use borrow.Author.Needs.{needs}
 use Rattle.live.proofs.answered.Statement.{statement}
 use Rattle.live.proofs.answered.Tie as tie
 
+-- places: `a→b` leads from the record of the place a back to that of the place b
+abbrev run-on-arg→span : tie.After-run-on-arg → tie.After-span
+run-on-arg→span c = c .before
+
+abbrev run-on-arg3→run-on-arg : tie.After-run-on-arg3 → tie.After-run-on-arg
+run-on-arg3→run-on-arg c = c .before .before
+
 -- where the records are counted, and where the function starts
 abbrev spanned : tie.After-run-on → tie.After-span
-spanned c = c .before .before .before .before
+spanned c = run-on-arg→span (run-on-arg3→run-on-arg (c .before))
+
+abbrev span→slice-known : tie.After-span → tie.After-slice-known
+span→slice-known c = c .before .before .before
 
 abbrev known : tie.After-span → tie.After-shared-slice-known
-known c = c .before .before .before .before
+known c = span→slice-known c .before
+
+abbrev span→start : tie.After-span → tie.Start
+span→start c = known c .before
 
 abbrev start : tie.After-run-on → tie.Start
-start c = known (spanned c) .before
+start c = span→start (spanned c)
 
 -- the lent rooms are enough
 roomy : (c : tie.After-run-on) → 256 * 1024 ≤ length (now (start c .args .replies))
@@ -52,14 +65,14 @@ few c =
 
 slice-aggregate-run-on : tie.Need-slice-aggregate-run-on
 slice-aggregate-run-on c =
-    let at-span = c .before in
-    let all = now (known at-span .before .args .bytes) in
+    let at-span = run-on-arg→span c in
+    let all = now (span→start at-span .args .bytes) in
     sym (length-take-le (at-span .span .result) all (span-short 1024 all (at-span .span .ensures)))
 
 run-on-requires : tie.Need-run-on-requires
 run-on-requires c κs =
-    let at-span = c .before .before .before in
-    let at-start = known at-span .before in
+    let at-span = run-on-arg→span (run-on-arg3→run-on-arg c) in
+    let at-start = span→start at-span in
     let all = now (at-start .args .bytes) in
     let short = length-take-le (at-span .span .result) all (span-short 1024 all (at-span .span .ensures)) in
     let fits = span-short 1024 all (at-span .span .ensures) in (
@@ -71,30 +84,36 @@ run-on-requires c κs =
       ),
     )
 
+abbrev slice-known4→run-on : tie.After-slice-known4 → tie.After-run-on
+slice-known4→run-on c = c .before .before
+
+abbrev after→slice-known4 : tie.After-after → tie.After-slice-known4
+after→slice-known4 c = c .before .before .before
+
 slice-reshare-prefix-put-codes : tie.Need-slice-reshare-prefix-put-codes
-slice-reshare-prefix-put-codes c =
-    let ran = c .before .before .before .before in
-    lines-told (ran .before)
+slice-reshare-prefix-put-codes c = lines-told (slice-known4→run-on (after→slice-known4 c))
+
+abbrev put-codes-arg→run-on : tie.After-put-codes-arg → tie.After-run-on
+put-codes-arg→run-on c = slice-known4→run-on (after→slice-known4 (c .before))
 
 slice-aggregate-put-codes : tie.Need-slice-aggregate-put-codes
-slice-aggregate-put-codes c =
-    let ran = c .before .before .before .before in
-    sym (length-take-le _ _ (lines-told (ran .before .before)))
+slice-aggregate-put-codes c = sym (length-take-le _ _ (lines-told (put-codes-arg→run-on c)))
 
 slice-reshare-prefix-put-codes-2 : tie.Need-slice-reshare-prefix-put-codes-2
-slice-reshare-prefix-put-codes-2 c =
-    let ran = c .before .before .before .before in
-    replies-told (ran .before .before)
+slice-reshare-prefix-put-codes-2 c = replies-told (put-codes-arg→run-on c)
+
+abbrev put-codes-arg2→put-codes-arg : tie.After-put-codes-arg2 → tie.After-put-codes-arg
+put-codes-arg2→put-codes-arg c = c .before
 
 slice-aggregate-put-codes-2 : tie.Need-slice-aggregate-put-codes-2
-slice-aggregate-put-codes-2 c =
-    let ran = c .before .before .before .before in
-    sym (length-take-le _ _ (replies-told (ran .before .before .before)))
+slice-aggregate-put-codes-2 c = sym (length-take-le _ _ (replies-told (put-codes-arg→run-on (put-codes-arg2→put-codes-arg c))))
+
+abbrev put-codes-arg3→run-on : tie.After-put-codes-arg3 → tie.After-run-on
+put-codes-arg3→run-on c = put-codes-arg→run-on (put-codes-arg2→put-codes-arg (c .before))
 
 put-codes-requires : tie.Need-put-codes-requires
 put-codes-requires c κs =
-    let ran = c .before .before .before .before in
-    let at-run-on = ran .before .before .before .before in
+    let at-run-on = put-codes-arg3→run-on c in
     let ended = at-run-on .run-on .result .ended in
     let told = at-run-on .run-on .last .1 .1 .1 .0 in
     let after = at-run-on .run-on .last .1 .1 .0 in
@@ -110,9 +129,7 @@ put-codes-requires c κs =
 returns : tie.Need-returns
 returns c =
     let at-put-codes = c .before .before in
-    let ran = at-put-codes .before .before .before .before in
-    let at-lines = ran .before .before .before in
-    let at-run-on = at-lines .before .before in
+    let at-run-on = put-codes-arg3→run-on (at-put-codes .before) in
     let a = start at-run-on in (
       turned didOf did-fits did-own 1024 (now (a .args .bytes)) (spanned at-run-on .span .ensures) (at-run-on .run-on .ensures .0) (roomy at-run-on)
           (enough at-run-on) (λ i. known (spanned at-run-on) .shared-slice-known .given i .fits) (a .args .first) (at-put-codes .put-codes .ensures),
