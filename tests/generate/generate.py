@@ -13,8 +13,8 @@ import random
 import sys
 
 from builder import (  # what the tests and the bench take from here
-    CAMERA_IMAGE, CONVERSION, COPY, IMAGE, LONG_TRANSACTION, MOST, POWER_ON, PROFILES, READ, READING, SAMPLE, SLOT_KINDS, TRANSACTION, TRAY_TURNS, TRAYS, TURNS, WRITE, boundaries, little,
-    record)
+    CAMERA_IMAGE, CONVERSION, COPY, IMAGE, LONG_TRANSACTION, MOST, POWER_ON, PROFILES, READ, READING, SAMPLE, SLOT_KINDS, TRANSACTION, TRAY_TURNS, TRAYS,
+    TURNS, WRITE, boundaries, little, record)
 
 for file in sorted(pathlib.Path(__file__).with_name("scenes").glob("*.py")):
     importlib.import_module(f"scenes.{file.stem}")

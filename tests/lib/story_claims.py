@@ -21,8 +21,8 @@ from cases import Wrong, same
 PARAMETERS = {"AB": (0x61, 1, True), "AC": (0x62, 2, False), "VCHG": (0x64, 1, False), "IMIN": (0x65, 1, False), "VAE": (0x66, 1, False),
               "IAE": (0x67, 1, False), "RSNSP": (0x69, 1, False), "Full40": (0x6A, 2, False), "COB": (0x7B, 1, True)}
 FLAGS = {"CHGTF": 0x80, "AEF": 0x40, "SEF": 0x20, "LEARNF": 0x10, "PORF": 0x02}
-REGISTERS = ["saved ACR", "saved AS", "saved cycle counter", "cycle counter", "ACR", "ACRL", "fraction", "AS", "FULL", "AE", "SE", "RAAC", "RSAC", "RARC", "RSRC", "IAVG", "TEMP", "VOLT",
-             "CURRENT", "STATUS", "AF", "E", "N", "D", "T"]
+REGISTERS = ["saved ACR", "saved AS", "saved cycle counter", "cycle counter", "ACR", "ACRL", "fraction", "AS", "FULL", "AE", "SE", "RAAC", "RSAC", "RARC",
+             "RSRC", "IAVG", "TEMP", "VOLT", "CURRENT", "STATUS", "AF", "E", "N", "D", "T"]
 
 NAME = rf"(?:{'|'.join(sorted([*REGISTERS, *PARAMETERS], key=len, reverse=True))})\b"
 DECIMAL = r"-?(?:\d{1,3}(?:,\d{3})+|\d+)(?:\^\d+)?"

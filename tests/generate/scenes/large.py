@@ -145,7 +145,8 @@ def learnt_far(session):
 
 
 # AS, D / Full40, Full40 and ACR at which 100 x N / D is 2^bits, a multiple of it, or up to 99 more, over the line SE = 64 x AS - D / Full40.
-QUOTIENTS = [(24, 128, 7, 57, 8200), (24, 128, 7, 47, 40451), (28, 123, 13, 1, 12780), (28, 123, 13, 5, 63900), (31, 123, 16, 1, 20972), (31, 123, 16, 3, 62916)]
+QUOTIENTS = [(24, 128, 7, 57, 8200), (24, 128, 7, 47, 40451), (28, 123, 13, 1, 12780), (28, 123, 13, 5, 63900),
+             (31, 123, 16, 1, 20972), (31, 123, 16, 3, 62916)]
 
 
 def steep_lines(session, aging, apart):

@@ -1,5 +1,6 @@
 """Longer transactions: kind 7, which reads up to 256 bytes and takes up to 256 of the master, beside the same ones as kind 4."""
-from builder import COPY, LOCK, LONG_TRANSACTION, MOST, READ, RECALL, SESSION_LIMIT, TRANSACTION, WRITE, Session, little, play, profile, scene, some, tray_profile
+from builder import (
+    COPY, LOCK, LONG_TRANSACTION, MOST, READ, RECALL, SESSION_LIMIT, TRANSACTION, WRITE, Session, little, play, profile, scene, some, tray_profile)
 from scenes.bus import any_address, any_event, any_selection
 from scenes.pack import battery, start
 from scenes.refusals import early_event
@@ -84,7 +85,8 @@ def selections(session):
     """Net address reads, addresses of others and first bytes of no meaning, with long replies."""
     chance = session.chance
     if readable(session):
-        session.transaction(chance.choice([8, 65, 100, 256]), any_selection(session) + bytes([READ, 0x00]) + bytes(chance.choice([0, 1, 200])), LONG_TRANSACTION)
+        session.transaction(chance.choice([8, 65, 100, 256]), any_selection(session) + bytes([READ, 0x00]) + bytes(chance.choice([0, 1, 200])),
+                            LONG_TRANSACTION)
 
 
 @scene(long=4)

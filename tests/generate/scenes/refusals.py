@@ -1,6 +1,7 @@
 """Records that are refused, and a reply room that is used up."""
 from builder import (
-    CAMERA_IMAGE, CONVERSION, FAMILY, IMAGE, LONG_TRANSACTION, POWER_ON, READING, REPLY_ROOM, SAMPLE, TRANSACTION, WRITE, Session, crc, little, profile, record, some, unknown)
+    CAMERA_IMAGE, CONVERSION, FAMILY, IMAGE, LONG_TRANSACTION, POWER_ON, READING, REPLY_ROOM, SAMPLE, TRANSACTION, WRITE,
+    Session, crc, little, profile, record, some, unknown)
 from scenes.bus import any_event, any_transaction
 from scenes.pack import battery, start
 

@@ -1,7 +1,7 @@
 """Trays: up to eight packs on one line, what opens and closes a tray, events by slot, and transactions to one pack, to all and to nobody."""
 from builder import (
-    CAMERA_IMAGE, CONTROL, CONVERSION, COPY, CYCLES, FAMILY, IMAGE, LOCK, LONG_TRANSACTION, POWER_ON, READ, READING, RECALL, SAMPLE, SESSION_LIMIT, SLOT_KINDS, SLOTS, TBP34, TRANSACTION,
-    TRAY_SIZES, WRITE, Tray, boundaries, crc, little, play, record, some, tray_profile, tray_unknown)
+    CAMERA_IMAGE, CONTROL, CONVERSION, COPY, CYCLES, FAMILY, IMAGE, LOCK, LONG_TRANSACTION, POWER_ON, READ, READING, RECALL, SAMPLE, SESSION_LIMIT, SLOT_KINDS,
+    SLOTS, TBP34, TRANSACTION, TRAY_SIZES, WRITE, Tray, boundaries, crc, little, play, record, some, tray_profile, tray_unknown)
 from scenes.bus import (
     acr_writes, any_event, any_transaction, block_dance, lock_dance, net_address_dance, past_the_end, status_dance)
 from scenes.pack import battery, in_order, temperature
@@ -130,7 +130,8 @@ def unknown_record(tray):
 
 def count_too_large(tray):
     chance = tray.chance
-    count, kind = some(chance, lambda: (chance.choice([65, 66, 100, 200, 255]), TRANSACTION), lambda: (chance.choice([257, 258, 0x4001, 0xFFFF]), LONG_TRANSACTION))
+    count, kind = some(chance, lambda: (chance.choice([65, 66, 100, 200, 255]), TRANSACTION),
+                       lambda: (chance.choice([257, 258, 0x4001, 0xFFFF]), LONG_TRANSACTION))
     tray.everyone.transaction(count, chance.choice([b"", b"\xCC\x69\x00", b"\xCC\x6C\x10\x12\x34"]), kind)
 
 
