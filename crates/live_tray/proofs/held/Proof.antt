@@ -1,5 +1,5 @@
 -- `live_tray::held` meets its contract.
-use mathlib.Core.Path.{_≡_, ap}
+use mathlib.Core.Path.{ap}
 use borrow.Author.Tests.{eq-eqb, ne-eqb}
 use Rattle.tray_record.specs.declared.Tray.{Tray}
 use Rattle.live_tray.specs.LiveTray.{trayHeldOf}

@@ -4,7 +4,6 @@ use Prim.Native.Nat.{_+_, _-_, _≤_}
 use native.Mathlib.Omega.{arith}
 use lib.ListN.{length}
 use lib.Seq.{length-take-le}
-use denote.Ref.{now}
 use Rattle.live_tray.proofs.TrayServing.{TrayServing}
 use borrow.Author.Needs.{needs}
 use Rattle.live_tray.proofs.serve.Statement.{statement}
@@ -19,14 +18,32 @@ abbrev μ-loop : tie.MeasureT-loop
     4503599627370496 - turn
 
 -- places: `a→b` leads from the record of the place a back to that of the place b
-abbrev loop→known : tie.At-loop Inv-loop μ-loop → tie.After-slice-known2 Inv-loop μ-loop
-loop→known c = c .before .before .before
+abbrev slice-known→start : tie.After-slice-known Inv-loop μ-loop → tie.Start Inv-loop μ-loop
+slice-known→start c = c .before .before
+
+abbrev slice-known4→slice-known : tie.After-slice-known4 Inv-loop μ-loop → tie.After-slice-known Inv-loop μ-loop
+slice-known4→slice-known c = c .before .before .before
 
 abbrev loop→start : tie.At-loop Inv-loop μ-loop → tie.Start Inv-loop μ-loop
-loop→start c = loop→known c .before .before .before
+loop→start c = slice-known→start (slice-known4→slice-known (c .before))
+
+abbrev test→loop : tie.In-loop Inv-loop μ-loop → tie.At-loop Inv-loop μ-loop
+test→loop c = c .before
+
+abbrev lesser→test : tie.After-lesser Inv-loop μ-loop → tie.In-loop Inv-loop μ-loop
+lesser→test c = c .before
+
+abbrev read-some-arg→lesser : tie.After-read-some-arg Inv-loop μ-loop → tie.After-lesser Inv-loop μ-loop
+read-some-arg→lesser c = c .before
+
+abbrev read-some-arg→loop : tie.After-read-some-arg Inv-loop μ-loop → tie.At-loop Inv-loop μ-loop
+read-some-arg→loop c = test→loop (lesser→test (read-some-arg→lesser c))
+
+abbrev read→read-some-arg : tie.After-read-some Inv-loop μ-loop → tie.After-read-some-arg Inv-loop μ-loop
+read→read-some-arg c = c .before
 
 abbrev read→loop : tie.After-read-some Inv-loop μ-loop → tie.At-loop Inv-loop μ-loop
-read→loop c = c .before .before .before .before
+read→loop c = read-some-arg→loop (read→read-some-arg c)
 
 abbrev known→read : tie.After-struct-known Inv-loop μ-loop → tie.After-read-some Inv-loop μ-loop
 known→read c = c .before .before .before
@@ -34,14 +51,26 @@ known→read c = c .before .before .before
 abbrev more→read : tie.After-struct-known2 Inv-loop μ-loop → tie.After-read-some Inv-loop μ-loop
 more→read c = known→read (c .before .before)
 
-abbrev answered→more : tie.After-answered Inv-loop μ-loop → tie.After-struct-known2 Inv-loop μ-loop
-answered→more c = (c .before .before .before) .before .before
+abbrev replies→answered : tie.After-replies Inv-loop μ-loop → tie.After-answered Inv-loop μ-loop
+replies→answered c = c .before
 
-abbrev tray→answered : tie.After-tray Inv-loop μ-loop → tie.After-answered Inv-loop μ-loop
-tray→answered c = (c .before .before .before .before) .before .before .before .before
+abbrev slice-known8→replies : tie.After-slice-known8 Inv-loop μ-loop → tie.After-replies Inv-loop μ-loop
+slice-known8→replies c = c .before .before .before
+
+abbrev said→slice-known8 : tie.After-said Inv-loop μ-loop → tie.After-slice-known8 Inv-loop μ-loop
+said→slice-known8 c = c .before .before .before
+
+abbrev say-all2→said : tie.After-say-all2 Inv-loop μ-loop → tie.After-said Inv-loop μ-loop
+say-all2→said c = c .before .before .before
+
+abbrev say-all2→answered : tie.After-say-all2 Inv-loop μ-loop → tie.After-answered Inv-loop μ-loop
+say-all2→answered c = replies→answered (slice-known8→replies (said→slice-known8 (say-all2→said c)))
+
+abbrev keep-rest-arg→say-all2 : tie.After-keep-rest-arg Inv-loop μ-loop → tie.After-say-all2 Inv-loop μ-loop
+keep-rest-arg→say-all2 c = c .before .before
 
 abbrev kept→answered : tie.After-keep-rest Inv-loop μ-loop → tie.After-answered Inv-loop μ-loop
-kept→answered c = tray→answered ((c .before .before) .before .before .before)
+kept→answered c = say-all2→answered (keep-rest-arg→say-all2 (c .before))
 
 -- what was read fits the room
 read-fits : (c : tie.After-read-some Inv-loop μ-loop) → read→loop c .loop .count + c .read-some .result .count ≤ length (c .read-some .last .0)
@@ -49,7 +78,7 @@ read-fits c =
     omega (
       arith,
       c .read-some .ensures,
-      c .before .before .lesser .ensures,
+      read-some-arg→lesser (read→read-some-arg c) .lesser .ensures,
       c .read-some .kept .0,
       read→loop c .loop .inv .within,
       read→loop c .loop .inv .held,
@@ -57,7 +86,7 @@ read-fits c =
 
 loop-holds : tie.Need-loop-holds Inv-loop μ-loop
 loop-holds c =
-    let at-start = (c .before .before) .before .before .before in
+    let at-start = slice-known→start (slice-known4→slice-known c) in
     record {
       wf = at-start .pre .1 .0;
       held = refl;
@@ -69,17 +98,23 @@ loop-holds c =
     }
 
 sub-lesser : tie.Need-sub-lesser Inv-loop μ-loop
-sub-lesser c = omega (arith, c .before .loop .inv .within, c .before .loop .inv .held)
+sub-lesser c = omega (arith, test→loop c .loop .inv .within, test→loop c .loop .inv .held)
 
 read-some-requires : tie.Need-read-some-requires Inv-loop μ-loop
 read-some-requires c κs =
-    let at-loop = c .before .before .before in
-    omega (arith, c .before .lesser .ensures, at-loop .loop .inv .within, at-loop .loop .inv .held)
+    let at-loop = read-some-arg→loop c in
+    omega (arith, read-some-arg→lesser c .lesser .ensures, at-loop .loop .inv .within, at-loop .loop .inv .held)
+
+abbrev read→test : tie.After-read-some Inv-loop μ-loop → tie.In-loop Inv-loop μ-loop
+read→test c = lesser→test (read-some-arg→lesser (read→read-some-arg c))
+
+abbrev ended-arg→test : tie.After-ended-arg Inv-loop μ-loop → tie.In-loop Inv-loop μ-loop
+ended-arg→test c = read→test (known→read (c .before .before))
 
 ended-requires : tie.Need-ended-requires Inv-loop μ-loop
 ended-requires c κs =
-    let at-loop = read→loop (known→read (c .before .before)) in
-    let at-turn = known→read (c .before .before) .before .before .before in
+    let at-loop = test→loop (ended-arg→test c) in
+    let at-turn = ended-arg→test c in
     let pre = loop→start at-loop .pre in (
       pre .0,
       (
@@ -88,31 +123,43 @@ ended-requires c κs =
       ),
     )
 
+abbrev more→start : tie.After-struct-known2 Inv-loop μ-loop → tie.Start Inv-loop μ-loop
+more→start c = loop→start (read→loop (more→read c))
+
 add-end : tie.Need-add-end Inv-loop μ-loop
 add-end c = omega (
   arith,
   read-fits (more→read c),
-  (more→read c) .read-some .kept .0,
+  more→read c .read-some .kept .0,
   read→loop (more→read c) .loop .inv .held,
-  loop→start (read→loop (more→read c)) .pre .1 .1 .0,
+  more→start c .pre .1 .1 .0,
 )
 
 slice-reshare-prefix-answered : tie.Need-slice-reshare-prefix-answered Inv-loop μ-loop
 slice-reshare-prefix-answered c = read-fits (more→read c)
 
+abbrev answered-arg→more : tie.After-answered-arg Inv-loop μ-loop → tie.After-struct-known2 Inv-loop μ-loop
+answered-arg→more c = c .before
+
 slice-aggregate-answered : tie.Need-slice-aggregate-answered Inv-loop μ-loop
-slice-aggregate-answered c = sym (length-take-le _ _ (read-fits (more→read (c .before))))
+slice-aggregate-answered c = sym (length-take-le _ _ (read-fits (more→read (answered-arg→more c))))
+
+abbrev answered-arg4→answered-arg : tie.After-answered-arg4 Inv-loop μ-loop → tie.After-answered-arg Inv-loop μ-loop
+answered-arg4→answered-arg c = c .before .before .before
+
+abbrev answered-arg4→read : tie.After-answered-arg4 Inv-loop μ-loop → tie.After-read-some Inv-loop μ-loop
+answered-arg4→read c = more→read (answered-arg→more (answered-arg4→answered-arg c))
 
 answered-requires : tie.Need-answered-requires Inv-loop μ-loop
 answered-requires c κs =
-    let at-read = more→read (c .before .before .before .before) in
+    let at-read = answered-arg4→read c in
     let at-loop = read→loop at-read in
     let pre = loop→start at-loop .pre in
     let short = length-take-le (at-loop .loop .count + at-read .read-some .result .count) (at-read .read-some .last .0) (read-fits at-read) in
     let lent = pre .1 .1 .1 in (
       at-loop .loop .inv .wf,
       (
-        omega (arith, at-loop .loop .inv .numbered, at-read .before .before .before .loop-test .taken),
+        omega (arith, at-loop .loop .inv .numbered, read→test at-read .loop-test .taken),
         (
           omega (arith, short, read-fits at-read, at-read .read-some .kept .0, at-loop .loop .inv .held, pre .1 .1 .0),
           record {
@@ -126,52 +173,72 @@ answered-requires c κs =
 
 -- a turn whose lines cannot be written
 abbrev unsaid→answered : tie.Then3 Inv-loop μ-loop → tie.After-answered Inv-loop μ-loop
-unsaid→answered c = tray→answered (c .before .before .before)
+unsaid→answered c = say-all2→answered (c .before)
+
+abbrev answered→answered-arg4 : tie.After-answered Inv-loop μ-loop → tie.After-answered-arg4 Inv-loop μ-loop
+answered→answered-arg4 c = c .before
+
+abbrev answered→read : tie.After-answered Inv-loop μ-loop → tie.After-read-some Inv-loop μ-loop
+answered→read c = answered-arg4→read (answered→answered-arg4 c)
 
 same-length-9 : tie.Need-same-length-9 Inv-loop μ-loop
 same-length-9 c =
-    let at-read = more→read (answered→more (unsaid→answered c)) in
+    let at-read = answered→read (unsaid→answered c) in
     at-read .read-some .kept .0 ∙ read→loop at-read .loop .inv .held
+
+abbrev answered→loop : tie.After-answered Inv-loop μ-loop → tie.At-loop Inv-loop μ-loop
+answered→loop c = read→loop (answered→read c)
 
 same-length-10 : tie.Need-same-length-10 Inv-loop μ-loop
 same-length-10 c =
     let at-answered = unsaid→answered c in
-    at-answered .answered .kept .1 .1 .1 .0 ∙ read→loop (more→read (answered→more at-answered)) .loop .inv .replied
+    at-answered .answered .kept .1 .1 .1 .0 ∙ answered→loop at-answered .loop .inv .replied
 
 same-length-11 : tie.Need-same-length-11 Inv-loop μ-loop
 same-length-11 c =
     let at-answered = unsaid→answered c in
-    at-answered .answered .kept .1 .1 .1 .1 .0 ∙ read→loop (more→read (answered→more at-answered)) .loop .inv .told
+    at-answered .answered .kept .1 .1 .1 .1 .0 ∙ answered→loop at-answered .loop .inv .told
 
 same-length-12 : tie.Need-same-length-12 Inv-loop μ-loop
 same-length-12 c =
     let at-answered = unsaid→answered c in
-    at-answered .answered .kept .1 .1 .1 .1 .1 .0 ∙ read→loop (more→read (answered→more at-answered)) .loop .inv .text
+    at-answered .answered .kept .1 .1 .1 .1 .1 .0 ∙ answered→loop at-answered .loop .inv .text
+
+abbrev keep-rest-arg→read : tie.After-keep-rest-arg Inv-loop μ-loop → tie.After-read-some Inv-loop μ-loop
+keep-rest-arg→read c = answered→read (say-all2→answered (keep-rest-arg→say-all2 c))
 
 keep-rest-requires : tie.Need-keep-rest-requires Inv-loop μ-loop
-keep-rest-requires c κs = read-fits (more→read (answered→more (tray→answered (c .before .before .before .before))))
+keep-rest-requires c κs = read-fits (keep-rest-arg→read c)
+
+abbrev struct-known3→kept : tie.After-struct-known3 Inv-loop μ-loop → tie.After-keep-rest Inv-loop μ-loop
+struct-known3→kept c = c .before .before .before
+
+abbrev answered→test : tie.After-answered Inv-loop μ-loop → tie.In-loop Inv-loop μ-loop
+answered→test c = read→test (answered→read c)
 
 add-number : tie.Need-add-number Inv-loop μ-loop
 add-number c =
-    let at-answered = kept→answered (c .before .before .before) in
-    let at-read = more→read (answered→more at-answered) in
-    omega (arith, at-answered .answered .ensures .1 .1, read→loop at-read .loop .inv .numbered, at-read .before .before .before .loop-test .taken)
+    let at-answered = kept→answered (struct-known3→kept c) in
+    omega (arith, at-answered .answered .ensures .1 .1, answered→loop at-answered .loop .inv .numbered, answered→test at-answered .loop-test .taken)
 
 -- the test of the loop, in whose turn the rest was kept
 abbrev kept→test : tie.After-keep-rest Inv-loop μ-loop → tie.In-loop Inv-loop μ-loop
-kept→test c = more→read (answered→more (kept→answered c)) .before .before .before
+kept→test c = answered→test (kept→answered c)
+
+abbrev struct-known3→test : tie.After-struct-known3 Inv-loop μ-loop → tie.In-loop Inv-loop μ-loop
+struct-known3→test c = kept→test (struct-known3→kept c)
 
 add-turn : tie.Need-add-turn Inv-loop μ-loop
-add-turn c = omega (arith, kept→test (c .before .before .before) .loop-test .taken)
+add-turn c = omega (arith, struct-known3→test c .loop-test .taken)
 
 loop-less : tie.Need-loop-less Inv-loop μ-loop
-loop-less c = omega (arith, kept→test (c .before .before .before) .loop-test .taken)
+loop-less c = omega (arith, struct-known3→test c .loop-test .taken)
 
 loop-again : tie.Need-loop-again Inv-loop μ-loop
 loop-again c =
-    let at-keep-rest = c .before .before .before in
+    let at-keep-rest = struct-known3→kept c in
     let at-answered = kept→answered at-keep-rest in
-    let at-read = more→read (answered→more at-answered) in
+    let at-read = answered→read at-answered in
     let inv = read→loop at-read .loop .inv in
     let kept = at-answered .answered .kept .1 .1 .1 in
     record {
