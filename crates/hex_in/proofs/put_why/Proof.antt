@@ -1,82 +1,32 @@
 -- `hex_in::put_why` meets its contract.
-use denote.Ref.{now}
-use Rattle.hex.specs.Import.{textLines}
+use mathlib.Core.Path.{_≡_}
+use mathlib.Core.List.{List}
+use Prim.Native.Nat.{ℕ}
+use Rattle.streams.specs.declared.Said.{Said}
+use Rattle.streams.specs.Streams.{Saying, error, refusedText}
+use Rattle.hex.specs.declared.Gap.{Gap}
+use Rattle.hex_in.specs.HexIn.{gapWords}
 use Rattle.hex_in.proofs.Laws.{why-said}
 use borrow.Author.Needs.{needs}
 use Rattle.hex_in.proofs.put_why.Statement.{statement}
 use Rattle.hex_in.proofs.put_why.Tie as tie
 
--- places: `a→b` leads from the record of the place a back to that of the place b
-abbrev answer-number→start : tie.After-answer-number → tie.Start
-answer-number→start c = c .before .before .before
-
-abbrev slice-known2→put-flaw : tie.After-slice-known2 → tie.After-put-flaw
-slice-known2→put-flaw c = c .before .before
-
-abbrev slice-known2→enum-told : tie.After-slice-known2 → tie.After-enum-told
-slice-known2→enum-told c = slice-known2→put-flaw c .before .before
-
-abbrev slice-known2→answer-number : tie.After-slice-known2 → tie.After-answer-number
-slice-known2→answer-number c = slice-known2→enum-told c .before .before
-
-abbrev slice-known2→start : tie.After-slice-known2 → tie.Start
-slice-known2→start c = answer-number→start (slice-known2→answer-number c)
-
-abbrev slice-known3→put-gap : tie.After-slice-known3 → tie.After-put-gap
-slice-known3→put-gap c = c .before .before
-
-abbrev slice-known3→first-gap : tie.After-slice-known3 → tie.After-first-gap
-slice-known3→first-gap c = slice-known3→put-gap c .before .before
-
-abbrev slice-known3→answer-number : tie.After-slice-known3 → tie.After-answer-number
-slice-known3→answer-number c = slice-known3→first-gap c .before .before .before
-
-abbrev slice-known3→start : tie.After-slice-known3 → tie.Start
-slice-known3→start c = answer-number→start (slice-known3→answer-number c)
-
-abbrev slice-known4→put-refused : tie.After-slice-known4 → tie.After-put-refused
-slice-known4→put-refused c = c .before .before
-
-abbrev slice-known4→enum-told3 : tie.After-slice-known4 → tie.After-enum-told3
-slice-known4→enum-told3 c = slice-known4→put-refused c .before .before .before
-
-abbrev slice-known4→answer-number : tie.After-slice-known4 → tie.After-answer-number
-slice-known4→answer-number c = slice-known4→enum-told3 c .before .before
-
-abbrev slice-known4→start : tie.After-slice-known4 → tie.Start
-slice-known4→start c = answer-number→start (slice-known4→answer-number c)
-
-abbrev slice-known5→put-refused2 : tie.After-slice-known5 → tie.After-put-refused2
-slice-known5→put-refused2 c = c .before .before
-
-abbrev slice-known5→enum-told4 : tie.After-slice-known5 → tie.After-enum-told4
-slice-known5→enum-told4 c = slice-known5→put-refused2 c .before .before .before
-
-abbrev slice-known5→answer-number : tie.After-slice-known5 → tie.After-answer-number
-slice-known5→answer-number c = slice-known5→enum-told4 c .before .before
-
-abbrev slice-known5→start : tie.After-slice-known5 → tie.Start
-slice-known5→start c = answer-number→start (slice-known5→answer-number c)
+-- the words of a gap that is known
+gap-said : (number : ℕ) {gap known : Gap} {room after : List ℕ} {said : Said} → known ≡ gap
+    → Saying (error (refusedText number (gapWords known))) room said after → Saying (error (refusedText number (gapWords gap))) room said after
+gap-said number is words = rw is at words
 
 returns : tie.Need-returns
-returns c =
-    why-said (textLines (now (slice-known2→start c .args .text))) (slice-known2→enum-told c .enum-told .given .1)
-    (slice-known2→answer-number c .answer-number .ensures) (slice-known2→put-flaw c .put-flaw .ensures)
+returns c = search why-said
 
 returns-2 : tie.Need-returns-2
-returns-2 c =
-    why-said (textLines (now (slice-known3→start c .args .text))) (slice-known3→first-gap c .before .enum-told2 .given .1)
-    (slice-known3→answer-number c .answer-number .ensures) (rw (slice-known3→first-gap c .first-gap .ensures) at (c .before .before .put-gap .ensures))
+returns-2 c = search (why-said, gap-said)
 
 returns-3 : tie.Need-returns-3
-returns-3 c =
-    why-said (textLines (now (slice-known4→start c .args .text))) (slice-known4→enum-told3 c .enum-told3 .given .1)
-    (slice-known4→answer-number c .answer-number .ensures) (slice-known4→put-refused c .put-refused .ensures)
+returns-3 c = search why-said
 
 returns-4 : tie.Need-returns-4
-returns-4 c =
-    why-said (textLines (now (slice-known5→start c .args .text))) (slice-known5→enum-told4 c .enum-told4 .given .1)
-    (slice-known5→answer-number c .answer-number .ensures) (slice-known5→put-refused2 c .put-refused2 .ensures)
+returns-4 c = search why-said
 
 pub put-why-spec : {M : Type 1} → statement M
 put-why-spec =
