@@ -14,7 +14,7 @@ use Rattle.slices.specs.Slices.{put}
 use Rattle.slices.proofs.Laws.{put-length}
 use Rattle.digits.specs.Digits.{Writing}
 use Rattle.streams.specs.declared.Stream.the-variants.{Output}
-use Rattle.runs.specs.Record.{Rec, cut, wholeOf, recOf, sizeOf, recsOf}
+use Rattle.runs.specs.Record.{Rec, cut, wholeOf, sizeOf, recsOf}
 use Rattle.runs.specs.Run.{Did, silently, Line, lineOf, linesAfter, endAfter, codesOf, repliesOf, Result, Running}
 use Rattle.runs.specs.Divided.{wholesIn, leftOver, wholesSpan, inputOf}
 use Rattle.runs.proofs.Records.{Bytes, recs-cons, rec-cut, size-cut}
