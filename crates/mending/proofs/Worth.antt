@@ -3,19 +3,20 @@ use mathlib.Core.Path.{_≡_, refl, sym, ap, _∙_}
 use mathlib.Core.Bool.{Bool, true, false}
 use mathlib.Core.Logic.{_≢_}
 use mathlib.Core.List.{List, [], _∷_, _++_}
-use Prim.Native.Nat.{ℕ, suc, _+_, _%_, _/_, _≤_, _<_, min, max}
+use Prim.Native.Nat.{ℕ, suc, _+_, _*_, _%_, _/_, _≤_, _<_, min, max}
 use native.Mathlib.Omega.{arith}
-use borrow.Author.Tests.{eq-eqb, le-leb, leb-true, leb-false, eqb-true}
+use borrow.Author.Tests.{eq-eqb, le-leb, le-ltb, leb-true, leb-false, eqb-true}
 use lib.Dec.{eqb, leb}
 use lib.IntN.{pos}
 use lib.Signed.{leZ}
-use lib.ListN.{length, getD, take, drop, set, length-set, length-take, length-drop}
-use lib.Seq.{getD-set-same, getD-set-other, set-getD, take-set-le, getD-take, getD-drop, take-take, take-at, ext-getD}
+use lib.ListN.{length, getD, take, drop, set, length-set, length-take, length-drop, length-append}
+use lib.Seq.{getD-set-same, getD-set-other, set-getD, take-set-le, getD-take, getD-drop, take-take, take-at, drop-at, ext-getD}
 use Rattle.numbers.specs.Choice.{pick}
 use Rattle.numbers.specs.Offset.{value, offset8Of, movedInto}
 use Rattle.numbers.proofs.Offset.{natural, at-most}
-use Rattle.numbers.proofs.Bounds.{both-true}
+use Rattle.numbers.proofs.Bounds.{both-true, picked}
 use Rattle.slices.specs.Slices.{part}
+use Rattle.slices.proofs.Laws.{put-front}
 use Rattle.crc.specs.Crc.{crcOf}
 use Rattle.params.specs.declared.Breaks.{Breaks}
 use Rattle.state.specs.declared.Profile.the-variants.{Ds2781}
@@ -26,9 +27,15 @@ use Rattle.record.specs.Image.{imageSize, imageAddress, imageBlock, imageBreaks
 use Rattle.record.specs.Record.{kindOf, addressedOf, lockableOf, orderedOf, judgedAmong, judgedOf, takenOf}
 use Rattle.record.proofs.Fits.{plain-taking}
 use Rattle.mending.specs.Mending.{mendedCrc, mendedAging, mendedLocks, capOf, cappedOf, arrangedOf}
-use Rattle.mending.specs.Mending.{mendedBreaks, mendedOf, changeText, changesFrom, changesOf}
-use Rattle.mending.specs.Worth.{SoundImage, KeptBytes, AcceptedTheorem, UnchangedTheorem, TwiceTheorem}
+use Rattle.mending.specs.Mending.{mendedBreaks, mendedOf, changeLine, changeText, changesFrom, changesOf, changesSize, mendingAnswer}
+use Rattle.mending.specs.Mending.{listedBy, linesBy, Mending}
+use Rattle.mending.specs.declared.MendRefusal.{MendRefusal}
+use Rattle.mending.specs.declared.Mended.{Mended}
+use Rattle.mending.specs.declared.Mended.the-variants as mended
+use Rattle.mending.specs.declared.Listed.the-variants as listed
+use Rattle.mending.specs.Worth.{Mendable, SoundImage, KeptBytes, LinesTold, AcceptedTheorem, UnchangedTheorem, TwiceTheorem}
 use Rattle.mending.specs.Worth.{ArrangedTheorem, CappedTheorem, KeptTheorem, ByCallTheorem}
+use Rattle.mending.specs.Worth.{LinesTheorem, NoLinesTheorem, LinesAgainTheorem, ListingTheorem}
 use Rattle.mending.proofs.Laws.{granted, mended-length}
 
 -- ---- signed bytes in offset form, and back
@@ -432,11 +439,80 @@ twice image g = let e = again image (g .sized) in (e, quiet (mendedOf image) e)
 pub kept : KeptTheorem
 kept image size = keeps image size
 
-pub by-call : ByCallTheorem
-by-call image room after w =
+by-done : (image room after : List ℕ) → Mending image room mended.Done after → Mendable image × (take imageSize after ≡ mendedOf image)
+by-done image room after w =
     let g = granted image (length room) (sym (w .answer)) in
     let front : after ≡ mendedOf image ++ drop imageSize room = rw (sym (w .answer)) at (w .written) in (
       record { sized = g .sized; family = g .family },
       ap (take imageSize) front
           ∙ take-at (mendedOf image) (drop imageSize room) imageSize (long image (g .sized)),
     )
+
+pub by-call : ByCallTheorem
+by-call = by-done
+
+-- ---- the calls of `changes`
+
+-- a line has nine bytes, or none
+change-few : (offset old new : ℕ) → length (changeText offset old new) ≤ 9
+unfolding changeText
+change-few offset old new = picked (λ (s : List ℕ). length s ≤ 9) (eqb old new) [] (changeLine offset old new) (λ e. omega arith) (λ e. omega arith)
+
+changes-few : (k : ℕ) (olds news : List ℕ) → length (changesFrom k olds news) ≤ 9 * length olds
+changes-few k [] news = omega arith
+changes-few k (old ∷ olds) [] = omega arith
+changes-few k (old ∷ olds) (new ∷ news) =
+    rw (length-append (changeText k old new) (changesFrom (suc k) olds news)) (omega (arith, change-few k old new, changes-few (suc k) olds news))
+
+lines-few : (image : List ℕ) → length image ≡ imageSize → length (changesOf image) ≤ changesSize
+unfolding changesOf
+lines-few image size = omega (arith, changes-few 0 image (mendedOf image), size)
+
+-- an image that can be mended is, in a room that is large enough
+mendable-done : (image : List ℕ) (room : ℕ) → Mendable image → imageSize ≤ room → mendingAnswer image room ≡ mended.Done
+unfolding mendingAnswer
+mendable-done image room g fits =
+    rw (eq-eqb (length image) imageSize (g .sized), le-ltb room imageSize fits, eq-eqb (getD image 0 0) 0x3d (g .family)) refl
+
+told-by : (image room after : List ℕ) (n : ℕ) (m : Mended) → mendingAnswer image imageSize ≡ m → length room ≡ changesSize
+    → listed.Lines n ≡ listedBy m image → after ≡ linesBy m image room → LinesTold image room n after
+told-by image room after n mended.Done done size said written =
+    let g = granted image imageSize done in
+    let many : n ≡ length (changesOf image) = cc in
+    let fits = lines-few image (g .sized) in
+    let front : after ≡ changesOf image ++ drop (length (changesOf image)) room = written ∙ put-front room (changesOf image) (omega (arith, fits, size)) in
+    record {
+      mendable = record { sized = g .sized; family = g .family };
+      many = many;
+      lines = rw (front, many) (take-at (changesOf image) (drop (length (changesOf image)) room) (length (changesOf image)) refl);
+      behind = rw (front, many) (drop-at (changesOf image) (drop (length (changesOf image)) room) (length (changesOf image)) refl);
+    }
+told-by image room after n (mended.Refused why) done size said written = let z : _≡_ {A = ℕ} 0 1 = cc in absurd (omega arith)
+
+refused-by : (image room after : List ℕ) (why : MendRefusal) (m : Mended) → mendingAnswer image imageSize ≡ m
+    → listed.Refused why ≡ listedBy m image → after ≡ linesBy m image room → (Mendable image → ⊥) × (after ≡ room)
+refused-by image room after why mended.Done done said written = let z : _≡_ {A = ℕ} 0 1 = cc in absurd (omega arith)
+refused-by image room after why (mended.Refused w) done said written =
+    (λ g. let e = sym (mendable-done image imageSize g (omega arith)) ∙ done in let z : _≡_ {A = ℕ} 0 1 = cc in absurd (omega arith), written)
+
+lines-told : LinesTheorem
+lines-told image room after n size w = told-by image room after n (mendingAnswer image imageSize) refl size (w .answer) (w .written)
+
+no-lines : NoLinesTheorem
+no-lines image room after why w = refused-by image room after why (mendingAnswer image imageSize) refl (w .answer) (w .written)
+
+lines-again : LinesAgainTheorem
+lines-again image room after w lent last said l =
+    let c = by-done image room after w in
+    let d = accepted image (c .0) in
+    let kept-family : getD (mendedOf image) 0 0 ≡ 0x3d =
+    keeps image (c .0 .sized) .others 0 (λ e. omega arith) (λ e. omega arith) (λ e. omega arith) (λ e. omega arith) (λ e. omega arith) (λ e. omega arith)
+    ∙ c .0 .family in
+    let done : mendingAnswer (mendedOf image) imageSize ≡ mended.Done =
+    mendable-done (mendedOf image) imageSize (record { sized = d .0; family = kept-family }) (omega arith) in
+    let none : changesOf (mendedOf image) ≡ [] = twice image (c .0) .1 in
+    let v = rw (c .1) at l in
+    (v .answer ∙ rw (done, none) refl, v .written ∙ rw (done, none) refl)
+
+pub listing : ListingTheorem
+listing = record { told = lines-told; refused = no-lines; again = lines-again }

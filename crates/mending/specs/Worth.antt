@@ -10,7 +10,7 @@ use mathlib.Core.Logic.{_≢_}
 use mathlib.Core.List.{List, []}
 use Prim.Native.Nat.{ℕ, _+_, _≤_, _<_}
 use lib.IntN.{pos}
-use lib.ListN.{length, getD, take}
+use lib.ListN.{length, getD, take, drop}
 use lib.Signed.{leZ}
 use Rattle.numbers.specs.Choice.{pick}
 use Rattle.numbers.specs.Offset.{value}
@@ -21,8 +21,11 @@ use Rattle.record.specs.declared.Event.the-variants.{Image}
 use Rattle.record.specs.declared.Taken.the-variants.{Run}
 use Rattle.record.specs.Image.{imageSize, addressAt, imageAddress, imageLabel, imageBlock, imageAcr, imageAging, imageBl0, imageBl1}
 use Rattle.record.specs.Record.{takenOf}
+use Rattle.mending.specs.declared.MendRefusal.{MendRefusal}
 use Rattle.mending.specs.declared.Mended.the-variants.{Done}
-use Rattle.mending.specs.Mending.{capOf, arrangedOf, mendedOf, changesOf, Mending}
+use Rattle.mending.specs.declared.Listed.{Listed}
+use Rattle.mending.specs.declared.Listed.the-variants.{Lines, Refused}
+use Rattle.mending.specs.Mending.{capOf, arrangedOf, mendedOf, changesOf, changesSize, Mending, Listing}
 
 -- an image that is not refused
 pub record Mendable (image : List ℕ) : Type 0 where
@@ -90,3 +93,30 @@ KeptTheorem = (image : List ℕ) → length image ≡ imageSize → KeptBytes im
 
 abbrev pub ByCallTheorem : Type 0
 ByCallTheorem = (image room after : List ℕ) → Mending image room Done after → Mendable image × (take imageSize after ≡ mendedOf image)
+
+-- ---- and of every call of `changes`, whose room has its size by its type
+
+-- the lines are those of the image, in so many bytes at the front of the room, and what is behind them stays
+pub record LinesTold (image room : List ℕ) (n : ℕ) (after : List ℕ) : Type 0 where
+  pub mendable : Mendable image
+  pub many : n ≡ length (changesOf image)
+  pub lines : take n after ≡ changesOf image
+  pub behind : drop n after ≡ drop n room
+
+abbrev pub LinesTheorem : Type 0
+LinesTheorem = (image room after : List ℕ) (n : ℕ) → length room ≡ changesSize → Listing image room (Lines n) after → LinesTold image room n after
+
+-- there are none only where no call of `mend` would be done, and then the room stays
+abbrev pub NoLinesTheorem : Type 0
+NoLinesTheorem = (image room after : List ℕ) (why : MendRefusal) → Listing image room (Refused why) after → (Mendable image → ⊥) × (after ≡ room)
+
+-- of what a call of `mend` has written there are no lines
+abbrev pub LinesAgainTheorem : Type 0
+LinesAgainTheorem =
+    (image room after : List ℕ) → Mending image room Done after
+    → (lent last : List ℕ) (said : Listed) → Listing (take imageSize after) lent said last → (said ≡ Lines 0) × (last ≡ lent)
+
+pub record ListingTheorem : Type 0 where
+  pub told : LinesTheorem
+  pub refused : NoLinesTheorem
+  pub again : LinesAgainTheorem
