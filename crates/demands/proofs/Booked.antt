@@ -38,6 +38,7 @@ use Rattle.demands.specs.History.{Happening, imaged, changed, transacted
 use Rattle.demands.specs.Books.{Converts, conversionsBy, tickAfter, conversionsIn, Ledger, bookedC, booked, ledgerAfter, bookedSum, entriesOf, ledgerOf}
 use Rattle.demands.specs.Books.{sumOver, countIn, unclamped, convertsNow, countWith, steady, isWrite, writesAcr, acrWritten, keepsBooks}
 use Rattle.demands.specs.Books.{NoWider, BooksKept, Unsteady, full-here, clamp-here, further}
+use Rattle.demands.specs.Books.{EndsBooks, at-image, at-empty, at-conversion, at-sample, at-power-on, at-write}
 use Rattle.demands.proofs.Choice.{contrary}
 
 -- The count is ACR × 4,096 + fraction
@@ -279,10 +280,23 @@ unsteady-has (suc n) m raw e =
     ⊎-elim (λ c. full-here c) (⊎-elim (λ c. clamp-here c) (λ r. further (unsteady-has n (convertOf m raw) raw r)))
     (why-unsteady (correctsFull m raw) _ (steady (convertOf m raw) raw n) e)
 
+not-false : (b : Bool) → not b ≡ false → b ≡ true
+not-false true e = refl
+not-false false e = contrary cc
+
+books-ended : (g : Gauge) (h : Happening) → keepsBooks g h ≡ false → EndsBooks g h
+books-ended g (imaged f p) e = at-image
+books-ended g (changed (Reading volt temp)) e = at-empty (not-false (correctsEmpty (g .meter) volt temp) e)
+books-ended g (changed (Conversion raw)) e = at-conversion (unsteady-has 1 (g .meter) raw e)
+books-ended g (changed (Sample raw tick)) e = at-sample (unsteady-has (elapsedOf (g .meter .flow .tick) tick) (g .meter) raw e)
+books-ended g (changed PowerOn) e = at-power-on
+books-ended g (transacted t master) e = at-write (not-false (writesAcr g t master) e)
+
 -- THE BOOKS ARE NOT KEPT FOR A REASON
 pub no-wider : NoWider
 unfolding settledOf
 no-wider = record {
+  ended = books-ended;
   unsteady = λ m raw n. unsteady-has n m raw;
   full = λ m raw e. rw (converted-charge m raw, e) refl;
   empty = λ m volt temp e. rw (read-charge m volt temp, e) refl;

@@ -1,7 +1,7 @@
 -- Each theorem at the edge of its premises: one that is narrowed by one does not reach it.
-use mathlib.Core.Path.{_≡_, refl, sym, ap, subst}
+use mathlib.Core.Path.{_≡_, refl, sym, ap, subst, _∙_}
 use mathlib.Core.Bool.{true, false}
-use mathlib.Core.List.{List, [], _∷_, _++_}
+use mathlib.Core.List.{List, [], _∷_, _++_, append-nil}
 use Prim.Native.Nat.{ℕ, suc, _+_, _-_, _*_, _/_, _^_, _≤_, _<_}
 use native.Mathlib.Omega.{arith}
 use lib.ListN.{length, getD, take}
@@ -12,29 +12,31 @@ use Rattle.state.specs.State.{acrOf, elapsedOf}
 use Rattle.conversion.specs.Conversion.{correctsFull, convertOf}
 use Rattle.samples.specs.Samples.{sampledOf}
 use Rattle.reading.specs.Reading.{seenIn}
-use Rattle.reading.specs.Hundred.{leftAtFull, leftIn, usableIn, Says}
+use Rattle.reading.specs.Hundred.{FullLeft, leftAtFull, leftIn, usableIn, Says}
 use Rattle.reading.proofs.Hundred.{hundred-holds}
+use Rattle.bus.specs.declared.Transaction.{Transaction}
 use Rattle.gauge.specs.declared.Gauge.{Gauge}
 use Rattle.gauge.specs.Image.{sizeFor}
 use Rattle.gauge.specs.Profiles.{baseMeter, edgeIn}
 use Rattle.gauge.proofs.Profiles.{only-two}
 use Rattle.record.specs.declared.Form.{Form}
 use Rattle.record.specs.declared.Form.the-variants.{Long}
-use Rattle.record.specs.declared.Change.the-variants.{Sample}
-use Rattle.record.specs.Image.{imageAging}
-use Rattle.runs.specs.Record.{Rec, whole, wholeOf, recOf}
-use Rattle.runs.specs.Run.{Did, linesAfter, repliesOf, outcomeNumber}
+use Rattle.record.specs.declared.Change.the-variants.{Conversion, Sample}
+use Rattle.record.specs.Image.{imageSize, imageAging}
+use Rattle.runs.specs.Record.{Rec, whole, wholeOf, recOf, recordOf}
+use Rattle.runs.specs.Run.{Did, Line, linesAfter, repliesOf, outcomeNumber}
 use Rattle.runs.specs.Divided.{leftOver}
 use Rattle.runs.proofs.Divided.{divided}
 use Rattle.runs.specs.declared.Session.{Session}
 use Rattle.runs.specs.SessionRecord.{didOf, loadedWith}
 use Rattle.session_run.specs.SessionRun.{emptyOf, TakenOut}
 use Rattle.tray_record.specs.declared.Tray.{Tray}
-use Rattle.tray_record.specs.Tray.{emptyTray, packOf, trayDid}
+use Rattle.tray_record.specs.Tray.{emptyTray, packOf, slotIn, trayDid}
 use Rattle.tray_run.specs.TrayRun.{SlotOut}
 use Rattle.preset_session.specs.declared.Written.{Written}
 use Rattle.preset_session.specs.PresetSession.{programmingSize, Programming}
-use Rattle.mending.specs.Mending.{mendedOf}
+use Rattle.mending.specs.declared.Mended.the-variants as Mended
+use Rattle.mending.specs.Mending.{mendedOf, Mending}
 use Rattle.mending.specs.Worth.{Accepted}
 use Rattle.mending.proofs.Worth as worth
 use Rattle.hex.specs.declared.Answer.{Answer}
@@ -43,13 +45,15 @@ use Rattle.hex.specs.Export.{Exporting}
 use Rattle.hex.specs.Import.{Importing}
 use Rattle.hex.specs.Theorems.{Reordered, Returned}
 use Rattle.hex.proofs.RoundTrip.{round-trip}
-use Rattle.demands.specs.Call.{Call, Allowed, Within, linesIn, SessionRun}
+use Rattle.demands.specs.Call.{Call, Allowed, Within, linesIn, Stopped, SessionRun}
 use Rattle.demands.specs.Numbers.{OnlyWhen, sessionCases, frontCases}
-use Rattle.demands.specs.History.{changed}
-use Rattle.demands.specs.Hundred.{FindsFull, by-sample}
+use Rattle.demands.specs.History.{Happening, changed, transacted, happened, ofGauge, heardSince, leftBy}
+use Rattle.demands.specs.Hundred.{FindsFull, by-conversion, by-sample, KeepsFull, chargedIn}
+use Rattle.demands.specs.Mending.{MendedFirst}
 use Rattle.demands.specs.Slow as slowly
 use Rattle.demands.specs.Slots.{Stands, AsOld}
-use Rattle.demands.specs.Isolation.{SameAt}
+use Rattle.demands.specs.Alone.{slotEvent}
+use Rattle.demands.specs.Isolation.{Agree, Differs, here, there, SameAt}
 use Rattle.demands.specs.Longer.{formKind, reading, quarters, wholeMap}
 use Rattle.demands.specs.Programming.{Bench, benchLines, Answers}
 use Rattle.demands.proofs.Called.{runs-exist}
@@ -58,6 +62,8 @@ use Rattle.demands.proofs.Isolation.{isolated-throughout}
 use Rattle.demands.proofs.TrayExample.{isolation-met}
 use Rattle.demands.proofs.Numbers.{each-number-holds}
 use Rattle.demands.proofs.Demand2.{demand-2, tray-demand-2}
+use Rattle.demands.proofs.Lives.{full-pack-holds}
+use Rattle.demands.proofs.Mending.{mended-first}
 use Rattle.demands.proofs.Slow.{slow}
 use Rattle.demands.proofs.Slots.{slots-as-old}
 use Rattle.demands.proofs.EachPack.{transactions-as-plain}
@@ -71,8 +77,8 @@ image-in-its-size d room answer after w loaded size out =
 
 pub slot-image-in-its-size : (d : Call Tray) (i : ℕ) (room : List ℕ) (answer : ℕ) (after : List ℕ) → Within trayDid emptyTray d
     → suc i ≡ d .ran .state .count → length room ≡ sizeFor (packOf (d .ran .state) i) → SlotOut (d .ran .state) i room answer after → answer ≡ 0
-slot-image-in-its-size d i room answer after w there size out =
-    tray-demand-2 .images d i room answer after (record { run = w; pack = omega (arith, there); fits = omega (arith, size); out = out }) .0
+slot-image-in-its-size d i room answer after w last size out =
+    tray-demand-2 .images d i room answer after (record { run = w; pack = omega (arith, last); fits = omega (arith, size); out = out }) .0
 
 -- SLOTS: the last slot that has a pack
 pub last-slot-as-old : (c : Call Tray) → Within trayDid emptyTray c → (i : ℕ) → suc i ≡ c .ran .state .count → (n m : ℕ) → Stands n m
@@ -143,6 +149,36 @@ pub found-by-the-last : (g : Gauge) (raw tick i : ℕ) → suc i ≡ elapsedOf (
     → FindsFull g (changed (Sample raw tick)) (leftAtFull (sampledOf (g .meter) raw i) raw)
 found-by-the-last g raw tick i last found = by-sample raw tick i (omega (arith, last)) found
 
+-- and by its first; or by any conversion
+pub found-by-the-first : (g : Gauge) (raw tick : ℕ) → 0 < elapsedOf (g .meter .flow .tick) tick → correctsFull (g .meter) raw ≡ true
+    → FindsFull g (changed (Sample raw tick)) (leftAtFull (g .meter) raw)
+unfolding sampledOf
+found-by-the-first g raw tick some found = by-sample raw tick 0 some found
+
+pub found-by-a-conversion : (g : Gauge) (raw : ℕ) → correctsFull (g .meter) raw ≡ true → FindsFull g (changed (Conversion raw)) (leftAtFull (g .meter) raw)
+found-by-a-conversion g raw found = by-conversion raw found
+
+-- and then it is kept over any conversion, any sample and any transaction
+pub kept-over-conversion : (f : FullLeft) (g : Gauge) (raw : ℕ) → KeepsFull f g (changed (Conversion raw))
+kept-over-conversion f g raw = tt
+
+pub kept-over-sample : (f : FullLeft) (g : Gauge) (raw tick : ℕ) → KeepsFull f g (changed (Sample raw tick))
+kept-over-sample f g raw tick = tt
+
+pub kept-over-transaction : (f : FullLeft) (g : Gauge) (t : Transaction) (master : List ℕ) → KeepsFull f g (transacted t master)
+kept-over-transaction f g t master = tt
+
+pub charged-over-others : (n : ℕ) (a b : Call Session) → Within didOf emptyOf b → Stopped didOf emptyOf n b a → (h : Happening) (raw tick : ℕ)
+    (t : Transaction) (master : List ℕ)
+    → heardSince ofGauge didOf n a b ≡ h ∷ changed (Conversion raw) ∷ changed (Sample raw tick) ∷ transacted t master ∷ []
+    → (f : FullLeft) → FindsFull (leftBy ofGauge a) h f → chargedIn (leftBy ofGauge b) ≡ true
+charged-over-others n a b w stopped h raw tick t master heard f finds =
+    let one = happened (leftBy ofGauge a) h in
+    let two = happened one (changed (Conversion raw)) in
+    let three = happened two (changed (Sample raw tick)) in
+    full-pack-holds .session .full n a b w stopped h (changed (Conversion raw) ∷ changed (Sample raw tick) ∷ transacted t master ∷ []) heard f finds
+    (kept-over-conversion f one raw, (kept-over-sample f two raw tick, (kept-over-transaction f three t master, tt))) .0
+
 -- PROFILES: at the edge of blanking the counts differ where the DS2775's is 1, and where the DS2781's is one below its largest
 module _ (m : Meter) (raw : ℕ) (second : m .cells .profile ≡ Ds2775) (edge : edgeIn m raw ≡ true) (unmarked : m .charge .mark ≡ false)
     (unfilled : correctsFull m raw ≡ false) where
@@ -169,6 +205,17 @@ module _ (image : List ℕ) (bytes : UpTo255 image) (accepted : Accepted image) 
   unchanged-at-128 e =
       worth.unchanged image (record { bytes = λ i. omega (arith, bytes i); accepted = accepted; young = omega (arith, e); old = omega (arith, e) }) .0
 
+-- and a mended image is the only record of a session
+pub mended-alone : (image room after : List ℕ) (c : Call Session) → Mending image room Mended.Done after → c .bytes ≡ recordOf 1 (take imageSize after)
+    → Within didOf emptyOf c → MendedFirst image room after [] c
+mended-alone image room after c mended session run =
+    record { mended = mended; session = session ∙ sym (append-nil (recordOf 1 (take imageSize after))); run = run }
+
+pub mended-alone-accepted : (image room after : List ℕ) (c : Call Session) → Mending image room Mended.Done after
+    → c .bytes ≡ recordOf 1 (take imageSize after) → Within didOf emptyOf c → linesIn didOf emptyOf c ≡ record { kind = 1; answer = 0; reply = [] } ∷ []
+mended-alone-accepted image room after c mended session run =
+    mended-first image room after [] c (mended-alone image room after c mended session run) .lines
+
 -- THE ROUND TRIP: into a room of just 48 bytes
 pub returned-in-48 : (pack factory room after : List ℕ) → UpTo255 pack → UpTo255 factory → Exporting pack factory room Done after
     → (ls : List (List ℕ)) (text : List ℕ) → Reordered pack factory ls text → (lent : List ℕ) (said : Answer) (last : List ℕ) → length lent ≡ 48
@@ -188,7 +235,19 @@ pub missized-behind-sample : (g : Gauge) (room : ℕ) (s : slowly.Sample)
     → slowly.AsConversions g room (slowly.sample s ∷ slowly.other (whole 6 []) ∷ [])
 missized-behind-sample g room s = slow .conversions g room (slowly.sample s ∷ slowly.other (whole 6 []) ∷ []) (refl, tt)
 
--- ISOLATION: the example meets all that the theorem asks
+-- ISOLATION: either session may have any event of the slot that the other has not, whatever it is answered; and a record that both refuse may be refused
+-- with other numbers
+module _ {k n e : ℕ} {p : List ℕ} {xs ys : List (Rec × Line)} (slot : slotEvent e ≡ true) (at : slotIn p ≡ k) (l : Line) (rest : Differs k n xs ys) where
+  pub one-holds-more : Differs k n ((whole e p, l) ∷ xs) ys
+  one-holds-more = here slot at rest
+
+  pub other-holds-more : Differs k n xs ((whole e p, l) ∷ ys)
+  other-holds-more = there slot at rest
+
+pub refused-either-way : (l m : Line) → l .answer ≡ 4 → m .answer ≡ 10 → Agree l m
+refused-either-way l m four ten = rw (four, ten) refl
+
+-- the example meets all that the theorem asks
 pub example-isolated : SameAt (isolation-met .slot) (isolation-met .first) (isolation-met .second) (isolation-met .before) (isolation-met .other-before)
 example-isolated =
     isolated-throughout (isolation-met .slot) (isolation-met .first) (isolation-met .second) (isolation-met .twins) (isolation-met .taking .earlier)

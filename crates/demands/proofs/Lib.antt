@@ -36,6 +36,7 @@ pub mod Programming
 pub mod Cases
 pub mod Called
 pub mod Example
+pub mod ReadBackExample
 pub mod TrayExample
 pub mod Booked
 pub mod Blind

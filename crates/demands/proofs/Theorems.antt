@@ -26,6 +26,7 @@ use Rattle.demands.proofs.Demand2.{demand-2, tray-demand-2}
 use Rattle.demands.proofs.Demand3.{demand-3}
 use Rattle.demands.proofs.TrayDemand3.{tray-demand-3}
 use Rattle.demands.proofs.Example.{demand-3-met, bench-example}
+use Rattle.demands.proofs.ReadBackExample.{read-back-met}
 use Rattle.demands.proofs.WholeTrays.{whole-tray-demand-3}
 use Rattle.demands.proofs.EveryOpening.{every-tray-opens}
 use Rattle.demands.proofs.TrayExample.{tray-demand-3-met, whole-tray-demand-3-met, whole-tray-refused-met, isolation-met, single-met}
@@ -55,6 +56,7 @@ sessions = record {
   demand-1 = demand-1;
   numbers = each-number-holds;
   demand-2 = demand-2;
+  read-back-met = read-back-met;
   demand-3 = demand-3;
   demand-3-met = demand-3-met;
   classes = classes-hold;
@@ -112,6 +114,7 @@ at-bench = record {
   programmed-met = bench-example;
   mended = mended-first;
   mended-calls = worth.by-call;
+  mended-lines = worth.listing;
   accepted = worth.accepted;
   unchanged = worth.unchanged;
   twice = worth.twice;

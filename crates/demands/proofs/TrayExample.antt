@@ -40,7 +40,7 @@ use Rattle.demands.specs.Class.{blockOf, touchedOf, labelsOf, touchedCla
 use Rattle.demands.specs.Demand2.{SlotCarried, SlotPowersOn}
 use Rattle.demands.specs.Demand3.{imageRecords, TrayDemand3Met, WholeTrayDemand3Met, WholeTrayRefusedMet}
 use Rattle.demands.specs.Single.{inTray, SingleMet}
-use Rattle.demands.specs.Isolation.{none, held, here, images, IsolationMet}
+use Rattle.demands.specs.Isolation.{none, held, here, there, images, IsolationMet}
 use Rattle.demands.proofs.Called.{packed, called, called-within}
 
 -- Two packs, the second of a DS2775, whose counter was saved at 9; and the first with another label
@@ -203,12 +203,12 @@ whole-tray-refused-met = record {
 
 -- Two sessions that differ in slot 0
 
--- first an image without a byte, which is refused, of another kind in the one than in the other
+-- first an image without a byte, which is refused, of another kind in the one than in the other; each has an event of the slot that the other has not
 abbrev longer : List Rec
 longer = whole 1 [] ∷ whole 1 zeroth ∷ whole 8 first ∷ converting 0 ∷ converting 1 ∷ []
 
 abbrev shorter : List Rec
-shorter = whole 8 [] ∷ whole 1 relabelled ∷ whole 8 first ∷ converting 1 ∷ []
+shorter = whole 8 [] ∷ whole 1 relabelled ∷ whole 8 first ∷ converting 1 ∷ power-on ∷ []
 
 -- and then the transaction
 abbrev both-measuring : List Rec → List Rec
@@ -224,7 +224,7 @@ pub isolation-met : IsolationMet
 unfolding zip zipWith recOf sizeOf wholeOf trayDid trayKindOf searchOf matchedOf judgedAmong addressedOf orderedOf crc.bitOf crc.eightOf crc.nextOf
     imageOf poweredOf conversionOf convertOf flowedOf
     askedOf askedAt romBy commandOf selectedOf ownOf actOf ranOf
-    replyOf sourceByte readByte inLabel meterByte registersOf
+    replyOf sourceByte readByte inLabel meterByte registersOf powerOnOf
 isolation-met = record {
   slot = 0;
   matched = 1;
@@ -234,7 +234,9 @@ isolation-met = record {
     one = call-within (both-measuring longer) (omega arith);
     other = call-within (both-measuring shorter) (omega arith);
     room = refl;
-    differs = images Ds2781 Ds2775 refl refl refl (images Ds2781 Ds2781 refl refl refl (held refl (here refl refl (held refl (held refl none)))));
+    differs =
+        images Ds2781 Ds2775 refl refl refl (images Ds2781 Ds2781 refl refl refl
+        (held refl (here refl refl (held refl (there refl refl (held refl none))))));
   };
   form = Short;
   payload = measured;
@@ -252,11 +254,11 @@ isolation-met = record {
   other-before = call shorter;
   other-after = call (both-measuring shorter);
   other-taking = record {
-    earlier = 4;
+    earlier = 5;
     later = [];
     here = refl;
-    before = stops shorter (omega arith) 4 (call (both-measuring shorter)) refl refl refl;
-    after = stops (both-measuring shorter) (omega arith) 5 (call (both-measuring shorter)) refl refl refl;
+    before = stops shorter (omega arith) 5 (call (both-measuring shorter)) refl refl refl;
+    after = stops (both-measuring shorter) (omega arith) 6 (call (both-measuring shorter)) refl refl refl;
   };
   place = tt;
   differ = λ e. let z : _≡_ {A = ℕ} 0x3c 7 = ap (λ (g : Gauge). getD (g .label .shadow) 0 0) e in omega arith;

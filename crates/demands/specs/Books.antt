@@ -189,9 +189,20 @@ pub data Unsteady : Meter → ℕ → ℕ → Type 0 where
   clamp-here : {m : Meter} {raw n : ℕ} → unclamped (countIn m +ℤ booked (ledgerOf m) (convertsNow m raw)) ≡ false → Unsteady m raw (suc n)
   further : {m : Meter} {raw n : ℕ} → Unsteady (convertOf m raw) raw n → Unsteady m raw (suc n)
 
+-- what ends the books: an image, a power-on, or an event that sets ACR or clamps
+pub data EndsBooks : Gauge → Happening → Type 0 where
+  at-image : {g : Gauge} {f : Profile} {p : List ℕ} → EndsBooks g (imaged f p)
+  at-empty : {g : Gauge} {volt temp : ℕ} → correctsEmpty (g .meter) volt temp ≡ true → EndsBooks g (changed (Reading volt temp))
+  at-conversion : {g : Gauge} {raw : ℕ} → Unsteady (g .meter) raw 1 → EndsBooks g (changed (Conversion raw))
+  at-sample : {g : Gauge} {raw tick : ℕ} → Unsteady (g .meter) raw (elapsedOf (g .meter .flow .tick) tick) → EndsBooks g (changed (Sample raw tick))
+  at-power-on : {g : Gauge} → EndsBooks g (changed PowerOn)
+  at-write : {g : Gauge} {t : Transaction} {master : List ℕ} → writesAcr g t master ≡ true → EndsBooks g (transacted t master)
+
 -- ---- and where they are not, there is a reason: each of these sets ACR, or clamps
 
 pub record NoWider : Type 0 where
+  -- the books are kept over every other event
+  pub ended : (g : Gauge) (h : Happening) → keepsBooks g h ≡ false → EndsBooks g h
   -- conversions over which the books are not kept, a 1,024th or not, have one of the two
   pub unsteady : (m : Meter) (raw n : ℕ) → steady m raw n ≡ false → Unsteady m raw n
   -- step 6 fills the charge that steps 1 to 5 leave

@@ -138,3 +138,22 @@ pub record TrayDemand2 : Type 0 where
   pub images : (d : Call Tray) (i : ℕ) (room : List ℕ) (answer : ℕ) (after : List ℕ) → SlotCarried d i room answer after
       → (answer ≡ 0) × ((e : Call Session) → Fresh (profileOf (packOf (d .ran .state) i)) after e →
       ReadBack (packOf (d .ran .state) i) (SlotPowersOn i d) e)
+
+-- ---- and it speaks of something: an image of a profile is accepted and events follow, the image that is taken out then is read into a fresh gauge, and
+-- it gives the state of the session with a power-on there, which is another one than it had
+
+pub record ReadBackMet (f : Profile) : Type 0 where
+  pub session : Call Session
+  pub profile : profileOf (session .ran .state .gauge) ≡ f
+  pub room : List ℕ
+  pub answer : ℕ
+  pub after : List ℕ
+  pub carried : Carried session room answer after
+  pub done : answer ≡ 0
+  pub fresh : Call Session
+  pub read : Fresh f after fresh
+  pub accepted : AnswersImage f fresh 0
+  pub there : Gauge
+  pub powered : PowersOn session there
+  pub same : fresh .ran .state ≡ loadedWith there
+  pub another : there ≡ session .ran .state .gauge → ⊥

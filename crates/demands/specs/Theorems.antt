@@ -21,6 +21,7 @@ use Rattle.runs.specs.SessionRecord.{didOf}
 use Rattle.session_run.specs.SessionRun.{emptyOf}
 use Rattle.tray_record.specs.Tray.{emptyTray, trayDid}
 use Rattle.mending.specs.Worth.{AcceptedTheorem, UnchangedTheorem, TwiceTheorem, ArrangedTheorem, CappedTheorem, KeptTheorem, ByCallTheorem}
+use Rattle.mending.specs.Worth.{ListingTheorem}
 use Rattle.hex.specs.Theorems.{GoodLines, RoundTrip, ExportedText}
 use Rattle.demands.specs.Contracts.{Contracts}
 use Rattle.demands.specs.NoSlack.{NoSlack}
@@ -30,6 +31,7 @@ use Rattle.demands.specs.Cases.{ClassesHold}
 use Rattle.demands.specs.Call.{WithinOrOver, RunsExist}
 use Rattle.demands.specs.Demand1.{sessionMost, trayMost, Demand1}
 use Rattle.demands.specs.Demand2.{Demand2, TrayDemand2}
+use Rattle.demands.specs.Demand2.{ReadBackMet}
 use Rattle.demands.specs.Numbers.{EachNumber}
 use Rattle.demands.specs.Demand3.{Demand3, Demand3Met, TrayDemand3, TrayDemand3Met, WholeTrayDemand3, WholeTrayDemand3Met}
 use Rattle.demands.specs.Demand3.{WholeTrayRefusedMet, EveryTrayOpens}
@@ -64,6 +66,8 @@ pub record OfSessions : Type 0 where
   -- "From an accepted pack image, every reply byte, register, flag and EEPROM byte after each event is what the DS2781 sheet, as condensed in
   -- document 01, works out. The image taken out at any moment, read into a fresh gauge, gives the state that a power-on would have given there."
   pub demand-2 : Demand2
+  -- .. and there is such a moment, of each profile
+  pub read-back-met : (f : Profile) → ReadBackMet f
   -- "Labels and gauging keep apart. Two sessions with the same accepted image first, room for all they ask and the same fences in the same order, which
   -- between neighbouring fences and after the last hold the same label events in the same order and the same gauge events in the same order, mixed
   -- differently: each event gets the same answer and reply bytes in both, those that demand 2 gives, and both end in the same state." And there are such
@@ -148,6 +152,7 @@ pub record OfBench : Type 0 where
   -- mending once."
   pub mended : MendedTheorem
   pub mended-calls : ByCallTheorem
+  pub mended-lines : ListingTheorem
   pub accepted : AcceptedTheorem
   pub unchanged : UnchangedTheorem
   pub twice : TwiceTheorem
