@@ -1,10 +1,11 @@
 -- Each theorem at the edge of its premises: one that is narrowed by one does not reach it.
 use mathlib.Core.Path.{_≡_, refl, sym, ap, subst, _∙_}
 use mathlib.Core.Bool.{true, false}
+use mathlib.Core.Logic.{inl, inr}
 use mathlib.Core.List.{List, [], _∷_, _++_, append-nil}
 use Prim.Native.Nat.{ℕ, suc, _+_, _-_, _*_, _/_, _^_, _≤_, _<_}
 use native.Mathlib.Omega.{arith}
-use lib.ListN.{length, getD, take}
+use lib.ListN.{length, getD, take, drop}
 use Rattle.params.specs.Params.{capacityOf}
 use Rattle.state.specs.declared.Meter.{Meter}
 use Rattle.state.specs.declared.Profile.the-variants.{Ds2775}
@@ -16,15 +17,17 @@ use Rattle.reading.specs.Hundred.{FullLeft, leftAtFull, leftIn, usableIn, Says}
 use Rattle.reading.proofs.Hundred.{hundred-holds}
 use Rattle.bus.specs.declared.Transaction.{Transaction}
 use Rattle.gauge.specs.declared.Gauge.{Gauge}
+use Rattle.gauge.specs.Aging.{agingOf}
 use Rattle.gauge.specs.Image.{sizeFor}
 use Rattle.gauge.specs.Profiles.{baseMeter, edgeIn}
 use Rattle.gauge.proofs.Profiles.{only-two}
 use Rattle.record.specs.declared.Form.{Form}
 use Rattle.record.specs.declared.Form.the-variants.{Long}
-use Rattle.record.specs.declared.Change.the-variants.{Conversion, Sample}
+use Rattle.record.specs.declared.Change.the-variants.{Reading, Conversion, Sample, PowerOn}
 use Rattle.record.specs.Image.{imageSize, imageAging}
 use Rattle.runs.specs.Record.{Rec, whole, wholeOf, recOf, recordOf}
 use Rattle.runs.specs.Run.{Did, Line, linesAfter, repliesOf, outcomeNumber}
+use Rattle.runs.specs.Step.{ownRoom}
 use Rattle.runs.specs.Divided.{leftOver}
 use Rattle.runs.proofs.Divided.{divided}
 use Rattle.runs.specs.declared.Session.{Session}
@@ -32,6 +35,7 @@ use Rattle.runs.specs.SessionRecord.{didOf, loadedWith}
 use Rattle.session_run.specs.SessionRun.{emptyOf, TakenOut}
 use Rattle.tray_record.specs.declared.Tray.{Tray}
 use Rattle.tray_record.specs.Tray.{emptyTray, packOf, slotIn, trayDid}
+use Rattle.tray_record.specs.Tray as reach
 use Rattle.tray_run.specs.TrayRun.{SlotOut}
 use Rattle.preset_session.specs.declared.Written.{Written}
 use Rattle.preset_session.specs.PresetSession.{programmingSize, Programming}
@@ -43,31 +47,46 @@ use Rattle.hex.specs.declared.Answer.{Answer}
 use Rattle.hex.specs.declared.Answer.the-variants.{Done}
 use Rattle.hex.specs.Export.{Exporting}
 use Rattle.hex.specs.Import.{Importing}
-use Rattle.hex.specs.Theorems.{Reordered, Returned}
+use Rattle.hex.specs.Theorems.{InSomeOrder, Reordered, Returned}
 use Rattle.hex.proofs.RoundTrip.{round-trip}
-use Rattle.demands.specs.Call.{Call, Allowed, Within, linesIn, Stopped, SessionRun}
+use Rattle.demands.specs.Call.{Call, Allowed, Within, linesIn, gotOf, firstOf, Stopped, SessionRun, Taking}
+use Rattle.demands.specs.Demand1.{Unchanged}
 use Rattle.demands.specs.Numbers.{OnlyWhen, sessionCases, frontCases}
 use Rattle.demands.specs.History.{Happening, changed, transacted, happened, ofGauge, heardSince, leftBy}
 use Rattle.demands.specs.Hundred.{FindsFull, by-conversion, by-sample, KeepsFull, chargedIn}
 use Rattle.demands.specs.Mending.{MendedFirst}
 use Rattle.demands.specs.Slow as slowly
 use Rattle.demands.specs.Slots.{Stands, AsOld}
-use Rattle.demands.specs.Alone.{slotEvent}
-use Rattle.demands.specs.Isolation.{Agree, Differs, here, there, SameAt}
-use Rattle.demands.specs.Longer.{formKind, reading, quarters, wholeMap}
+use Rattle.demands.specs.Slots as Slots
+use Rattle.demands.specs.Single.{Translated, oneImage, AnswersAlike}
+use Rattle.demands.specs.Aging.{AsLeft}
+use Rattle.demands.specs.Saved.{cellsSaved, Unsaved}
+use Rattle.demands.specs.Stored.{block0, block1}
+use Rattle.demands.specs.Alone.{slotEvent, reachIn, Goes, slotted, matched}
+use Rattle.demands.specs.Isolation.{Agree, Differs, here, there, Twins, SameAt}
+use Rattle.demands.specs.Longer.{formKind, Reformed, reading, quarters, wholeMap}
+use Rattle.demands.specs.Longer as Longer
 use Rattle.demands.specs.Programming.{Bench, benchLines, Answers}
-use Rattle.demands.proofs.Called.{runs-exist}
+use Rattle.demands.proofs.Called.{called, called-stopped, runs-exist}
 use Rattle.demands.proofs.Demand1.{demand-1, tray-demand-1}
-use Rattle.demands.proofs.Isolation.{isolated-throughout}
+use Rattle.demands.proofs.Alone.{alone}
+use Rattle.demands.proofs.Isolation.{isolation, isolated-throughout}
+use Rattle.demands.proofs.Single.{single-as-plain}
+use Rattle.demands.proofs.Stepwise.{sessions-stepwise, trays-stepwise}
+use Rattle.demands.proofs.History.{session-eeprom}
 use Rattle.demands.proofs.TrayExample.{isolation-met}
 use Rattle.demands.proofs.Numbers.{each-number-holds}
 use Rattle.demands.proofs.Demand2.{demand-2, tray-demand-2}
-use Rattle.demands.proofs.Lives.{full-pack-holds}
+use Rattle.demands.proofs.Lives.{saved-cells-hold, own-as-holds, full-pack-holds}
 use Rattle.demands.proofs.Mending.{mended-first}
 use Rattle.demands.proofs.Slow.{slow}
 use Rattle.demands.proofs.Slots.{slots-as-old}
 use Rattle.demands.proofs.EachPack.{transactions-as-plain}
 use Rattle.demands.proofs.Longer.{longer}
+
+-- the run of a call that is stopped after so many records
+abbrev stoppedAt : {S : Type 0} → (S → ℕ → Rec → Did S) → S → ℕ → Call S → Call S
+stoppedAt did start n c = called did start (firstOf n (c .bytes)) (c .room) (c .answers)
 
 -- DEMAND 2: an image taken out into a room of just its size, of a session and of the last slot that has a pack
 pub image-in-its-size : (d : Call Session) (room : List ℕ) (answer : ℕ) (after : List ℕ) → Within didOf emptyOf d → d .ran .state .loaded ≡ true
@@ -105,6 +124,10 @@ map-in-256 g = ap (λ (d : Did Session). d .answer) (longer .map-read g 256 (ome
 pub quarters-in-256 : (g : Gauge) → repliesOf (linesAfter didOf (loadedWith g) 256 quarters) ≡ wholeMap g
 quarters-in-256 g = longer .map-quarters g 256 (omega arith)
 
+-- and any record may stand beside the one that is in another form
+pub any-record-kept : (r : Rec) (rs ss : List Rec) → Reformed rs ss → Reformed (r ∷ rs) (r ∷ ss)
+any-record-kept r rs ss same = Longer.kept same
+
 -- A FULL PACK: D is 1
 pub hundred-at-1 : (k : Meter) (raw : ℕ) → correctsFull k raw ≡ true → (m : Meter) (v t : ℕ) → acrOf (leftIn m v t .count) ≡ leftAtFull k raw .acr
     → leftIn m v t .aging ≡ leftAtFull k raw .aging → seenIn m v t .lines .full ≡ leftAtFull k raw .full
@@ -133,6 +156,13 @@ pub run-of-32768 : {S : Type 0} (did : S → ℕ → Rec → Did S) (start : S) 
     → SessionRun did start s room answers
 run-of-32768 did start s room answers size lent =
     runs-exist did start .sessions s room answers (omega (arith, size)) (subst (λ (n : ℕ). (n + 3) / 4 ≤ length answers) (sym size) (omega (arith, lent)))
+
+-- and every record of a session, not the last alone, is one that runs stop before and after
+pub each-record-taken : {S : Type 0} (did : S → ℕ → Rec → Did S) (start : S) (c : Call S) → Within did start c
+    → (n : ℕ) (r : Rec) (l : Line) (later : List (Rec × Line)) → drop n (gotOf did start c) ≡ (r, l) ∷ later
+    → Taking did start c r l (stoppedAt did start n c) (stoppedAt did start (suc n) c)
+each-record-taken did start c w n r l later found =
+    record { earlier = n; later = later; here = found; before = called-stopped did start n c w; after = called-stopped did start (suc n) c w }
 
 -- READ BY READ: a read of just four bytes for each record that is answered
 pub completed-at-4 : (most : ℕ) (left read : List ℕ) → wholeOf left ≡ false → length read ≡ 4 * most → wholeOf (leftOver most (left ++ read)) ≡ false
@@ -223,6 +253,22 @@ pub returned-in-48 : (pack factory room after : List ℕ) → UpTo255 pack → U
 returned-in-48 pack factory room after small other wrote ls text order lent said last size read =
     round-trip pack factory room after (λ i. omega (arith, small i)) (λ i. omega (arith, other i)) wrote ls text order lent said last (omega (arith, size)) read
 
+-- and the data lines in each of the six orders
+module _ (x y z : List ℕ) where
+  abbrev Ordered : List (List ℕ) → Type 0
+  Ordered = InSomeOrder x y z
+
+  pub in-each-order : Ordered (x ∷ y ∷ z ∷ []) × Ordered (x ∷ z ∷ y ∷ []) × Ordered (y ∷ x ∷ z ∷ [])
+      × Ordered (y ∷ z ∷ x ∷ []) × Ordered (z ∷ x ∷ y ∷ []) × Ordered (z ∷ y ∷ x ∷ [])
+  in-each-order = (
+    record { many = refl; first = inl refl; second = inr (inl refl); third = inr (inr (inl refl)) },
+    record { many = refl; first = inl refl; second = inr (inr (inl refl)); third = inr (inl refl) },
+    record { many = refl; first = inr (inl refl); second = inl refl; third = inr (inr (inl refl)) },
+    record { many = refl; first = inr (inr (inl refl)); second = inl refl; third = inr (inl refl) },
+    record { many = refl; first = inr (inl refl); second = inr (inr (inl refl)); third = inl refl },
+    record { many = refl; first = inr (inr (inl refl)); second = inr (inl refl); third = inl refl },
+  )
+
 -- NUMBERS: a session of just 32,768 bytes, and one byte that is left
 pub done-at-32768 : (c : Call Session) → Allowed didOf emptyOf c → length (c .bytes) ≡ 32768 → outcomeNumber (c .ran .outcome) ≡ 0
 done-at-32768 c a size = each-number-holds .session .within c a (omega (arith, size))
@@ -253,3 +299,89 @@ example-isolated =
     isolated-throughout (isolation-met .slot) (isolation-met .first) (isolation-met .second) (isolation-met .twins) (isolation-met .taking .earlier)
     (isolation-met .other-taking .earlier) (isolation-met .place) (isolation-met .before) (isolation-met .other-before) (isolation-met .taking .before)
     (isolation-met .other-taking .before)
+
+-- and so are the slots below and above the one that differs: their packs, and the reply of a transaction that is matched to one of them
+module _ (k j : ℕ) (c d : Call Tray) (twins : Twins k c d) where
+  pub lower-pack-same : j < k → packOf (c .ran .state) j ≡ packOf (d .ran .state) j
+  lower-pack-same low = isolation .states k c d twins .packs j (λ same. omega (arith, same, low))
+
+  pub higher-pack-same : k < j → packOf (c .ran .state) j ≡ packOf (d .ran .state) j
+  higher-pack-same high = isolation .states k c d twins .packs j (λ same. omega (arith, same, high))
+
+module _ (k j : ℕ) (c d a e : Call Tray) (x : Form) (p : List ℕ) (l m : Line) (b f : Call Tray) (same : SameAt k c d a e)
+    (one-takes : Taking trayDid emptyTray c (whole (formKind x) p) l a b) (other-takes : Taking trayDid emptyTray d (whole (formKind x) p) m e f)
+    (reached : reachIn (a .ran .state) x p ≡ reach.one j) where
+  pub lower-reply-same : j < k → l ≡ m
+  lower-reply-same low = same .replies j x p l m b f one-takes other-takes reached (λ e. omega (arith, e, low))
+
+  pub higher-reply-same : k < j → l ≡ m
+  higher-reply-same high = same .replies j x p l m b f one-takes other-takes reached (λ e. omega (arith, e, high))
+
+-- ALONE: any event of a slot, and a matched transaction of either form, leave the slots below and above
+module _ (τ : Tray) (i : ℕ) (p : List ℕ) where
+  pub each-event-goes : (n : ℕ) → slotEvent n ≡ true → Goes τ i (whole n (i ∷ p))
+  each-event-goes n slot = slotted slot refl
+
+  pub each-form-goes : (f : Form) → reachIn τ f p ≡ reach.one i → Goes τ i (whole (formKind f) p)
+  each-form-goes f reached = matched f reached
+
+module _ (τ : Tray) (room : ℕ) (r : Rec) (i j : ℕ) (goes : Goes τ i r) where
+  pub lower-left-alone : j < i → packOf (trayDid τ room r .state) j ≡ packOf τ j
+  lower-left-alone low = alone τ room r i j goes (λ same. omega (arith, same, low))
+
+  pub higher-left-alone : i < j → packOf (trayDid τ room r .state) j ≡ packOf τ j
+  higher-left-alone high = alone τ room r i j goes (λ same. omega (arith, same, high))
+
+-- SLOTS: each of the four kinds stands for an old one
+pub each-kind-stands : Stands 18 2 × Stands 19 3 × Stands 22 6 × Stands 21 5
+each-kind-stands = (Slots.reading, Slots.conversion, Slots.sample, Slots.power-on)
+
+-- DEMAND 1: a record with any other answer than 0 changes nothing, one that is cut too
+module _ (n : ℕ) (r : Rec) (l : Line) (other : l .answer ≡ suc n) where
+  pub refused-changes-nothing : (c a b : Call Session) → Within didOf emptyOf c → Taking didOf emptyOf c r l a b → Unchanged a b
+  refused-changes-nothing c a b w takes = demand-1 .refusals c w r l a b takes (λ done. omega (arith, done, other))
+
+  pub refused-changes-no-tray : (c a b : Call Tray) → Within trayDid emptyTray c → Taking trayDid emptyTray c r l a b → Unchanged a b
+  refused-changes-no-tray c a b w takes = tray-demand-1 .refusals c w r l a b takes (λ done. omega (arith, done, other))
+
+-- AS AND THE SAVED CELLS: what does not set them
+pub as-left-over-others : (g : Gauge) (volt temp : ℕ) (t : Transaction) (master : List ℕ)
+    → AsLeft g (changed (Reading volt temp) ∷ transacted t master ∷ [])
+as-left-over-others g volt temp t master = (refl, (refl, tt))
+
+pub unsaved-over-others : (g : Gauge) (raw tick : ℕ) (t : Transaction) (master : List ℕ)
+    → Unsaved g (changed (Conversion raw) ∷ changed (Sample raw tick) ∷ changed PowerOn ∷ transacted t master ∷ [])
+unsaved-over-others g raw tick t master = (refl, (refl, (refl, (refl, tt))))
+
+module _ (n : ℕ) (a b : Call Session) (w : Within didOf emptyOf b) (stopped : Stopped didOf emptyOf n b a) where
+  pub as-left-in-session : (volt temp : ℕ) (t : Transaction) (master : List ℕ)
+      → heardSince ofGauge didOf n a b ≡ changed (Reading volt temp) ∷ transacted t master ∷ [] → agingOf (leftBy ofGauge b) ≡ agingOf (leftBy ofGauge a)
+  as-left-in-session volt temp t master heard =
+      own-as-holds .session .left n a b w stopped (subst (AsLeft (leftBy ofGauge a)) (sym heard) (as-left-over-others (leftBy ofGauge a) volt temp t master))
+
+  pub cells-stay-in-session : (raw tick : ℕ) (t : Transaction) (master : List ℕ)
+      → heardSince ofGauge didOf n a b ≡ changed (Conversion raw) ∷ changed (Sample raw tick) ∷ changed PowerOn ∷ transacted t master ∷ []
+      → cellsSaved (leftBy ofGauge b) ≡ cellsSaved (leftBy ofGauge a)
+  cells-stay-in-session raw tick t master heard =
+      saved-cells-hold .session .stay n a b w stopped
+      (subst (Unsaved (leftBy ofGauge a)) (sym heard) (unsaved-over-others (leftBy ofGauge a) raw tick t master))
+
+  -- THE EEPROM: either block that is locked
+  pub locked-label-stays : a .ran .state .loaded ≡ true → leftBy ofGauge a .common .bl0 ≡ true
+      → leftBy ofGauge b .label .eeprom ≡ leftBy ofGauge a .label .eeprom
+  locked-label-stays loaded locked = session-eeprom .locked block0 n a b w stopped loaded locked
+
+  pub locked-block-stays : a .ran .state .loaded ≡ true → leftBy ofGauge a .meter .cells .locks .bl1 ≡ true
+      → leftBy ofGauge b .meter .cells .block .eeprom ≡ leftBy ofGauge a .meter .cells .block .eeprom
+  locked-block-stays loaded locked = session-eeprom .locked block1 n a b w stopped loaded locked
+
+-- ONE RECORD AT A TIME: with just 256 bytes of room for each
+pub lines-in-256-each : (σ : Session) (rs : List Rec) → linesAfter didOf σ (256 * length rs) rs ≡ linesAfter (ownRoom 256 didOf) σ 256 rs
+lines-in-256-each σ rs = sessions-stepwise .roomy-lines σ (256 * length rs) rs (omega arith)
+
+pub tray-lines-in-256-each : (τ : Tray) (rs : List Rec) → linesAfter trayDid τ (256 * length rs) rs ≡ linesAfter (ownRoom 256 trayDid) τ 256 rs
+tray-lines-in-256-each τ rs = trays-stepwise .roomy-lines τ (256 * length rs) rs (omega arith)
+
+-- A TRAY OF ONE PACK: with bytes up to 255
+pub alike-up-to-255 : (c : Call Session) (d : Call Tray) → Translated c d → UpTo255 (c .bytes) → oneImage (linesIn didOf emptyOf c) ≡ true → AnswersAlike c d
+alike-up-to-255 c d translated bytes once = single-as-plain .alike c d translated (λ i. omega (arith, bytes i)) once

@@ -54,6 +54,6 @@ pub mod HexExample
 pub mod Functions
 pub mod NoSlack
 pub mod Crc
-pub mod Edges
 pub mod Stepwise
+pub mod Edges
 pub mod Theorems
