@@ -9,14 +9,15 @@ use mathlib.Core.List.{List, [], _∷_}
 use Prim.Native.Nat.{ℕ, zero, suc, _+_, _-_, _*_}
 use Rattle.numbers.specs.Choice.{pick, both}
 use Rattle.numbers.specs.Offset.{zeroAt}
-use Rattle.params.specs.Params.{countingOf}
+use Rattle.params.specs.Params.{nbenOf, countingOf, capacityOf}
 use Rattle.state.specs.declared.Cells.{Cells}
 use Rattle.state.specs.declared.Meter.{Meter}
 use Rattle.state.specs.State.{noFlow, poweredOf}
-use Rattle.conversion.specs.Conversion.{currentOf, nextMade, withCharge, withFlow, convertOf, correctsFull}
+use Rattle.conversion.specs.Conversion.{currentOf, tracedOf, blankedOf, grownOf, agedOf, cycledOf, filledOf, averagedOf, nextMade, withCharge, withFlow}
+use Rattle.conversion.specs.Conversion.{convertOf, chargeIn, correctsFull}
 use Rattle.reading.specs.Reading.{readOf}
 use Rattle.reading.specs.Figures.{M, withByte, plusCount, powered, readAt, Figure, _is_}
-use Rattle.block1.specs.Block1.{reachesOf, meterWrittenOf}
+use Rattle.block1.specs.Block1.{reachesOf, meterWrittenOf, meterCopiedOf, meterRecalledOf, meterLockedOf}
 
 -- ---- the meters
 
@@ -127,6 +128,31 @@ setsAcr a bytes = both (reachesOf a bytes 0x10) (reachesOf a bytes 0x11) ≡ tru
 abbrev pub leavesAcr : ℕ → List ℕ → Type 0
 leavesAcr a bytes = both (reachesOf a bytes 0x10) (reachesOf a bytes 0x11) ≡ false
 
+-- both are as they were
+pub record SameOffset (after before : Meter) : Type 0 where
+  pub made : madeIn after ≡ madeIn before
+  pub mark : after .charge .mark ≡ before .charge .mark
+
+-- what a conversion does with its c, and with the mark
+pub record OffsetSteps : Type 0 where
+  -- "shown, averaged and counted": of every conversion, the 1024th too, the c that is shown is the later of the last two CURRENTs, goes into the run of
+  -- eight that IAVG is the average of, and is counted, with blanking and AB as they stand, unless the mark is set; full, where it is found, sets ACR
+  pub traced : (m : Meter) (raw : ℕ) → convertOf m raw .flow .trace ≡ tracedOf (m .flow .trace) (shownIn (convertOf m raw))
+  pub averaged : (m : Meter) (raw : ℕ) → convertOf m raw .flow .average ≡ averagedOf (m .flow .average) (shownIn (convertOf m raw))
+  pub counted : (m : Meter) (raw : ℕ) → m .charge .mark ≡ false → correctsFull m raw ≡ false → convertOf m raw .charge .count
+      ≡ grownOf (m .charge .count) (blankedOf (m .cells .profile) (nbenOf (m .cells .block .shadow)) (shownIn (convertOf m raw)))
+      (countingOf (m .cells .block .shadow) .ab)
+  -- a conversion that finds the mark does the other steps as ever, with ACR fallen by 0: the age counter is looked at, the cycle counter goes on from its
+  -- rest, and full may be found
+  pub age-counter : (m : Meter) (raw : ℕ) → m .charge .mark ≡ true → correctsFull m raw ≡ false
+      → convertOf m raw .charge .age ≡ agedOf (countingOf (m .cells .block .shadow) .ac) (m .charge .age) (m .charge .aging) .age
+  pub ages : (m : Meter) (raw : ℕ) → m .charge .mark ≡ true → correctsFull m raw ≡ false
+      → convertOf m raw .charge .aging ≡ agedOf (countingOf (m .cells .block .shadow) .ac) (m .charge .age) (m .charge .aging) .aging
+  pub cycles-on : (m : Meter) (raw : ℕ) → m .charge .mark ≡ true
+      → convertOf m raw .cycles ≡ cycledOf (m .cells .profile) (capacityOf (m .cells .block .shadow) .full40) (m .cycles) 0
+  pub finds-full : (m : Meter) (raw : ℕ) → correctsFull m raw ≡ true
+      → convertOf m raw .charge ≡ filledOf (chargeIn m raw) (m .shown .model .full) (capacityOf (m .cells .block .shadow) .full40)
+
 pub record OffsetRules : Type 0 where
   -- "a conversion count since power-on, modulo 1,024": each conversion counts one, no reading and no write does
   pub counts : (m : Meter) (raw : ℕ) → madeIn (convertOf m raw) ≡ nextMade (madeIn m)
@@ -136,13 +162,18 @@ pub record OffsetRules : Type 0 where
   pub previous : (m : Meter) (raw : ℕ) → madeIn m ≡ 1023 → shownIn (convertOf m raw) ≡ shownIn m
   pub ignored : (m : Meter) (raw other : ℕ) → madeIn m ≡ 1023 → convertOf m raw ≡ convertOf m other
   pub own : (m : Meter) (raw : ℕ) → (madeIn m ≡ 1023 → ⊥) → shownIn (convertOf m raw) ≡ currentOf raw (countingOf (m .cells .block .shadow) .cob)
-  -- "a mark after an ACR write", "by bus only": no other write, no reading and no correction sets it, and a conversion uses it up
+  -- "a mark after an ACR write", "by bus only": no other write or command, no reading and no correction sets it, and a conversion uses it up
   pub marks : (m : Meter) (a : ℕ) (bytes : List ℕ) → setsAcr a bytes → meterWrittenOf m a bytes .charge .mark ≡ true
   pub marks-only : (m : Meter) (a : ℕ) (bytes : List ℕ) → leavesAcr a bytes → meterWrittenOf m a bytes .charge .mark ≡ m .charge .mark
+  pub copy-leaves-both : (m : Meter) (a : ℕ) → SameOffset (meterCopiedOf m a) m
+  pub recall-leaves-both : (m : Meter) (a : ℕ) → SameOffset (meterRecalledOf m a) m
+  pub lock-leaves-both : (m : Meter) (a : ℕ) → SameOffset (meterLockedOf m a) m
   pub read-leaves-mark : (m : Meter) (volt temp : ℕ) → readOf m volt temp .charge .mark ≡ m .charge .mark
   pub used : (m : Meter) (raw : ℕ) → convertOf m raw .charge .mark ≡ false
   -- and "adds nothing to the count, AB included", unless it finds full, which sets ACR
   pub adds-nothing : (m : Meter) (raw : ℕ) → m .charge .mark ≡ true → correctsFull m raw ≡ false → convertOf m raw .charge .count ≡ m .charge .count
+  -- the other steps
+  pub steps : OffsetSteps
   -- "power-on clears both"
   pub power-on-count : (c : Cells) → madeIn (poweredOf c) ≡ 0
   pub power-on-mark : (c : Cells) → poweredOf c .charge .mark ≡ false

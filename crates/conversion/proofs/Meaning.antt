@@ -1,10 +1,10 @@
--- What the definitions of the steps mean in signed numbers: each is the definition of Signed, which says it as document 01 does.
+-- What the steps mean in signed numbers, proved.
 use mathlib.Core.Path.{_≡_, refl, sym, ap, _∙_}
 use mathlib.Core.Bool.{Bool, not}
 use mathlib.Core.List.{List, [], _∷_}
 use Prim.Native.Nat.{ℕ, suc, _+_, _-_, _*_, _/_, _^_, _<_, min}
 use native.Mathlib.Omega.{arith}
-use lib.Dec.{ltb, leb, leb·suc-suc}
+use lib.Dec.{eqb, ltb, leb, leb·suc-suc}
 use lib.ListN.{length}
 use lib.IntN.{ℤ, pos, negℤ, subℕ, _+ℤ_, _-ℤ_}
 use lib.Signed.{leZ}
@@ -17,11 +17,14 @@ use Rattle.numbers.proofs.Offset.{order, sub-pos, sub-neg, sub-eq, sub-add, sub
 use Rattle.params.specs.declared.Counting.{Counting}
 use Rattle.params.specs.Params.{byteAt, signedAt}
 use Rattle.state.specs.declared.Charge.{Charge}
+use Rattle.state.specs.declared.Flow.{Flow}
 use Rattle.state.specs.declared.Profile.{Profile}
 use Rattle.state.specs.declared.Profile.the-variants.{Ds2781, Ds2775}
 use Rattle.state.specs.State.{blankingEdgeOf, acrOf, runOf}
-use Rattle.conversion.specs.Conversion.{currentOf, negative, turnedOf, blankedOf, grownOf, newCount, fallOf, nextMade, averagedOf, tapersOf, currentZ}
-use Rattle.conversion.specs.Conversion.{negativeZ, turnedZ, slightZ, blankedZ, grownZ, addedZ, fallZ, sumZ, meanZ, tapersZ, averagedOver}
+use Rattle.conversion.specs.Conversion.{currentOf, offsetTurn, convertedOf, negative, turnedOf, blankedOf, grownOf, newCount, fallOf, nextMade}
+use Rattle.conversion.specs.Conversion.{averagedOf, tapersOf, currentZ, negativeZ, turnedZ, slightZ, blankedZ, grownZ, addedZ, fallZ, sumZ}
+use Rattle.conversion.specs.Conversion.{meanZ, tapersZ, averagedOver}
+use Rattle.conversion.specs.Meaning.{ConversionMeans}
 use Rattle.state.specs.declared.Average.{Average}
 
 -- ---- differences
@@ -59,6 +62,13 @@ current-means raw cob =
     let e : raw + cob + 32768 - (2 ^ 31 + 2 ^ 7) ≡ raw + cob - (2 ^ 31 + 2 ^ 7 - 2 ^ 15) = omega arith in
     sym (ap (clampZ (minus 32768) (pos 32767)) (offset.sum 31 7 raw cob) ∙ offset.clamped (raw + cob) (2 ^ 31 + 2 ^ 7) 32767 ∙
     ap (λ (x : ℕ). value 15 (min x 65535)) e)
+
+-- c is the one before on the 1024th, and else raw + COB
+pub converted-means : (f : Flow) (raw cob : ℕ)
+    → value 15 (convertedOf f raw cob) ≡ pick (eqb (f .average .made) 1023) (value 15 (f .trace .last)) (currentZ (value 31 raw) (value 7 cob))
+converted-means f raw cob =
+    let turn = offsetTurn (f .average) in
+    through (value 15) turn (f .trace .last) (currentOf raw cob) ∙ ap (pick turn (value 15 (f .trace .last))) (current-means raw cob)
 
 pub negative-means : (c : ℕ) → negative c ≡ negativeZ (value 15 c)
 negative-means c = offset.below-zero 15 c
@@ -130,3 +140,20 @@ tapers-means imin x =
     let below : ltb x (zeroAt 15 + 32 * imin) ≡ leZ (value 15 x) (pos (32 * imin) -ℤ pos 1) =
     ap (leb (suc x)) next ∙ leb·suc-suc x y ∙ at-most 15 x y ∙ ap (leZ (value 15 x)) (sub-eq y (2 ^ 15) (32 * imin) 1 (omega arith)) in
     λ i. both (at-most 15 (suc (zeroAt 15)) x i) (below i)
+
+-- ---- all of them
+
+pub conversion-means : ConversionMeans
+conversion-means = record {
+  parameter = parameter-means;
+  nought = zero-means;
+  current = current-means;
+  converted = converted-means;
+  turned = turned-means;
+  blanked = blanked-means;
+  grown = grown-means;
+  counted = count-means;
+  fall = fall-means;
+  mean = mean-means;
+  tapers = tapers-means;
+}

@@ -1,5 +1,5 @@
 -- Conversion, in the six steps of document 01, each in its order. Currents are kept as z + 2^15 (offset form); beside a step that works on signed
--- numbers stands its wording over the integers, `..Z`, and proofs/Meaning.antt has the law that both are the same.
+-- numbers stands its wording over the integers, `..Z`; Meaning.antt says that both are the same.
 use Prim.Native.Nat.{ℕ, _+_, _-_, _*_, _/_, _%_, _^_, min, max}
 use mathlib.Core.Bool.{Bool, true, false, not}
 use mathlib.Core.List.{List, [], _∷_}

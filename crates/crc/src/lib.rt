@@ -1,13 +1,16 @@
 use entries::TABLE;
 ghost use mathlib.Core.Path.{_≡_};
+ghost use lib.ListN.{length};
 ghost use Rattle.crc.specs.Crc.{nextOf, crcOf, Ruled};
 
 // The 1-Wire CRC-8: polynomial X^8+X^5+X^4+1, low bit first, start 0.
 mod entries;
 
-// The constant table as a value. A loop takes it once, since the constant is written to memory anew wherever it is named.
-fn whole_table() -> [u8; 256]
+// The constant table as a value: 256 entries, each of them the rule's. A loop takes it once, since the constant is written to memory anew wherever it
+// is named.
+pub fn whole_table() -> [u8; 256]
     ensures { λ r. ⌜ Ruled r ⌝ }
+    ensures sized { λ r. ⌜ length r ≡ 256 ⌝ }
 {
     TABLE
 }

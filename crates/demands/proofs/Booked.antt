@@ -19,9 +19,9 @@ use Rattle.state.specs.declared.Charge.{Charge}
 use Rattle.conversion.specs.Conversion.{setOf, markedOf, countedOf, settledOf, flowedOf, convertOf, blankedZ, addedZ, currentIn, correctsFull}
 use Rattle.state.specs.declared.Meter.{Meter}
 use Rattle.reading.specs.Reading.{resultsShown, readOf, correctsEmpty, emptiedIn}
-use Rattle.conversion.proofs.Meaning.{count-means}
+use Rattle.conversion.proofs.Meaning.{converted-means, count-means}
 use Rattle.conversion.proofs.OffsetConversion.{convert-made}
-use Rattle.conversion.proofs.Corrections.{converted-means, converted-charge, uncorrected}
+use Rattle.conversion.proofs.Corrections.{converted-charge, uncorrected}
 use Rattle.reading.proofs.Corrections.{read-charge}
 use Rattle.samples.specs.Samples.{sampledOf, sampleOf}
 use Rattle.samples.proofs.Laws.{sampled-first}

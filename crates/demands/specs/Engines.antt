@@ -1,7 +1,9 @@
 -- THE TWO ENGINES, request [5] of document 02.
 --
 -- "Two engines, the plain repetition and a quick one that works out whole stretches at once, are proved equal for every state and every n from 1 to 64."
--- They are for every n, and the state need not be well-formed.
+--
+-- Said of every n, also above 64. Both functions ask for a well-formed meter (`MeterWF`), which a power-on gives and every event keeps: of such a meter each
+-- is proved to have a result.
 use mathlib.Core.Path.{_≡_}
 use Prim.Native.Nat.{ℕ}
 use denote.Triple.Clauses.{atExit}

@@ -3,8 +3,9 @@
 -- "Operators see 99 on a pack the charger has just finished. .. It is to be rounded up, so that case gives ACR 9194 and RARC 100. Where D is above 0, a
 -- very small Full40 no longer drops CHGTF at once."
 --
--- Of one conversion and one reading `Hundred` of `reading` says it. Stated here of any run and of any pack that it holds, from what finds full on, with
--- any events between it and the readings, as long as each reading comes as `AfterFull` says.
+-- `Hundred` of `reading` says it of one conversion and one reading. Here it is said of a pack of any run, from the conversion or sample that finds full on.
+-- After that there is no power-on and no image, and each reading comes as `AfterFull` says: it finds ACR, AS and Full40 as full left them, sees the same
+-- FULL, and has D above 0. Other events may come between, as many as there are.
 use mathlib.Core.Path.{_≡_}
 use mathlib.Core.Bool.{Bool, true, false}
 use mathlib.Core.List.{List, [], _∷_}

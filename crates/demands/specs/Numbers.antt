@@ -5,9 +5,10 @@
 -- 6 first address byte not 3Dh, or the eighth not the CRC of the first seven. 7 lock byte above 3. 8 read count above 64. 9 reply room left is less
 -- than the read count. The first that applies is given."
 --
--- Each case is said here anew, from the bytes of the record and what the state remembers, with the papers' own numbers. What is shared with the definitions
--- that the code follows are the CRC, the elapsed ticks, equality of eight bytes, the value of a signed byte, and what the state is: whether an image was
--- accepted, the packs of a tray, their number and whether its opening is closed.
+-- Each case is said here anew, from the bytes of the record and what the state remembers, with the papers' own numbers. These definitions are used that the
+-- code is proved by, too: the CRC (`crcOf`), the elapsed ticks (`elapsedOf`), whether two rows of eight bytes are equal (`sameBytes`), a number of two
+-- bytes, low byte first (`pairAt`), the integer of a signed byte (`value`), and what is found in a state: whether an image was accepted, the tick that is
+-- remembered, how many packs a tray has, which is in a slot, and whether its opening is closed.
 use mathlib.Core.Path.{_≡_}
 use mathlib.Core.Bool.{Bool, true, false, not}
 use mathlib.Core.List.{List, [], _∷_}

@@ -6,3 +6,4 @@ pub mod Image
 pub mod Reached
 pub mod ImageProfiles
 pub mod ImageAging
+pub mod ImageOffset

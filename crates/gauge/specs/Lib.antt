@@ -8,3 +8,4 @@ pub mod Image
 pub mod Reach
 pub mod ImageProfiles
 pub mod ImageAging
+pub mod ImageOffset

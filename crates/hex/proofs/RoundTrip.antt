@@ -1,30 +1,28 @@
 -- The 48 bytes come back, proved.
 use mathlib.Core.Path.{_≡_, refl, sym, ap, _∙_}
 use mathlib.Core.Bool.{Bool, true, false}
-use mathlib.Core.Logic.{_⊎_, inl, inr}
+use mathlib.Core.Logic.{_⊎_, inl, inr, ⊎-elim}
 use mathlib.Core.List.{List, [], _∷_, _++_, append-assoc, append-nil}
 use Prim.Native.Nat.{ℕ, zero, suc, _+_, _-_, _/_, _%_, _≤_, _<_}
 use native.Mathlib.Omega.{arith}
-use borrow.Author.Tests.{le-ltb, ne-eqb}
+use borrow.Author.Tests.{le-ltb, eqb-true, ne-eqb}
 use lib.Dec.{eqb, ltb}
 use lib.ListN.{length, take, drop, length-append, length-drop, take-append-drop}
-use lib.Seq.{take-all, take-at}
-use Rattle.numbers.specs.Choice.{pick, both}
+use lib.Seq.{take-all, take-at, length-take-le}
+use Rattle.numbers.specs.Choice.{pick, both, either}
 use Rattle.numbers.proofs.Bounds.{picked}
 use Rattle.slices.specs.Slices.{part}
 use Rattle.digits.specs.Digits.{hexOf, upper, hexText}
+use Rattle.digits.proofs.Read.{either-true, bytes-small}
 use Rattle.record.specs.Image.{imageLabel, imageBlock, imageBl0}
 use Rattle.hex.specs.declared.CheckedLine.the-variants.{Good}
-use Rattle.hex.specs.Line.{lineFeed, hexLineText, dataRecord, endRecord, addressIn, dataIn, placedOf, checkedLineOf}
-use Rattle.hex.proofs.OneLine.{good-is, data-good, data-address, data-in, end-good, end-address}
+use Rattle.hex.specs.Line.{lineFeed, hexLineText, dataRecord, endRecord, digitsIn, bytesIn, addressIn, dataIn, placedOf, checkedLineOf}
+use Rattle.hex.proofs.OneLine.{good-is, good-long, data-good, data-address, data-in, end-good, end-address}
 use Rattle.hex.specs.declared.Answer.the-variants.{Done}
 use Rattle.hex.specs.Export.{answerNumber, bothAccepted, exportLabel, exportedOf, labelLine, lowLine, highLine, endLine, exportText, exportSize}
 use Rattle.hex.specs.Import.{textLines, wholeText, importedOf, importSize, importAnswer}
-use Rattle.hex.specs.Theorems.{GoodLines, Among, InSomeOrder, joinedText, Bytes, RoundTrip, ExportedText}
+use Rattle.hex.specs.Theorems.{DataLine, GoodLines, Among, InSomeOrder, joinedText, Bytes, RoundTrip, ExportedText}
 use Rattle.hex.proofs.Texts.{granted, label-is, label-sized, block-sized, low-sized, high-sized, text-length}
-
-pub good-lines : GoodLines
-good-lines l good = good-is l good
 
 -- ---- a line that is written is a line
 
@@ -156,6 +154,44 @@ take-bytes (suc n) (x ∷ xs) h (suc i) = take-bytes n xs (λ j. h (suc j)) i
 
 part-bytes : (n : ℕ) (s : List ℕ) (at : ℕ) → Bytes s → Bytes (part n s at)
 part-bytes n s at h = take-bytes n (drop at s) (drop-bytes at s h)
+
+-- ---- good lines
+
+placed-in : (address : ℕ) → placedOf address ≡ true → (0x20 ≤ address) × (address < 65536)
+placed-in address placed =
+    ⊎-elim (λ e. let at = eqb-true address 0x20 e in (omega arith, omega arith))
+    (λ h. ⊎-elim (λ e. let at = eqb-true address 0x60 e in (omega arith, omega arith))
+    (λ e. let at = eqb-true address 0x70 e in (omega arith, omega arith))
+    (either-true (eqb address 0x60) (eqb address 0x70) h))
+    (either-true (eqb address 0x20) (either (eqb address 0x60) (eqb address 0x70)) placed)
+
+-- one at such an address has 16 bytes
+good-sized : (l : List ℕ) → checkedLineOf l ≡ Good → placedOf (addressIn l) ≡ true → length (dataIn l) ≡ 16
+good-sized l good placed =
+    let many = good-long l good (λ e. omega (arith, placed-in (addressIn l) placed .0)) in
+    length-take-le 16 (drop 4 (bytesIn l)) (omega (arith, many, length-drop 4 (bytesIn l)))
+
+only-such : (l : List ℕ) → checkedLineOf l ≡ Good → (l ≡ endLine) ⊎ DataLine (addressIn l) (dataIn l) l
+only-such l good =
+    ⊎-elim (λ e. inl e)
+    (λ d. inr (record {
+      placed = d .0;
+      sized = good-sized l good (d .0);
+      small = part-bytes 16 (bytesIn l) 4 (bytes-small upper (omega arith) (digitsIn l));
+      written = d .1;
+    }))
+    (good-is l good)
+
+such-read : (address : ℕ) (bytes l : List ℕ) → DataLine address bytes l → (checkedLineOf l ≡ Good) × (addressIn l ≡ address) × (dataIn l ≡ bytes)
+such-read address bytes l d =
+    let near = placed-in address (d .placed) .1 in (
+      ap checkedLineOf (d .written) ∙ data-good address bytes near (d .sized) (d .small) (d .placed),
+      ap addressIn (d .written) ∙ data-address address bytes near (d .sized) (d .small),
+      ap dataIn (d .written) ∙ data-in address bytes near (d .sized) (d .small),
+    )
+
+pub good-lines : GoodLines
+good-lines = record { only = only-such; end = end-good; sixteen = such-read }
 
 -- ---- the lines of an export
 

@@ -18,12 +18,24 @@ use Rattle.hex.specs.declared.Answer.the-variants.{Done}
 use Rattle.hex.specs.Export.{answerNumber, exportLabel, exportedOf, labelLine, lowLine, highLine, endLine, exportText, exportSize, Exporting}
 use Rattle.hex.specs.Import.{importSize, Importing}
 
--- ---- a good line is the end record, or 16 bytes at one of the three addresses, as they are written
+abbrev pub Bytes : List ℕ → Type 0
+Bytes s = (i : ℕ) → getD s i 0 < 256
 
-abbrev pub GoodLines : Type 0
-GoodLines =
-    (l : List ℕ) → checkedLineOf l ≡ Good
-    → (l ≡ endLine) ⊎ ((placedOf (addressIn l) ≡ true) × (l ≡ hexLineText (dataRecord (addressIn l) (dataIn l))))
+-- ---- a line is good if, and only if, it is the end record, or 16 bytes at one of the three addresses, as they are written
+
+-- 16 bytes at 0020h, 0060h or 0070h, with the checksum of count, address, type and these (`hexRecord`)
+pub record DataLine (address : ℕ) (bytes line : List ℕ) : Type 0 where
+  pub placed : placedOf address ≡ true
+  pub sized : length bytes ≡ 16
+  pub small : Bytes bytes
+  pub written : line ≡ hexLineText (dataRecord address bytes)
+
+-- "40 a line that isn't a colon, the upper-case digit pairs its count asks and a line feed, 41 checksum, 42 any record but the end record and 16 bytes at
+-- 0020h, 0060h or 0070h": a line that is none of these, and none but such a line
+pub record GoodLines : Type 0 where
+  pub only : (l : List ℕ) → checkedLineOf l ≡ Good → (l ≡ endLine) ⊎ DataLine (addressIn l) (dataIn l) l
+  pub end : checkedLineOf endLine ≡ Good
+  pub sixteen : (address : ℕ) (bytes l : List ℕ) → DataLine address bytes l → (checkedLineOf l ≡ Good) × (addressIn l ≡ address) × (dataIn l ≡ bytes)
 
 -- ---- the lines of an export, those of the data in any order
 
@@ -48,9 +60,6 @@ joinedText (l ∷ ls) = l ++ joinedText ls
 pub record Reordered (pack factory : List ℕ) (ls : List (List ℕ)) (text : List ℕ) : Type 0 where
   pub arranged : InSomeOrder (labelLine (exportLabel pack factory)) (lowLine (imageBlock pack)) (highLine (imageBlock pack)) ls
   pub lines : text ≡ joinedText ls ++ endLine
-
-abbrev pub Bytes : List ℕ → Type 0
-Bytes s = (i : ℕ) → getD s i 0 < 256
 
 -- ---- the theorem
 

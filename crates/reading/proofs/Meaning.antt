@@ -1,3 +1,4 @@
+-- What the steps of a reading mean in signed numbers, proved.
 use mathlib.Core.Path.{_≡_, refl, sym, ap, _∙_}
 use Prim.Native.Nat.{ℕ, zero, suc, _+_, _-_, _*_, _/_, _^_, _≤_, min, max}
 use native.Mathlib.Nat.{zero-mul, zero-div, div-zero}
@@ -14,6 +15,7 @@ use Rattle.params.specs.declared.Breaks.{Breaks}
 use Rattle.params.specs.declared.Slopes.{Slopes}
 use Rattle.reading.specs.Reading.{slopeOf, forty, slopesOver, slopesTo, fullLineOf, voltOf, tempOf, degreesOf, drainsOf, leftOf, usableOf, percentOf}
 use Rattle.reading.specs.Reading.{amountOf, voltZ, tempZ, degreesZ, slopeZ, slopesOverZ, slopesZ, fullLineZ, drainsZ, leftZ, usableZ, percentZ, amountZ}
+use Rattle.reading.specs.Meaning.{ReadingMeans}
 use Rattle.conversion.proofs.Meaning.{less, less-pos, stops}
 
 -- ---- reading
@@ -114,3 +116,20 @@ percent-means acr agedFull empty full40 =
 pub amount-means : (acr empty full40 rsnsp : ℕ) → pos (amountOf (leftOf acr empty full40) rsnsp) ≡ amountZ (leftZ acr empty full40) rsnsp
 amount-means acr empty full40 rsnsp =
     (λ i. pos (amountOf (left-means acr empty full40 i) rsnsp)) ∙ amount-is (leftZ acr empty full40) rsnsp
+
+-- ---- all of them
+
+pub reading-means : ReadingMeans
+reading-means = record {
+  volt = volt-means;
+  temp = temp-means;
+  degrees = degrees-means;
+  slope = slope-means;
+  slopes-down = slopes-means;
+  full-line = full-line-means;
+  drains = drains-means;
+  left = left-means;
+  usable = usable-means;
+  percent = percent-means;
+  amount = amount-means;
+}

@@ -1,5 +1,8 @@
--- A FULL PACK SAYS 100, request [1] of document 02: where full was found, a reading that comes with ACR, AS and Full40 as full left them and sees the
--- same FULL gives RARC 100, and "where D is above 0, a very small Full40 no longer drops CHGTF at once".
+-- A FULL PACK SAYS 100, request [1] of document 02: "It is to be rounded up, so that case gives .. RARC 100. Where D is above 0, a very small Full40 no
+-- longer drops CHGTF at once."
+--
+-- Full was found. A reading comes whose step 3 leaves ACR and AS as full left them, with the same Full40, and which sees the same FULL: where D is above
+-- 0, RARC is 100 and CHGTF stays as it was; where D is not, RARC is 0 and CHGTF clears.
 use mathlib.Core.Path.{_≡_}
 use mathlib.Core.Bool.{Bool, true, false}
 use Prim.Native.Nat.{ℕ, _<_}

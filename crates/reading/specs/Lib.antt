@@ -1,4 +1,5 @@
 pub mod Product
 pub mod Reading
+pub mod Meaning
 pub mod Hundred
 pub mod Figures

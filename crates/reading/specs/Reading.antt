@@ -1,6 +1,6 @@
 -- Reading, in the six steps of document 01, each in its order. Voltage and temperature come as z + 2^31, degrees are kept as z + 2^7 and currents
--- as z + 2^15 (offset form); beside a step that works on signed numbers stands its wording over the integers, `..Z`, and proofs/Meaning.antt has
--- the law that both are the same.
+-- as z + 2^15 (offset form); beside a step that works on signed numbers stands its wording over the integers, `..Z`; Meaning.antt says that
+-- both are the same.
 use Prim.Native.Nat.{ℕ, zero, suc, _+_, _-_, _*_, _/_, _^_, _≤_, _<_, min, max}
 use mathlib.Core.Bool.{Bool, true}
 use lib.Dec.{ltb, leb, eqb}

@@ -1,2 +1,3 @@
 pub mod Image
 pub mod Record
+pub mod Meaning

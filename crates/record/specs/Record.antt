@@ -4,7 +4,9 @@ use Prim.Native.Nat.{ℕ, _+_, _≤_}
 use mathlib.Core.Bool.{Bool, true, false, not}
 use mathlib.Core.List.{List}
 use lib.Dec.{ltb, leb, eqb}
+use lib.IntN.{ℤ, pos}
 use lib.ListN.{length, getD, drop}
+use lib.Signed.{leZ}
 use Rattle.numbers.specs.Choice.{pick, both}
 use Rattle.numbers.specs.Offset.{zeroAt, offset32Of}
 use Rattle.slices.specs.Slices.{part, pairAt, quadAt}
@@ -122,6 +124,9 @@ lockableOf p = leb (imageLocks p) 3
 -- "TBP12 ≤ TBP23 ≤ TBP34 ≤ 40 as signed bytes"
 unfoldable pub orderedOf : Breaks → Bool
 orderedOf breaks = both (leb (breaks .b12) (breaks .b23)) (both (leb (breaks .b23) (breaks .b34)) (leb (breaks .b34) (zeroAt 7 + 40)))
+
+abbrev pub orderedZ : ℤ → ℤ → ℤ → Bool
+orderedZ b12 b23 b34 = both (leZ b12 b23) (both (leZ b23 b34) (leZ b34 (pos 40)))
 
 -- 4, 6, 7, 12, 10: the first refusal that applies, in the order of checking. 12, "after 7 and before 10, for a repeated address": where another
 -- pack of the tray has the image's address

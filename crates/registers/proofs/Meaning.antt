@@ -1,16 +1,17 @@
--- What the registers mean.
+-- What the registers mean in signed numbers, proved.
 use mathlib.Core.Path.{_≡_, refl, sym, ap, _∙_}
 use Prim.Native.Nat.{ℕ, suc, _+_, _-_, _*_, _^_, _<_}
 use native.Mathlib.Nat.{mul-add, div-add-mod'}
 use native.Mathlib.Omega.{arith}
 use lib.IntN.{ℤ, pos, subℕ, _*ℤ_}
-use lib.ListN.{length, getD}
+use lib.ListN.{length}
 use Rattle.numbers.specs.Offset.{value, signed, joinedOf}
 use Rattle.numbers.proofs.Offset.{order, sub-eq, sub-pos, sub-neg, neg-sub, word, word-fits}
 use Rattle.state.specs.declared.Meter.{Meter}
 use Rattle.state.specs.State.{MeterWF}
 use Rattle.state.specs.declared.Common.{Common}
 use Rattle.registers.specs.Registers.{upperOf, lowerOf, wordOf, tempRegister, registersOf}
+use Rattle.registers.specs.Meaning.{registerAt, RegistersMean}
 
 -- two's complement: the register of a number kept as z + 2^15 is z
 pub signed-word : (x : ℕ) → x < 2 ^ 16 → signed 15 (wordOf x) ≡ value 15 x
@@ -41,10 +42,6 @@ signed-temp m h =
 
 -- ---- in the bytes that a read finds
 
--- a two-byte register, high byte first
-abbrev pub registerAt : Common → Meter → ℕ → ℕ
-registerAt k m at = joinedOf (getD (registersOf k m) at 0) (getD (registersOf k m) (at + 1) 0)
-
 joined-back : (x : ℕ) → joinedOf (upperOf x) (lowerOf x) ≡ x
 joined-back x = div-add-mod' x 256
 
@@ -64,3 +61,11 @@ module _ (k : Common) (m : Meter) where
   pub current-shown : m .flow .trace .last < 2 ^ 16 → signed 15 (registerAt k m 0x0e) ≡ value 15 (m .flow .trace .last)
   unfolding registersOf
   current-shown h = ap (signed 15) (joined-back (wordOf (m .flow .trace .last))) ∙ signed-word (m .flow .trace .last) h
+
+pub registers-mean : RegistersMean
+registers-mean = record {
+  many = registers-length;
+  iavg = average-shown;
+  temp = temp-shown;
+  current = current-shown;
+}

@@ -35,7 +35,7 @@ inputOf [] = []
 inputOf (read ∷ reads) = read ++ inputOf reads
 
 pub record Divided : Type 0 where
-  -- over any division of the input into reads, the records are those of the whole
+  -- however the input is divided into reads, the records that are answered, at the end of input too, are those of the whole
   pub records : (most : ℕ) (reads : List (List ℕ)) → answeredIn most [] reads ≡ recsOf (inputOf reads)
   -- and each read has all whole records answered that it completes, where it has at most four bytes for each of them
   pub completed : (most : ℕ) (left read : List ℕ) → wholeOf left ≡ false → length read ≤ 4 * most → wholeOf (leftOver most (left ++ read)) ≡ false

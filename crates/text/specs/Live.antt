@@ -54,7 +54,7 @@ module _ {S : Type 0} (did : S → ℕ → Rec → Did S) where
   ReadsWithin most [] = Unit
   ReadsWithin most (read ∷ reads) = (length read ≤ 4 * most) × ReadsWithin most reads
 
-  -- over any division of the input into such reads, what is printed behind the header is the text of one run over the whole input, and the state at the
+  -- however the input is divided into such reads, what is printed behind the header is the text of one run over the whole input, and the state at the
   -- end is that of this run
   pub record ReadByRead : Type 0 where
     pub text : (most : ℕ) (σ : S) (reads : List (List ℕ)) → ReadsWithin most reads →

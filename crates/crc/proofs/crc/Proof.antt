@@ -26,7 +26,7 @@ shared-slice-read-next : tie.Need-shared-slice-read-next Inv-loop μ-loop
 shared-slice-read-next c = search needs
 
 next-requires : tie.Need-next-requires Inv-loop μ-loop
-next-requires c κs = c .before .before .before .before .whole-table .ensures
+next-requires c κs = c .before .before .before .before .whole-table .ensures .0
 
 add-i : tie.Need-add-i Inv-loop μ-loop
 add-i c = search needs

@@ -1,5 +1,5 @@
 -- `crc::whole_table` meets its contract: one test that antt computes over all entries of the constant.
-use mathlib.Core.Path.{_≡_}
+use mathlib.Core.Path.{_≡_, refl}
 use mathlib.Core.Bool.{Bool}
 use mathlib.Core.List.{List}
 use Prim.Native.Nat.{ℕ, _<_}
@@ -21,7 +21,7 @@ rule table k passed h = eqb→eq (getD table k 0) (eightOf k) (at right table pa
 -- `rw` finds the table in the goal, where the constant stands; that it passes is computed
 returns : tie.Need-returns
 unfolding bitOf eightOf
-returns c k h = let passed : Unit {0} = tt in rw rule
+returns c = (λ k h. let passed : Unit {0} = tt in rw rule, refl)
 
 pub whole-table-spec : {M : Type 1} → statement M
 whole-table-spec = tie.close (tie.spec returns)
