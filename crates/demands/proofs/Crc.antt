@@ -14,6 +14,7 @@ looked-up entries ruled c b low less = ruled (bitXor c b) (xor-lt 8 c b low less
 
 pub crc-rule : CrcRule
 crc-rule = record {
+  table = record { tells = λ κs a r w h. h; told = λ κs a r w h. h };
   steps = looked-up;
   crc = record { tells = λ κs a r w h. h; told = λ κs a r w h. h };
   worked = worked;

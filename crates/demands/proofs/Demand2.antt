@@ -11,6 +11,7 @@ use borrow.Author.Tests.{le-leb, le-ltb, lt-ltb}
 use Rattle.state.specs.declared.Profile.{Profile}
 use Rattle.state.specs.State.{imageSizeOf}
 use Rattle.demands.specs.Images.{imageKind, profileOf}
+use Rattle.demands.specs.Programming.{JudgedAsRecord}
 use Rattle.demands.proofs.Images.{session-image}
 use Rattle.numbers.specs.Choice.{pick}
 use Rattle.gauge.specs.declared.Gauge.{Gauge}
@@ -22,7 +23,7 @@ use Rattle.gauge.proofs.Reached.{reached-sized, out-judged, out-in}
 use Rattle.record.specs.declared.Event.the-variants.{Image}
 use Rattle.record.specs.declared.Refusal.the-variants.{Breaks}
 use Rattle.record.specs.declared.Taken.the-variants.{Run, Refused}
-use Rattle.record.specs.Record.{kindOf, orderedOf, judgedAmong, judgedBy, takenOf}
+use Rattle.record.specs.Record.{kindOf, orderedOf, judgedAmong, takenOf}
 use Rattle.runs.specs.Record.{Rec, whole, recsOf, recordOf}
 use Rattle.runs.specs.Run.{Did, Line, silently, endAfter}
 use Rattle.runs.specs.declared.Session.{Session}
@@ -66,7 +67,7 @@ never-both : {kind : ℕ} {ls : List Line} → ls ≡ record { kind = kind; answ
 never-both a b = let z : _≡_ {A = ℕ} 10 0 = ap (λ (ls : List Line). getD (map (λ l. l .answer) ls) 0 0) (sym a ∙ b) in omega arith
 
 -- what an image record gets is what the judge says, of any size
-pub taken-image : (f : Profile) (p : List ℕ) → takenOf (imageKind f) false p ≡ judgedBy f p
+pub taken-image : JudgedAsRecord
 unfolding takenOf judgedAmong
 taken-image f p = rw (session-image f) (pick-twice (eqb (length p) (imageSizeOf f)) _ _)
 

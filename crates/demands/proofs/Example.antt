@@ -1,10 +1,11 @@
 -- The hypotheses of the demands can be met.
-use mathlib.Core.Path.{_≡_, refl, ap}
-use mathlib.Core.Bool.{true}
+use mathlib.Core.Path.{_≡_, refl, sym, ap, _∙_}
+use mathlib.Core.Bool.{Bool, true}
 use mathlib.Core.List.{List, [], _∷_, _++_}
 use Prim.Native.Nat.{ℕ, _+_, _≤_}
 use native.Mathlib.Omega.{arith}
 use lib.ListN.{length, getD, take, replicate, length-take}
+use Rattle.numbers.specs.Choice.{pick}
 use Rattle.state.specs.declared.Profile.{Profile}
 use Rattle.state.specs.declared.Profile.the-variants.{Ds2781, Ds2775}
 use Rattle.demands.specs.Images.{imageKind, profileOf}
@@ -32,13 +33,13 @@ use Rattle.runs.specs.declared.Session.{Session}
 use Rattle.runs.specs.SessionRecord.{didOf}
 use Rattle.session_run.specs.SessionRun.{emptyOf, sessionOf, takeOutNumber, takeOutRoom}
 use Rattle.demands.specs.Call.{Call, Within}
-use Rattle.demands.specs.Demand2.{Fresh, eepromBreaks, Crossed, AnswersImage, Carried, PowersOn}
+use Rattle.demands.specs.Demand2.{Fresh, eepromBreaks, Crossed, Carried, PowersOn, Demand2Met}
 use Rattle.demands.specs.Sections.{last, more}
 use Rattle.demands.specs.Class.{blockOf, touchedOf, labelsOf, touchedClass, sessionAsked}
 use Rattle.demands.specs.Demand3.{asksAll, Starts, Demand3Met}
 use Rattle.demands.specs.Programming.{Bench, BenchMet}
+use Rattle.demands.specs.Printed.{PrintedLines}
 use Rattle.demands.proofs.Called.{packed, called, called-within}
-use Rattle.demands.proofs.Demand2.{demand-2}
 
 -- An image can be taken out of the state that is left, and given to a fresh gauge
 module _ (d : Call Session) (w : Within didOf emptyOf d) (loaded : d .ran .state .loaded ≡ true) (room : List ℕ)
@@ -69,7 +70,7 @@ module _ (d : Call Session) (w : Within didOf emptyOf d) (loaded : d .ran .state
 abbrev line : ℕ → ℕ → List ℕ → Line
 line kind answer reply = record { kind = kind; answer = answer; reply = reply }
 
-pub printed : sessionOf (0 ∷ 0 ∷ 5 ∷ 0 ∷ 0 ∷ 0 ∷ 0x63 ∷ 0 ∷ 1 ∷ []) 65536 ≡ line 5 5 [] ∷ line 0x63 3 [] ∷ line 0 2 [] ∷ []
+pub printed : PrintedLines
 unfolding sessionOf recOf sizeOf wholeOf didOf takenOf kindOf
 printed = refl
 
@@ -217,10 +218,26 @@ unfolding recOf sizeOf wholeOf didOf takenOf kindOf judgedAmong addressedOf orde
     blockCopiedOf replyOf inLabel inBlock
 crosses = (refl, refl)
 
-pub image-declined : (room : List ℕ) (answer : ℕ) (after : List ℕ) (e : Call Session) → Carried (call crossing) room answer after →
-    Fresh (profileOf (call crossing .ran .state .gauge)) after e
-    → AnswersImage (profileOf (call crossing .ran .state .gauge)) e 10
-image-declined room answer after e k f = demand-2 .images _ room answer after k .1 e f .declined (crosses .1) .refused
+-- THE HYPOTHESES OF DEMAND 2 CAN BE MET
+pub demand-2-met : Demand2Met
+demand-2-met = record {
+  carries = λ d w loaded room fits. record {
+    answer = takeOutNumber (d .ran .state) room;
+    after = takeOutRoom (d .ran .state) room;
+    fresh = fresh d w loaded room fits;
+    carried = called-carried d w loaded room fits .0;
+    given = called-carried d w loaded room fits .1;
+  };
+  powered = record {
+    call = call ones;
+    run = call-within Ds2781 ones (omega arith);
+    loaded = loads;
+    ordered = λ e. let z : _≡_ {A = ℕ} 0 1 = ap (λ (b : Bool). pick b 1 0) (sym e ∙ in-order) in omega arith;
+    left = longer .ran .state .gauge;
+    powered = powers-on;
+  };
+  crossed = record { call = call crossing; run = call-within Ds2781 crossing (omega arith); loaded = crosses .0; crossed = crosses .1 };
+}
 
 -- A session that is written at the bench
 

@@ -51,6 +51,10 @@ pub mod OffsetExample
 pub mod HundredExample
 pub mod Mending
 pub mod HexExample
+pub mod TakeOut
+pub mod Bus
+pub mod Words
+pub mod Cycles
 pub mod Functions
 pub mod NoSlack
 pub mod Crc

@@ -1,5 +1,9 @@
 -- All theorems, as one value.
 use mathlib.Core.Path.{sym, _∙_}
+use Rattle.conversion.proofs.Meaning.{conversion-means}
+use Rattle.registers.proofs.Meaning.{registers-mean}
+use Rattle.record.proofs.Meaning.{record-means}
+use Rattle.reading.proofs.Meaning.{reading-means}
 use Rattle.reading.proofs.Figures.{figures-hold}
 use Rattle.block1.proofs.OffsetConversion.{offset-figures-hold, offset-rules}
 use Rattle.reading.proofs.Product.{product-lines}
@@ -7,6 +11,7 @@ use Rattle.reading.proofs.Hundred.{hundred-holds}
 use Rattle.gauge.proofs.Profiles.{only-two}
 use Rattle.gauge.proofs.ImageAging.{pack-aging}
 use Rattle.gauge.proofs.ImageProfiles.{images-share}
+use Rattle.gauge.proofs.ImageOffset.{offset-uncarried}
 use Rattle.runs.specs.SessionRecord.{didOf}
 use Rattle.runs.proofs.Divided.{divided}
 use Rattle.session_run.specs.SessionRun.{emptyOf}
@@ -14,21 +19,26 @@ use Rattle.tray_record.specs.Tray.{emptyTray, trayDid}
 use Rattle.mending.proofs.Worth as worth
 use Rattle.hex.proofs.RoundTrip as hex
 use Rattle.demands.specs.Engines.{EnginesEqual}
-use Rattle.demands.specs.Theorems.{OfSessions, OfTrays, OfGauges, OfBench, OfBooks, OfSteps, Theorems}
+use Rattle.demands.specs.Theorems.{OfSessions, OfSigned, OfTrays, OfGauges, OfBench, OfBooks, OfSteps, Theorems}
 use Rattle.demands.proofs.Functions.{contracts}
 use Rattle.demands.proofs.NoSlack.{no-slack}
 use Rattle.demands.proofs.Crc.{crc-rule}
 use Rattle.demands.proofs.Cases.{classes-hold}
 use Rattle.demands.proofs.Called.{within-or-over, runs-exist}
+use Rattle.demands.proofs.TakeOut.{out-answers}
+use Rattle.demands.proofs.Bus.{bus-rules}
+use Rattle.demands.proofs.Words.{words-mean}
+use Rattle.demands.proofs.Cycles.{cycle-rules}
 use Rattle.demands.proofs.Demand1.{demand-1, tray-demand-1}
 use Rattle.demands.proofs.Numbers.{each-number-holds}
-use Rattle.demands.proofs.Demand2.{demand-2, tray-demand-2}
+use Rattle.demands.proofs.Demand2.{taken-image, demand-2, tray-demand-2}
 use Rattle.demands.proofs.Demand3.{demand-3}
 use Rattle.demands.proofs.TrayDemand3.{tray-demand-3}
-use Rattle.demands.proofs.Example.{demand-3-met, bench-example}
 use Rattle.demands.proofs.ReadBackExample.{read-back-met}
+use Rattle.demands.proofs.Example.{printed, demand-2-met, demand-3-met, bench-example}
 use Rattle.demands.proofs.WholeTrays.{whole-tray-demand-3}
 use Rattle.demands.proofs.EveryOpening.{every-tray-opens}
+use Rattle.demands.proofs.TrayExample.{slot-carried-met, alone-met}
 use Rattle.demands.proofs.TrayExample.{tray-demand-3-met, whole-tray-demand-3-met, whole-tray-refused-met, isolation-met, single-met}
 use Rattle.demands.proofs.Alone.{alone}
 use Rattle.demands.proofs.Slots.{slots-as-old}
@@ -57,12 +67,19 @@ sessions = record {
   numbers = each-number-holds;
   demand-2 = demand-2;
   read-back-met = read-back-met;
+  demand-2-met = demand-2-met;
+  out = out-answers;
+  printed = printed;
   demand-3 = demand-3;
   demand-3-met = demand-3-met;
   classes = classes-hold;
+  bus = bus-rules;
   crc = crc-rule;
   figures = figures-hold;
 }
+
+in-signed-numbers : OfSigned
+in-signed-numbers = record { conversion = conversion-means; reading = reading-means; records = record-means; registers = registers-mean; words = words-mean }
 
 trays : OfTrays
 trays = record {
@@ -70,6 +87,7 @@ trays = record {
   exist = runs-exist trayDid emptyTray;
   demand-1 = tray-demand-1;
   demand-2 = tray-demand-2;
+  demand-2-met = slot-carried-met;
   demand-3 = tray-demand-3;
   demand-3-met = tray-demand-3-met;
   whole-demand-3 = whole-tray-demand-3;
@@ -81,6 +99,7 @@ trays = record {
   single = single-as-plain;
   single-met = single-met;
   alone = alone;
+  alone-met = alone-met;
   isolation = isolation;
   throughout = isolated-throughout;
   isolation-met = isolation-met;
@@ -98,10 +117,12 @@ gauges = record {
   engines = both-engines;
   slow = slow;
   offset = offset-rules;
+  offset-images = offset-uncarried;
   offset-figures = offset-figures-hold;
   longer = longer;
   longer-met = longer-met;
   profiles = only-two;
+  cycles = cycle-rules;
   images = images-share;
   aging = pack-aging;
   own-as = own-as-holds;
@@ -109,6 +130,7 @@ gauges = record {
 
 at-bench : OfBench
 at-bench = record {
+  judged = taken-image;
   programmed = bench;
   programmed-done = bench-done;
   programmed-met = bench-example;
@@ -150,6 +172,7 @@ theorems = record {
   contracts = contracts;
   no-slack = no-slack;
   sessions = sessions;
+  signed = in-signed-numbers;
   trays = trays;
   gauges = gauges;
   bench = at-bench;

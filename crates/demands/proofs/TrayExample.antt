@@ -37,7 +37,8 @@ use Rattle.tray_run.specs.TrayRun.{trayLines, slotOutNumber, slotOutRoom}
 use Rattle.demands.specs.Call.{Call, Within, linesIn, firstOf, Stopped}
 use Rattle.demands.specs.Sections.{last, more}
 use Rattle.demands.specs.Class.{blockOf, touchedOf, labelsOf, touchedClass}
-use Rattle.demands.specs.Demand2.{SlotCarried, SlotPowersOn}
+use Rattle.demands.specs.Alone.{slotted, AloneMet}
+use Rattle.demands.specs.Demand2.{SlotCarried, SlotPowersOn, SlotCarriedMet}
 use Rattle.demands.specs.Demand3.{imageRecords, TrayDemand3Met, WholeTrayDemand3Met, WholeTrayRefusedMet}
 use Rattle.demands.specs.Single.{inTray, SingleMet}
 use Rattle.demands.specs.Isolation.{none, held, here, there, images, IsolationMet}
@@ -286,6 +287,18 @@ pub slot-powers-on : SlotPowersOn 1 (call longer) (packOf (call slot-on .ran .st
 unfolding recOf sizeOf wholeOf
 slot-powers-on = record { longer = call slot-on; run = call-within slot-on (omega arith); room = refl; last = refl; leaves = refl }
 
+pub slot-carried-met : SlotCarriedMet
+slot-carried-met = record {
+  call = call longer;
+  slot = 1;
+  room = slotRoom;
+  answer = slotOutNumber (call longer .ran .state) 1 slotRoom;
+  after = slotOutRoom (call longer .ran .state) 1 slotRoom;
+  carried = slot-carried;
+  left = packOf (call slot-on .ran .state) 1;
+  powered = slot-powers-on;
+}
+
 -- A slot's event changes its own pack, and a transaction that every pack hears leaves both with the same label
 
 abbrev two-packs : Tray
@@ -300,6 +313,30 @@ pub skip-changes : packOf (trayDid two-packs 0 writing .state) 0 .label .shadow 
 unfolding recOf sizeOf wholeOf trayDid trayKindOf searchOf judgedAmong addressedOf orderedOf crc.bitOf crc.eightOf crc.nextOf imageOf
     askedOf askedAt romBy commandOf actOf selectedOf ranOf writtenOf labelWrittenOf laidOf inLabel
 skip-changes = refl
+
+first-hears : packOf (trayDid two-packs 0 writing .state) 0 ≡ packOf two-packs 0 → ⊥
+unfolding recOf sizeOf wholeOf trayDid trayKindOf searchOf judgedAmong addressedOf orderedOf crc.bitOf crc.eightOf crc.nextOf imageOf
+    askedOf askedAt romBy commandOf actOf selectedOf ranOf writtenOf labelWrittenOf laidOf inLabel
+first-hears e = let z : _≡_ {A = ℕ} 0x5a 0x3c = ap (λ (g : Gauge). getD (g .label .shadow) 0 0) e in omega arith
+
+second-hears : packOf (trayDid two-packs 0 writing .state) 1 ≡ packOf two-packs 1 → ⊥
+unfolding recOf sizeOf wholeOf trayDid trayKindOf searchOf judgedAmong addressedOf orderedOf crc.bitOf crc.eightOf crc.nextOf imageOf
+    askedOf askedAt romBy commandOf actOf selectedOf ranOf writtenOf labelWrittenOf laidOf inLabel
+second-hears e = let z : _≡_ {A = ℕ} 0x5a 0 = ap (λ (g : Gauge). getD (g .label .shadow) 0 0) e in omega arith
+
+pub alone-met : AloneMet
+alone-met = record {
+  tray = two-packs;
+  room = 0;
+  event = converting 1;
+  slot = 1;
+  goes = slotted refl refl;
+  changes = own-changes;
+  skip = writing;
+  first-hears = first-hears;
+  second-hears = second-hears;
+  same-label = skip-changes;
+}
 
 -- what the first of the two sessions that are mixed differently prints: the label of slot 0 is 3C 3C after its power-on and that of slot 1 5A A5, and
 -- the reply 18 24, the AND of both and neither of them

@@ -4,14 +4,15 @@ use mathlib.Core.List.{List, [], _∷_, _++_}
 use Prim.Native.Nat.{ℕ, _<_}
 use denote.Ref.{now}
 use lib.Bits.{bitXor}
-use lib.ListN.{getD}
+use lib.ListN.{length, getD}
 use Rattle.crc.specs.Crc.{nextOf, crcOf, Ruled}
+use Rattle.crc.proofs.whole_table as tabler
 use Rattle.crc.proofs.crc as checker
 use Rattle.demands.specs.Contracts.{ContractIs}
 
--- The table is a constant within `crc`, and no other crate can name it: the contract of `crc::whole_table`, which hands it back, is `Ruled`, of each of its
--- 256 entries.
 pub record CrcRule : Type 0 where
+  -- the table, which `crc::whole_table` hands out and `crc::crc` looks into: 256 entries, each of them the rule's
+  pub table : ContractIs tabler.ended tabler.Reads.Learnt (λ κs a r w. Ruled r × (length r ≡ 256))
   -- one look into a table that follows the rule is eight steps of the rule
   pub steps : (entries : List ℕ) → Ruled entries → (c b : ℕ) → c < 256 → b < 256 → getD entries (bitXor c b) 0 ≡ nextOf c b
   -- `crc::crc`, of a message of any length

@@ -157,3 +157,47 @@ pub record ReadBackMet (f : Profile) : Type 0 where
   pub powered : PowersOn session there
   pub same : fresh .ran .state ≡ loadedWith there
   pub another : there ≡ session .ran .state .gauge → ⊥
+-- ---- and they speak of something
+
+-- an image that is taken out of what a run left, and a fresh gauge that it is given to
+pub record CarriedTo (d : Call Session) (room : List ℕ) : Type 0 where
+  pub answer : ℕ
+  pub after : List ℕ
+  pub fresh : Call Session
+  pub carried : Carried d room answer after
+  pub given : Fresh (profileOf (d .ran .state .gauge)) after fresh
+
+-- a run that accepted an image, and the same with a power-on at its end
+pub record PoweredMet : Type 0 where
+  pub call : Call Session
+  pub run : Within didOf emptyOf call
+  pub loaded : call .ran .state .loaded ≡ true
+  pub ordered : Crossed (call .ran .state .gauge) → ⊥
+  pub left : Gauge
+  pub powered : PowersOn call left
+
+-- a run that leaves crossed breakpoints in the EEPROM
+pub record CrossedMet : Type 0 where
+  pub call : Call Session
+  pub run : Within didOf emptyOf call
+  pub loaded : call .ran .state .loaded ≡ true
+  pub crossed : Crossed (call .ran .state .gauge)
+
+pub record Demand2Met : Type 0 where
+  -- every run that accepted an image, and every room that is large enough
+  pub carries : (d : Call Session) → Within didOf emptyOf d → d .ran .state .loaded ≡ true → (room : List ℕ)
+      → sizeFor (d .ran .state .gauge) ≤ length room → CarriedTo d room
+  -- breakpoints in order, where a power-on may follow; and crossed, "after such a write and a copy"
+  pub powered : PoweredMet
+  pub crossed : CrossedMet
+
+-- a slot that has a pack, and the same run with a power-on of it at its end
+pub record SlotCarriedMet : Type 0 where
+  pub call : Call Tray
+  pub slot : ℕ
+  pub room : List ℕ
+  pub answer : ℕ
+  pub after : List ℕ
+  pub carried : SlotCarried call slot room answer after
+  pub left : Gauge
+  pub powered : SlotPowersOn slot call left

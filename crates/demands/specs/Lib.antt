@@ -21,6 +21,11 @@ pub mod Hundred
 pub mod Programming
 pub mod Slow
 pub mod Mending
+pub mod TakeOut
+pub mod Bus
+pub mod Words
+pub mod Cycles
+pub mod Printed
 pub mod Contracts
 pub mod NoSlack
 pub mod Crc

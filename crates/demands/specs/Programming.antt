@@ -2,19 +2,21 @@
 --
 -- "Run through the gauge it ends with exactly those EEPROM bytes in block 1, and block 0, saved cells and locks unchanged."
 --
--- Stated of any two calls that their contracts allow: one of `preset_session::write`, which writes a session, and one of `session_run::run`, which runs
--- what was written, with any reply room.
+-- Stated of any two calls that their contracts allow: one of `preset_session::write_session`, which writes a session, and one of
+-- `session_run::run`, which runs what was written, with any reply room and at least 30 answers lent.
 use mathlib.Core.Path.{_≡_}
 use mathlib.Core.Bool.{false}
 use mathlib.Core.List.{List, [], _∷_}
 use Prim.Native.Nat.{ℕ, _≤_, _<_}
 use lib.ListN.{length, take}
+use Rattle.state.specs.declared.Profile.{Profile}
 use Rattle.state.specs.declared.Profile.the-variants.{Ds2781}
 use Rattle.gauge.specs.declared.Gauge.{Gauge}
 use Rattle.gauge.specs.Gauge.{withMeter}
 use Rattle.block1.specs.Block1.{reblockedOf}
 use Rattle.gauge.specs.Image.{imageOf}
 use Rattle.record.specs.Image.{imageAddress, imageLabel, imageBlock, imageAcr, imageAging, imageBl0, imageBl1}
+use Rattle.record.specs.Record.{judgedBy, takenOf}
 use Rattle.preset_session.specs.declared.Written.{Written}
 use Rattle.preset_session.specs.declared.Written.the-variants.{Done}
 use Rattle.preset_session.specs.PresetSession.{programmingSize, writtenNumber, Granted, Programming}
@@ -23,6 +25,11 @@ use Rattle.runs.specs.declared.Session.{Session}
 use Rattle.runs.specs.SessionRecord.{didOf, loadedWith}
 use Rattle.session_run.specs.SessionRun.{emptyOf}
 use Rattle.demands.specs.Call.{Call, Allowed, linesIn, Told}
+use Rattle.demands.specs.Images.{imageKind}
+
+-- "Refusals: first what an image record would get": an image is judged, here and in [9] and [10], as a record of its kind is in a session without one
+abbrev pub JudgedAsRecord : Type 0
+JudgedAsRecord = (profile : Profile) (image : List ℕ) → takenOf (imageKind profile) false image ≡ judgedBy profile image
 
 -- what `write_session` says of an image, wanted bytes and a room, and what the room then holds. Its first 120 bytes are the session of c, with answers lent
 -- for as many records as they may hold

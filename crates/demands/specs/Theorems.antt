@@ -6,6 +6,10 @@ use mathlib.Core.Path.{_≡_}
 use Prim.Native.Nat.{ℕ}
 use Rattle.params.specs.declared.Curves.{Curves}
 use Rattle.state.specs.declared.Profile.{Profile}
+use Rattle.conversion.specs.Meaning.{ConversionMeans}
+use Rattle.registers.specs.Meaning.{RegistersMean}
+use Rattle.record.specs.Meaning.{RecordMeans}
+use Rattle.reading.specs.Meaning.{ReadingMeans}
 use Rattle.reading.specs.Reading.{modelLines}
 use Rattle.reading.specs.Product.{productOf}
 use Rattle.reading.specs.Hundred.{Hundred}
@@ -14,6 +18,7 @@ use Rattle.block1.specs.OffsetConversion.{offsetFigures, OffsetRules}
 use Rattle.gauge.specs.Profiles.{OnlyTwo}
 use Rattle.gauge.specs.ImageAging.{PackAging}
 use Rattle.gauge.specs.ImageProfiles.{ImagesShare}
+use Rattle.gauge.specs.ImageOffset.{OffsetUncarried}
 use Rattle.runs.specs.Record.{Rec}
 use Rattle.runs.specs.Run.{Did}
 use Rattle.runs.specs.Divided.{Divided}
@@ -29,22 +34,26 @@ use Rattle.demands.specs.Crc.{CrcRule}
 use Rattle.demands.specs.Engines.{EnginesEqual}
 use Rattle.demands.specs.Cases.{ClassesHold}
 use Rattle.demands.specs.Call.{WithinOrOver, RunsExist}
+use Rattle.demands.specs.TakeOut.{OutAnswers}
+use Rattle.demands.specs.Bus.{BusRules}
+use Rattle.demands.specs.Words.{WordsMean}
+use Rattle.demands.specs.Cycles.{CycleRules}
+use Rattle.demands.specs.Printed.{PrintedLines}
 use Rattle.demands.specs.Demand1.{sessionMost, trayMost, Demand1}
-use Rattle.demands.specs.Demand2.{Demand2, TrayDemand2}
-use Rattle.demands.specs.Demand2.{ReadBackMet}
+use Rattle.demands.specs.Demand2.{Demand2, Demand2Met, ReadBackMet, TrayDemand2, SlotCarriedMet}
 use Rattle.demands.specs.Numbers.{EachNumber}
 use Rattle.demands.specs.Demand3.{Demand3, Demand3Met, TrayDemand3, TrayDemand3Met, WholeTrayDemand3, WholeTrayDemand3Met}
 use Rattle.demands.specs.Demand3.{WholeTrayRefusedMet, EveryTrayOpens}
 use Rattle.demands.specs.Slots.{SlotsAsOld, TransactionsAsPlain}
 use Rattle.demands.specs.Single.{SingleAsPlain, SingleMet}
-use Rattle.demands.specs.Alone.{Alone}
+use Rattle.demands.specs.Alone.{Alone, AloneMet}
 use Rattle.demands.specs.Isolation.{Isolation, IsolationThroughout, IsolationMet}
 use Rattle.demands.specs.Longer.{Longer, LongerMet}
 use Rattle.demands.specs.Slow.{Slow}
 use Rattle.demands.specs.Hundred.{FullPack, HundredMet}
 use Rattle.demands.specs.Aging.{OwnAs}
 use Rattle.demands.specs.Saved.{SavedCells}
-use Rattle.demands.specs.Programming.{BenchTheorem, DoneTheorem, BenchMet}
+use Rattle.demands.specs.Programming.{JudgedAsRecord, BenchTheorem, DoneTheorem, BenchMet}
 use Rattle.demands.specs.Mending.{MendedTheorem, MendingMet}
 use Rattle.demands.specs.RoundTrip.{RoundTripMet}
 use Rattle.demands.specs.History.{Pack, ofGauge, ofSlot, HistoryHolds}
@@ -68,6 +77,11 @@ pub record OfSessions : Type 0 where
   pub demand-2 : Demand2
   -- .. and there is such a moment, of each profile
   pub read-back-met : (f : Profile) → ReadBackMet f
+  pub demand-2-met : Demand2Met
+  -- "Before an image was accepted the answer is 5, then 9 for a room under 60; nothing is written."; of trays too
+  pub out : OutAnswers
+  -- "Input bytes `00 00 05 00 00 00 63 00 01` print exactly: .."
+  pub printed : PrintedLines
   -- "Labels and gauging keep apart. Two sessions with the same accepted image first, room for all they ask and the same fences in the same order, which
   -- between neighbouring fences and after the last hold the same label events in the same order and the same gauge events in the same order, mixed
   -- differently: each event gets the same answer and reply bytes in both, those that demand 2 gives, and both end in the same state." And there are such
@@ -75,10 +89,26 @@ pub record OfSessions : Type 0 where
   pub demand-3 : Demand3
   pub demand-3-met : (f : Profile) → Demand3Met f
   pub classes : ClassesHold
+  -- "55h with the 8 own address bytes selects"; what a transaction, a lock and a power-on cannot change
+  pub bus : BusRules
   -- "It uses a table of 256 entries, each checked against the bitwise rule."
   pub crc : CrcRule
   -- "Marked (*) are proved of the definitions, as one table under one statement."
   pub figures : Hold figures
+
+-- ---- document 01, in signed numbers: what is kept with an offset is what the paper says
+
+pub record OfSigned : Type 0 where
+  -- "c = raw + COB (7Bh, signed), clamped to -32,768..32,767. .." and all steps of a conversion that work on signed numbers
+  pub conversion : ConversionMeans
+  -- "temperature to -1,024..1,023 eighths of a degree. .." and all steps of a reading that do
+  pub reading : ReadingMeans
+  -- "each a signed 32-bit count"; [3]: "TBP12 ≤ TBP23 ≤ TBP34 ≤ 40 as signed bytes"
+  pub records : RecordMeans
+  -- IAVG, TEMP and CURRENT as they are read
+  pub registers : RegistersMean
+  -- "rounded down", "rounded up", "clamped to", and how bytes lie
+  pub words : WordsMean
 
 -- ---- document 02, a tray: request [8]
 
@@ -88,6 +118,7 @@ pub record OfTrays : Type 0 where
   -- the three demands, of "the tray's whole state"
   pub demand-1 : Demand1 trayMost trayDid emptyTray
   pub demand-2 : TrayDemand2
+  pub demand-2-met : SlotCarriedMet
   pub demand-3 : TrayDemand3
   pub demand-3-met : TrayDemand3Met
   -- the third of whole sessions, in the paper's words; and every tray session has an opening
@@ -104,6 +135,7 @@ pub record OfTrays : Type 0 where
   pub single-met : SingleMet
   -- "A slot's event, or a matched transaction, changes no other pack."
   pub alone : Alone
+  pub alone-met : AloneMet
   -- "Change one pack's image and slot events at will, its address and the acceptance of each record kept: replies to transactions matched to the
   -- others, and the others' states, stay the same."
   pub isolation : Isolation
@@ -129,12 +161,16 @@ pub record OfGauges : Type 0 where
   -- [7]: "On the 1024th, the previous c is shown, averaged and counted; the raw value is ignored. The first conversion after an ACR write, by bus only,
   -- shows and averages its c but adds nothing to the count, AB included. .. power-on clears both"
   pub offset : OffsetRules
+  -- "The image carries neither"
+  pub offset-images : OffsetUncarried
   pub offset-figures : Hold offsetFigures
   -- [11]: ".. a transaction allowed in both forms gives one answer"
   pub longer : Longer
   pub longer-met : LongerMet
   -- [12]: "Only two things differ from 01 here .. negative blanking takes in 25 µV itself, so -16 counts as 0; and a cycle counter"
   pub profiles : OnlyTwo
+  -- [12]: "one for each twice Full40 that ACR has fallen, counted as ageing counts it, as many steps as fit, the rest carried"
+  pub cycles : CycleRules
   -- [12]: "Image kind 8, its family code .. as in 000's full sheet, picks the profile for that pack. .. What both profiles share is proved once."
   pub images : ImagesShare
   -- [13]: "A write at 14h is from now on dropped ..; later results follow the gauge's own AS. Saved AS is honoured at power-on as before."
@@ -144,6 +180,8 @@ pub record OfGauges : Type 0 where
 -- ---- document 02, at the bench: requests [2], [9] and [10]
 
 pub record OfBench : Type 0 where
+  -- "first what an image record would get (4, 6, 7, later 10)"
+  pub judged : JudgedAsRecord
   -- "Run through the gauge it ends with exactly those EEPROM bytes in block 1, and block 0, saved cells and locks unchanged."
   pub programmed : BenchTheorem
   pub programmed-done : DoneTheorem
@@ -208,6 +246,7 @@ pub record Theorems : Type 0 where
   -- "that any two results it allows are equal is proved"
   pub no-slack : NoSlack
   pub sessions : OfSessions
+  pub signed : OfSigned
   pub trays : OfTrays
   pub gauges : OfGauges
   pub bench : OfBench
