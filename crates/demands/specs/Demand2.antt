@@ -157,6 +157,7 @@ pub record ReadBackMet (f : Profile) : Type 0 where
   pub powered : PowersOn session there
   pub same : fresh .ran .state ≡ loadedWith there
   pub another : there ≡ session .ran .state .gauge → ⊥
+
 -- ---- and they speak of something
 
 -- an image that is taken out of what a run left, and a fresh gauge that it is given to
