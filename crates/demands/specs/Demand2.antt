@@ -158,7 +158,7 @@ pub record ReadBackMet (f : Profile) : Type 0 where
   pub same : fresh .ran .state ≡ loadedWith there
   pub another : there ≡ session .ran .state .gauge → ⊥
 
--- ---- and they speak of something
+-- ---- every run that accepted an image can be carried on; there are some with breakpoints in order, and crossed
 
 -- an image that is taken out of what a run left, and a fresh gauge that it is given to
 pub record CarriedTo (d : Call Session) (room : List ℕ) : Type 0 where
