@@ -10,7 +10,6 @@ use lib.ListN.{length, getD, replicate, length-replicate}
 use Rattle.numbers.specs.Choice.{pick}
 use Rattle.slices.specs.Slices.{put}
 use Rattle.slices.proofs.Laws.{put-whole}
-use Rattle.gauge.specs.declared.Gauge.{Gauge}
 use Rattle.gauge.specs.Gauge.{Sized, Uncounted}
 use Rattle.gauge.proofs.Reached.{image-sized, image-uncounted}
 use Rattle.runs.specs.declared.Session.{Session}
@@ -20,12 +19,11 @@ use Rattle.tray_record.specs.Tray.{TrayWF, noGauge, emptyTray, packOf}
 use Rattle.state_bytes.specs.declared.StateIn.{StateIn}
 use Rattle.state_bytes.specs.declared.StateStep.{StateStep}
 use Rattle.state_bytes.specs.declared.TrayStateIn.{TrayStateIn}
-use Rattle.state_bytes.specs.State.{stateSize, stateBytes, stateIn, StateOut, StateStepped}
-use Rattle.state_bytes.specs.TrayState.{trayStateSize, trayStateBytes, trayStateIn, TrayStateOut, TrayStateStepped}
+use Rattle.state_bytes.specs.State.{stateSize, stateBytes, StateOut, StateStepped}
+use Rattle.state_bytes.specs.TrayState.{trayStateSize, trayStateBytes, TrayStateOut, TrayStateStepped}
 use Rattle.state_bytes.specs.Theorems.{TrayStateWF}
 use Rattle.state_bytes.proofs.Undoing.{state-length, undoing}
 use Rattle.state_bytes.proofs.TrayUndoing.{tray-state-length, tray-undoing}
-use Rattle.library.specs.declared.LibraryResult.{LibraryResult}
 use Rattle.library.specs.Library.{KeptAs, keptPack, keptTray, Started, isState, doing, RecordDone, ImageTaken}
 
 -- ---- of any state

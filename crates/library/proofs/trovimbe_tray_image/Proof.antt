@@ -13,25 +13,37 @@ use Rattle.library.proofs.trovimbe_tray_image.Tie as tie
 abbrev in→start : tie.After-tray-state-in → tie.Start
 in→start c = c .before .before .before
 
+abbrev struct-known→in : tie.After-struct-known → tie.After-tray-state-in
+struct-known→in c = c .before .before
+
 abbrev else1→in : tie.Else1 → tie.After-tray-state-in
-else1→in c = c .before .before .before
+else1→in c = struct-known→in (c .before)
 
 abbrev out→else1 : tie.After-take-out → tie.Else1
 out→else1 c = c .before .before
 
+abbrev said→then1 : tie.After-said → tie.Then1
+said→then1 c = c .before
+
+abbrev said→in : tie.After-said → tie.After-tray-state-in
+said→in c = struct-known→in (said→then1 c .before)
+
 returns : tie.Need-returns
 returns c =
-    let held = c .before .before .before .before in
+    let held = said→in c in
     let slot = in→start held .args .slot in
     let read = held .tray-state-in .ensures .0 in
     rw (c .said .ensures)
     (image-none keptTray (λ τ. slotOutNumber τ slot) (λ τ. slotOutRoom τ slot) (λ τ. sizeFor (packOf τ slot))
-    (ap (λ (x : TrayStateIn). x .number) read) (c .before .if1 .taken))
+    (ap (λ (x : TrayStateIn). x .number) read) (said→then1 c .if1 .taken))
+
+abbrev slice-known2→out : tie.After-slice-known2 → tie.After-take-out
+slice-known2→out c = c .before .before
 
 returns-2 : tie.Need-returns-2
 returns-2 c =
     let test = c .before in
-    let out = test .before .before .before in
+    let out = slice-known2→out (test .before) in
     let first = out→else1 out in
     let held = else1→in first in
     let slot = in→start held .args .slot in
@@ -46,7 +58,7 @@ returns-3 : tie.Need-returns-3
 returns-3 c =
     let sized = c .before in
     let test = sized .before in
-    let out = test .before .before .before in
+    let out = slice-known2→out (test .before) in
     let first = out→else1 out in
     let held = else1→in first in
     let slot = in→start held .args .slot in
