@@ -33,7 +33,7 @@ abbrev wide→start : tie.After-wide Inv-loop μ-loop Inv-slots μ-slots → tie
 wide→start c = c .before .before
 
 abbrev slots→start : tie.At-slots Inv-loop μ-loop Inv-slots μ-slots → tie.Start Inv-loop μ-loop Inv-slots μ-slots
-slots→start c = c .before .before .before
+slots→start c = wide→start (c .before)
 
 abbrev sized→in-slots : tie.After-sized Inv-loop μ-loop Inv-slots μ-slots → tie.In-slots Inv-loop μ-loop Inv-slots μ-slots
 sized→in-slots c = c .before .before .before
@@ -41,35 +41,47 @@ sized→in-slots c = c .before .before .before
 abbrev loop→in-slots : tie.At-loop Inv-loop μ-loop Inv-slots μ-slots → tie.In-slots Inv-loop μ-loop Inv-slots μ-slots
 loop→in-slots c = sized→in-slots (c .before)
 
+abbrev shared-slice-known2→loop : tie.After-shared-slice-known2 Inv-loop μ-loop Inv-slots μ-slots → tie.At-loop Inv-loop μ-loop Inv-slots μ-slots
+shared-slice-known2→loop c = c .before
+
 abbrev then1→loop : tie.Then1 Inv-loop μ-loop Inv-slots μ-slots → tie.At-loop Inv-loop μ-loop Inv-slots μ-slots
-then1→loop c = c .before .before
+then1→loop c = shared-slice-known2→loop (c .before)
 
 abbrev else1→loop : tie.Else1 Inv-loop μ-loop Inv-slots μ-slots → tie.At-loop Inv-loop μ-loop Inv-slots μ-slots
-else1→loop c = c .before .before
+else1→loop c = shared-slice-known2→loop (c .before)
 
 abbrev else1→in-slots : tie.Else1 Inv-loop μ-loop Inv-slots μ-slots → tie.In-slots Inv-loop μ-loop Inv-slots μ-slots
 else1→in-slots c = loop→in-slots (else1→loop c)
 
+abbrev in-slots→slots : tie.In-slots Inv-loop μ-loop Inv-slots μ-slots → tie.At-slots Inv-loop μ-loop Inv-slots μ-slots
+in-slots→slots c = c .before
+
 abbrev else1→slots : tie.Else1 Inv-loop μ-loop Inv-slots μ-slots → tie.At-slots Inv-loop μ-loop Inv-slots μ-slots
-else1→slots c = else1→in-slots c .before
+else1→slots c = in-slots→slots (else1→in-slots c)
 
 abbrev else1→start : tie.Else1 Inv-loop μ-loop Inv-slots μ-slots → tie.Start Inv-loop μ-loop Inv-slots μ-slots
 else1→start c = slots→start (else1→slots c)
 
+abbrev then2→then1 : tie.Then2 Inv-loop μ-loop Inv-slots μ-slots → tie.Then1 Inv-loop μ-loop Inv-slots μ-slots
+then2→then1 c = c .before
+
 abbrev then2→loop : tie.Then2 Inv-loop μ-loop Inv-slots μ-slots → tie.At-loop Inv-loop μ-loop Inv-slots μ-slots
-then2→loop c = then1→loop (c .before)
+then2→loop c = then1→loop (then2→then1 c)
 
 abbrev then2→in-slots : tie.Then2 Inv-loop μ-loop Inv-slots μ-slots → tie.In-slots Inv-loop μ-loop Inv-slots μ-slots
 then2→in-slots c = loop→in-slots (then2→loop c)
 
 abbrev then2→slots : tie.Then2 Inv-loop μ-loop Inv-slots μ-slots → tie.At-slots Inv-loop μ-loop Inv-slots μ-slots
-then2→slots c = then2→in-slots c .before
+then2→slots c = in-slots→slots (then2→in-slots c)
 
 abbrev then2→start : tie.Then2 Inv-loop μ-loop Inv-slots μ-slots → tie.Start Inv-loop μ-loop Inv-slots μ-slots
 then2→start c = slots→start (then2→slots c)
 
+abbrev else2→then1 : tie.Else2 Inv-loop μ-loop Inv-slots μ-slots → tie.Then1 Inv-loop μ-loop Inv-slots μ-slots
+else2→then1 c = c .before
+
 abbrev else2→loop : tie.Else2 Inv-loop μ-loop Inv-slots μ-slots → tie.At-loop Inv-loop μ-loop Inv-slots μ-slots
-else2→loop c = then1→loop (c .before)
+else2→loop c = then1→loop (else2→then1 c)
 
 slots-holds : tie.Need-slots-holds Inv-loop μ-loop Inv-slots μ-slots
 unfolding searchOf
@@ -78,12 +90,12 @@ slots-holds c =
     (omega arith, refl, ap (searchFrom (wide→start c .args .t1) (noGauge .common) (now (wide→start c .args .address)) 0) e)
 
 loop-holds : tie.Need-loop-holds Inv-loop μ-loop Inv-slots μ-slots
-loop-holds c = (omega arith, sized→in-slots c .before .slots .inv .1, refl)
+loop-holds c = (omega arith, in-slots→slots (sized→in-slots c) .slots .inv .1, refl)
 
 loop-again : tie.Need-loop-again Inv-loop μ-loop Inv-slots μ-slots
 loop-again c =
     let l = else2→loop c .loop in
-    (search needs, l .inv .1, agrees _ _ (l .j) (search needs) (l .inv .2) (search needs) (c .before .if1 .taken))
+    (search needs, l .inv .1, agrees _ _ (l .j) (search needs) (l .inv .2) (search needs) (else2→then1 c .if1 .taken))
 
 slots-again : tie.Need-slots-again Inv-loop μ-loop Inv-slots μ-slots
 slots-again c =
@@ -111,7 +123,7 @@ returns-2 c =
     let s = then2→slots c .slots in
     let l = then2→loop c .loop in
     search-hit (a .t1) (now (a .address)) (s .i) _ (then2→in-slots c .slots-test .taken) _ (search needs)
-    (sym (ended _ _ (l .j + 1) (search needs) (agrees _ _ (l .j) (search needs) (l .inv .2) (search needs) (c .before .if1 .taken)) (search needs)))
+    (sym (ended _ _ (l .j + 1) (search needs) (agrees _ _ (l .j) (search needs) (l .inv .2) (search needs) (then2→then1 c .if1 .taken)) (search needs)))
     ∙ s .inv .2
 
 pub search-spec : {M : Type 1} → statement M
