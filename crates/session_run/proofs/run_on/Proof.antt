@@ -27,20 +27,32 @@ abbrev μ-loop : tie.MeasureT-loop
 μ-loop s room₀ answers₀ loaded₀ gauge₀ at₀ used₀ lines₀ room answers loaded gauge at used lines = length s - at
 
 -- places: `a→b` leads from the record of the place a back to that of the place b
+abbrev gauge→shared-slice-known : tie.After-gauge Inv-loop μ-loop → tie.After-shared-slice-known Inv-loop μ-loop
+gauge→shared-slice-known c = c .before .before .before
+
 abbrev gauge→start : tie.After-gauge Inv-loop μ-loop → tie.Start Inv-loop μ-loop
-gauge→start c = c .before .before .before .before
+gauge→start c = gauge→shared-slice-known c .before
 
 abbrev loop→start : tie.At-loop Inv-loop μ-loop → tie.Start Inv-loop μ-loop
 loop→start c = gauge→start (c .before)
 
+abbrev whole→loop : tie.After-whole Inv-loop μ-loop → tie.At-loop Inv-loop μ-loop
+whole→loop c = c .before .before
+
+abbrev else1→whole : tie.Else1 Inv-loop μ-loop → tie.After-whole Inv-loop μ-loop
+else1→whole c = c .before
+
 abbrev else1→loop : tie.Else1 Inv-loop μ-loop → tie.At-loop Inv-loop μ-loop
-else1→loop c = c .before .before .before
+else1→loop c = whole→loop (else1→whole c)
 
 abbrev else1→start : tie.Else1 Inv-loop μ-loop → tie.Start Inv-loop μ-loop
 else1→start c = loop→start (else1→loop c)
 
+abbrev then1→whole : tie.Then1 Inv-loop μ-loop → tie.After-whole Inv-loop μ-loop
+then1→whole c = c .before
+
 abbrev then1→loop : tie.Then1 Inv-loop μ-loop → tie.At-loop Inv-loop μ-loop
-then1→loop c = c .before .before .before
+then1→loop c = whole→loop (then1→whole c)
 
 abbrev then1→start : tie.Then1 Inv-loop μ-loop → tie.Start Inv-loop μ-loop
 then1→start c = loop→start (then1→loop c)
@@ -48,11 +60,17 @@ then1→start c = loop→start (then1→loop c)
 abbrev else2→loop : tie.Else2 Inv-loop μ-loop → tie.At-loop Inv-loop μ-loop
 else2→loop c = else1→loop (c .before)
 
+abbrev rest→then1 : tie.After-rest Inv-loop μ-loop → tie.Then1 Inv-loop μ-loop
+rest→then1 c = c .before
+
 abbrev rest→loop : tie.After-rest Inv-loop μ-loop → tie.At-loop Inv-loop μ-loop
-rest→loop c = then1→loop (c .before)
+rest→loop c = then1→loop (rest→then1 c)
+
+abbrev code3→then2 : tie.After-code3 Inv-loop μ-loop → tie.Then2 Inv-loop μ-loop
+code3→then2 c = c .before
 
 abbrev code3→else1 : tie.After-code3 Inv-loop μ-loop → tie.Else1 Inv-loop μ-loop
-code3→else1 c = c .before .before
+code3→else1 c = code3→then2 c .before
 
 abbrev code3→loop : tie.After-code3 Inv-loop μ-loop → tie.At-loop Inv-loop μ-loop
 code3→loop c = else1→loop (code3→else1 c)
@@ -61,7 +79,7 @@ abbrev code3→start : tie.After-code3 Inv-loop μ-loop → tie.Start Inv-loop �
 code3→start c = loop→start (code3→loop c)
 
 abbrev front→then1 : tie.After-front Inv-loop μ-loop → tie.Then1 Inv-loop μ-loop
-front→then1 c = c .before .before
+front→then1 c = rest→then1 (c .before)
 
 abbrev front→loop : tie.After-front Inv-loop μ-loop → tie.At-loop Inv-loop μ-loop
 front→loop c = then1→loop (front→then1 c)
@@ -69,14 +87,17 @@ front→loop c = then1→loop (front→then1 c)
 abbrev front→start : tie.After-front Inv-loop μ-loop → tie.Start Inv-loop μ-loop
 front→start c = loop→start (front→loop c)
 
+abbrev code→front : tie.After-code Inv-loop μ-loop → tie.After-front Inv-loop μ-loop
+code→front c = c .before
+
 abbrev code→loop : tie.After-code Inv-loop μ-loop → tie.At-loop Inv-loop μ-loop
-code→loop c = front→loop (c .before)
+code→loop c = front→loop (code→front c)
 
 abbrev code→start : tie.After-code Inv-loop μ-loop → tie.Start Inv-loop μ-loop
 code→start c = loop→start (code→loop c)
 
 abbrev match-came→front : tie.At-match-came Inv-loop μ-loop → tie.After-front Inv-loop μ-loop
-match-came→front c = c .before .before
+match-came→front c = code→front (c .before)
 
 abbrev match-came→then1 : tie.At-match-came Inv-loop μ-loop → tie.Then1 Inv-loop μ-loop
 match-came→then1 c = front→then1 (match-came→front c)
@@ -87,20 +108,29 @@ match-came→loop c = then1→loop (match-came→then1 c)
 abbrev match-came→start : tie.At-match-came Inv-loop μ-loop → tie.Start Inv-loop μ-loop
 match-came→start c = loop→start (match-came→loop c)
 
+abbrev asked→code : tie.After-asked Inv-loop μ-loop → tie.After-code Inv-loop μ-loop
+asked→code c = c .before .before
+
 abbrev asked→front : tie.After-asked Inv-loop μ-loop → tie.After-front Inv-loop μ-loop
-asked→front c = c .before .before .before
+asked→front c = code→front (asked→code c)
+
+abbrev known-told→asked : tie.After-known-told Inv-loop μ-loop → tie.After-asked Inv-loop μ-loop
+known-told→asked c = c .before
 
 abbrev known-told→loop : tie.After-known-told Inv-loop μ-loop → tie.At-loop Inv-loop μ-loop
-known-told→loop c = code→loop (c .before .before .before)
+known-told→loop c = code→loop (asked→code (known-told→asked c))
 
 abbrev event→asked : tie.After-event Inv-loop μ-loop → tie.After-asked Inv-loop μ-loop
-event→asked c = c .before .before .before
+event→asked c = known-told→asked (c .before .before)
 
 abbrev event3→asked : tie.After-event3 Inv-loop μ-loop → tie.After-asked Inv-loop μ-loop
-event3→asked c = c .before .before .before
+event3→asked c = known-told→asked (c .before .before)
+
+abbrev known-told2→event : tie.After-known-told2 Inv-loop μ-loop → tie.After-event Inv-loop μ-loop
+known-told2→event c = c .before
 
 abbrev known-told2→asked : tie.After-known-told2 Inv-loop μ-loop → tie.After-asked Inv-loop μ-loop
-known-told2→asked c = event→asked (c .before)
+known-told2→asked c = event→asked (known-told2→event c)
 
 abbrev known-told2→front : tie.After-known-told2 Inv-loop μ-loop → tie.After-front Inv-loop μ-loop
 known-told2→front c = asked→front (known-told2→asked c)
@@ -114,8 +144,11 @@ known-told2→loop c = then1→loop (known-told2→then1 c)
 abbrev known-told3→loop : tie.After-known-told3 Inv-loop μ-loop → tie.At-loop Inv-loop μ-loop
 known-told3→loop c = known-told→loop (c .before .before .before)
 
+abbrev image-in-arg→known-told2 : tie.After-image-in-arg Inv-loop μ-loop → tie.After-known-told2 Inv-loop μ-loop
+image-in-arg→known-told2 c = c .before
+
 abbrev image-in-arg→asked : tie.After-image-in-arg Inv-loop μ-loop → tie.After-asked Inv-loop μ-loop
-image-in-arg→asked c = known-told2→asked (c .before)
+image-in-arg→asked c = known-told2→asked (image-in-arg→known-told2 c)
 
 abbrev image-in-arg→front : tie.After-image-in-arg Inv-loop μ-loop → tie.After-front Inv-loop μ-loop
 image-in-arg→front c = asked→front (image-in-arg→asked c)
@@ -135,8 +168,11 @@ struct-known→then1 c = front→then1 (struct-known→front c)
 abbrev struct-known→loop : tie.After-struct-known Inv-loop μ-loop → tie.At-loop Inv-loop μ-loop
 struct-known→loop c = then1→loop (struct-known→then1 c)
 
+abbrev transact-arg→struct-known : tie.After-transact-arg Inv-loop μ-loop → tie.After-struct-known Inv-loop μ-loop
+transact-arg→struct-known c = c .before
+
 abbrev transact-arg→loop : tie.After-transact-arg Inv-loop μ-loop → tie.At-loop Inv-loop μ-loop
-transact-arg→loop c = struct-known→loop (c .before)
+transact-arg→loop c = struct-known→loop (transact-arg→struct-known c)
 
 abbrev known-told4→loop : tie.After-known-told4 Inv-loop μ-loop → tie.At-loop Inv-loop μ-loop
 known-told4→loop c = known-told3→loop (c .before .before .before)
@@ -148,7 +184,7 @@ abbrev known-told6→loop : tie.After-known-told6 Inv-loop μ-loop → tie.At-lo
 known-told6→loop c = known-told3→loop (c .before .before .before)
 
 abbrev transact-arg2→event3 : tie.After-transact-arg2 Inv-loop μ-loop → tie.After-event3 Inv-loop μ-loop
-transact-arg2→event3 c = struct-known→event3 (c .before .before)
+transact-arg2→event3 c = struct-known→event3 (transact-arg→struct-known (c .before))
 
 abbrev transact-arg2→asked : tie.After-transact-arg2 Inv-loop μ-loop → tie.After-asked Inv-loop μ-loop
 transact-arg2→asked c = event3→asked (transact-arg2→event3 c)
@@ -159,11 +195,11 @@ transact-arg2→front c = asked→front (transact-arg2→asked c)
 abbrev transact-arg2→loop : tie.After-transact-arg2 Inv-loop μ-loop → tie.At-loop Inv-loop μ-loop
 transact-arg2→loop c = front→loop (transact-arg2→front c)
 
-abbrev room→event3 : tie.After-room Inv-loop μ-loop → tie.After-event3 Inv-loop μ-loop
-room→event3 c = transact-arg2→event3 (c .before .before)
+abbrev struct-known2→transact : tie.After-struct-known2 Inv-loop μ-loop → tie.After-transact Inv-loop μ-loop
+struct-known2→transact c = c .before .before .before
 
 abbrev struct-known2→event3 : tie.After-struct-known2 Inv-loop μ-loop → tie.After-event3 Inv-loop μ-loop
-struct-known2→event3 c = room→event3 (c .before .before)
+struct-known2→event3 c = transact-arg2→event3 (struct-known2→transact c .before)
 
 abbrev struct-known2→asked : tie.After-struct-known2 Inv-loop μ-loop → tie.After-asked Inv-loop μ-loop
 struct-known2→asked c = event3→asked (struct-known2→event3 c)
@@ -181,7 +217,7 @@ struct-known2→start c = loop→start (struct-known2→loop c)
 more : (c : tie.Then1 Inv-loop μ-loop) → then1→loop c .loop .at < length (now (then1→start c .args .bytes))
 more c =
     let l = then1→loop c in
-    whole-more (now (loop→start l .args .bytes)) (l .loop .at) (sym (c .before .whole .ensures) ∙ c .if1 .taken)
+    whole-more (now (loop→start l .args .bytes)) (l .loop .at) (sym (then1→whole c .whole .ensures) ∙ c .if1 .taken)
 
 -- what was read of the record at the front
 at-front : (c : tie.After-front Inv-loop μ-loop) → let l = front→loop c .loop in let s = now (front→start c .args .bytes) in
@@ -267,7 +303,7 @@ add-at : tie.Need-add-at Inv-loop μ-loop
 add-at c =
     omega (
       arith,
-      front-within ofSession didOf did-same SessionWF (code→loop c .loop .inv) (more (c .before .before .before)) (at-front (c .before)) .0,
+      front-within ofSession didOf did-same SessionWF (code→loop c .loop .inv) (more (front→then1 (code→front c))) (at-front (code→front c)) .0,
       code→loop c .loop .inv .going .at-fits,
       code→start c .pre .1 .0,
     )
@@ -288,7 +324,8 @@ part-image-in-end c =
 
 image-in-requires : tie.Need-image-in-requires Inv-loop μ-loop
 image-in-requires c κs =
-    ran-taking (ran ofSession (at-front (image-in-arg→front c)) (image-in-arg→asked c .asked .given .1 ∙ ap Run (c .before .before .event .given .1))) .2
+    ran-taking (ran ofSession (at-front (image-in-arg→front c))
+    (image-in-arg→asked c .asked .given .1 ∙ ap Run (known-told2→event (image-in-arg→known-told2 c) .event .given .1))) .2
 
 read-requires : tie.Need-read-requires Inv-loop μ-loop
 read-requires c κs = known-told4→loop c .loop .inv .wf .gauge
@@ -401,15 +438,15 @@ slots-left c h = going-held didOf _ (else1→loop c .loop .inv .going) h (else1�
 mul-answers-2 : tie.Need-mul-answers-2 Inv-loop μ-loop
 mul-answers-2 c =
     let l = code3→loop c .loop in
-    omega (arith, l .inv .going .slots (c .before .if2 .taken), l .inv .going .at-fits, code3→start c .pre .1 .0)
+    omega (arith, l .inv .going .slots (code3→then2 c .if2 .taken), l .inv .going .at-fits, code3→start c .pre .1 .0)
 
 slice-write-answers-2 : tie.Need-slice-write-answers-2 Inv-loop μ-loop
-slice-write-answers-2 c = slots-left (code3→else1 c) (c .before .if2 .taken)
+slice-write-answers-2 c = slots-left (code3→else1 c) (code3→then2 c .if2 .taken)
 
 add-lines-2 : tie.Need-add-lines-2 Inv-loop μ-loop
 add-lines-2 c =
     let l = code3→loop c .loop in
-    omega (arith, l .inv .going .slots (c .before .if2 .taken), l .inv .going .at-fits, code3→start c .pre .1 .0)
+    omega (arith, l .inv .going .slots (code3→then2 c .if2 .taken), l .inv .going .at-fits, code3→start c .pre .1 .0)
 
 same-length : tie.Need-same-length Inv-loop μ-loop
 same-length c = code3→loop c .loop .inv .going .same-room
@@ -422,8 +459,8 @@ same-length-2 c =
 returns : tie.Need-returns Inv-loop μ-loop
 returns c =
     let d = code3→else1 c in (
-      ended-cut ofSession didOf did-same SessionWF did-fits session-replying (else1→loop d .loop .inv) (c .before .if2 .taken)
-          (sym (d .before .whole .ensures) ∙ d .if1 .left) (c .code3 .ensures),
+      ended-cut ofSession didOf did-same SessionWF did-fits session-replying (else1→loop d .loop .inv) (code3→then2 c .if2 .taken)
+          (sym (else1→whole d .whole .ensures) ∙ d .if1 .left) (c .code3 .ensures),
       else1→loop d .loop .inv .wf,
     )
 
