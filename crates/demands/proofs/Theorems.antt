@@ -34,8 +34,8 @@ use Rattle.demands.proofs.Numbers.{each-number-holds}
 use Rattle.demands.proofs.Demand2.{taken-image, demand-2, tray-demand-2}
 use Rattle.demands.proofs.Demand3.{demand-3}
 use Rattle.demands.proofs.TrayDemand3.{tray-demand-3}
-use Rattle.demands.proofs.ReadBackExample.{read-back-met}
 use Rattle.demands.proofs.Example.{printed, demand-2-met, demand-3-met, bench-example}
+use Rattle.demands.proofs.ReadBackExample.{read-back-met, slot-read-back-met}
 use Rattle.demands.proofs.WholeTrays.{whole-tray-demand-3}
 use Rattle.demands.proofs.EveryOpening.{every-tray-opens}
 use Rattle.demands.proofs.TrayExample.{slot-carried-met, alone-met}
@@ -88,6 +88,7 @@ trays = record {
   demand-1 = tray-demand-1;
   demand-2 = tray-demand-2;
   demand-2-met = slot-carried-met;
+  read-back-met = slot-read-back-met;
   demand-3 = tray-demand-3;
   demand-3-met = tray-demand-3-met;
   whole-demand-3 = whole-tray-demand-3;

@@ -158,6 +158,23 @@ pub record ReadBackMet (f : Profile) : Type 0 where
   pub same : fresh .ran .state ≡ loadedWith there
   pub another : there ≡ session .ran .state .gauge → ⊥
 
+-- and of a slot of a tray, with a power-on of that slot
+pub record SlotReadBackMet : Type 0 where
+  pub tray : Call Tray
+  pub slot : ℕ
+  pub room : List ℕ
+  pub answer : ℕ
+  pub after : List ℕ
+  pub carried : SlotCarried tray slot room answer after
+  pub done : answer ≡ 0
+  pub fresh : Call Session
+  pub read : Fresh (profileOf (packOf (tray .ran .state) slot)) after fresh
+  pub accepted : AnswersImage (profileOf (packOf (tray .ran .state) slot)) fresh 0
+  pub there : Gauge
+  pub powered : SlotPowersOn slot tray there
+  pub gives : fresh .ran .state ≡ loadedWith there
+  pub another : there ≡ packOf (tray .ran .state) slot → ⊥
+
 -- ---- every run that accepted an image can be carried on; there are some with breakpoints in order, and crossed
 
 -- an image that is taken out of what a run left, and a fresh gauge that it is given to

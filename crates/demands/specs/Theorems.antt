@@ -40,7 +40,7 @@ use Rattle.demands.specs.Words.{WordsMean}
 use Rattle.demands.specs.Cycles.{CycleRules}
 use Rattle.demands.specs.Printed.{PrintedLines}
 use Rattle.demands.specs.Demand1.{sessionMost, trayMost, Demand1}
-use Rattle.demands.specs.Demand2.{Demand2, Demand2Met, ReadBackMet, TrayDemand2, SlotCarriedMet}
+use Rattle.demands.specs.Demand2.{Demand2, Demand2Met, ReadBackMet, TrayDemand2, SlotCarriedMet, SlotReadBackMet}
 use Rattle.demands.specs.Numbers.{EachNumber}
 use Rattle.demands.specs.Demand3.{Demand3, Demand3Met, TrayDemand3, TrayDemand3Met, WholeTrayDemand3, WholeTrayDemand3Met}
 use Rattle.demands.specs.Demand3.{WholeTrayRefusedMet, EveryTrayOpens}
@@ -119,6 +119,7 @@ pub record OfTrays : Type 0 where
   pub demand-1 : Demand1 trayMost trayDid emptyTray
   pub demand-2 : TrayDemand2
   pub demand-2-met : SlotCarriedMet
+  pub read-back-met : SlotReadBackMet
   pub demand-3 : TrayDemand3
   pub demand-3-met : TrayDemand3Met
   -- the third of whole sessions, in the paper's words; and every tray session has an opening
