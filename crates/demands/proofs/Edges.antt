@@ -39,9 +39,11 @@ use Rattle.tray_record.specs.Tray as reach
 use Rattle.tray_run.specs.TrayRun.{SlotOut}
 use Rattle.preset_session.specs.declared.Written.{Written}
 use Rattle.preset_session.specs.PresetSession.{programmingSize, Programming}
-use Rattle.mending.specs.declared.Mended.the-variants as Mended
-use Rattle.mending.specs.Mending.{mendedOf, Mending}
-use Rattle.mending.specs.Worth.{Accepted}
+use Rattle.mending.specs.declared.Mended.{Mended}
+use Rattle.mending.specs.declared.Mended.the-variants as mending
+use Rattle.mending.specs.declared.Listed.{Listed}
+use Rattle.mending.specs.Mending.{mendedOf, Mending, Listing}
+use Rattle.mending.specs.Worth.{Accepted, SoundImage, StaysByCalls}
 use Rattle.mending.proofs.Worth as worth
 use Rattle.hex.specs.declared.Answer.{Answer}
 use Rattle.hex.specs.declared.Answer.the-variants.{Done}
@@ -235,13 +237,20 @@ module _ (image : List ℕ) (bytes : UpTo255 image) (accepted : Accepted image) 
   unchanged-at-128 e =
       worth.unchanged image (record { bytes = λ i. omega (arith, bytes i); accepted = accepted; young = omega (arith, e); old = omega (arith, e) }) .0
 
+-- a sound image stays in a room of just 60 bytes
+pub stays-in-60 : (image : List ℕ) → SoundImage image → (room : List ℕ) (said : Mended) (after : List ℕ) → length room ≡ 60
+    → Mending image room said after → (lent : List ℕ) (heard : Listed) (last : List ℕ) → Listing image lent heard last
+    → StaysByCalls image room said after lent heard last
+stays-in-60 image sound room said after size mended lent heard last listed =
+    worth.listing .stays image sound room said after (omega (arith, size)) mended lent heard last listed
+
 -- and a mended image is the only record of a session
-pub mended-alone : (image room after : List ℕ) (c : Call Session) → Mending image room Mended.Done after → c .bytes ≡ recordOf 1 (take imageSize after)
+pub mended-alone : (image room after : List ℕ) (c : Call Session) → Mending image room mending.Done after → c .bytes ≡ recordOf 1 (take imageSize after)
     → Within didOf emptyOf c → MendedFirst image room after [] c
 mended-alone image room after c mended session run =
     record { mended = mended; session = session ∙ sym (append-nil (recordOf 1 (take imageSize after))); run = run }
 
-pub mended-alone-accepted : (image room after : List ℕ) (c : Call Session) → Mending image room Mended.Done after
+pub mended-alone-accepted : (image room after : List ℕ) (c : Call Session) → Mending image room mending.Done after
     → c .bytes ≡ recordOf 1 (take imageSize after) → Within didOf emptyOf c → linesIn didOf emptyOf c ≡ record { kind = 1; answer = 0; reply = [] } ∷ []
 mended-alone-accepted image room after c mended session run =
     mended-first image room after [] c (mended-alone image room after c mended session run) .lines

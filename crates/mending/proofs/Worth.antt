@@ -28,14 +28,14 @@ use Rattle.record.specs.Record.{kindOf, addressedOf, lockableOf, orderedOf, jud
 use Rattle.record.proofs.Fits.{plain-taking}
 use Rattle.mending.specs.Mending.{mendedCrc, mendedAging, mendedLocks, capOf, cappedOf, arrangedOf}
 use Rattle.mending.specs.Mending.{mendedBreaks, mendedOf, changeLine, changeText, changesFrom, changesOf, changesSize, mendingAnswer}
-use Rattle.mending.specs.Mending.{listedBy, linesBy, Mending}
+use Rattle.mending.specs.Mending.{mendedRoom, listedBy, linesBy, Mending}
 use Rattle.mending.specs.declared.MendRefusal.{MendRefusal}
 use Rattle.mending.specs.declared.Mended.{Mended}
 use Rattle.mending.specs.declared.Mended.the-variants as mended
 use Rattle.mending.specs.declared.Listed.the-variants as listed
 use Rattle.mending.specs.Worth.{Mendable, SoundImage, KeptBytes, LinesTold, AcceptedTheorem, UnchangedTheorem, TwiceTheorem}
 use Rattle.mending.specs.Worth.{ArrangedTheorem, CappedTheorem, KeptTheorem, ByCallTheorem}
-use Rattle.mending.specs.Worth.{LinesTheorem, NoLinesTheorem, LinesAgainTheorem, ListingTheorem}
+use Rattle.mending.specs.Worth.{LinesTheorem, NoLinesTheorem, LinesAgainTheorem, StaysTheorem, ListingTheorem}
 use Rattle.mending.proofs.Laws.{granted, mended-length}
 
 -- ---- signed bytes in offset form, and back
@@ -388,6 +388,12 @@ module _ (image : List ℕ) (s : SoundImage image) where
   unfolding judgedAmong
   passed = tests (eqb (length image) imageSize) (addressedOf Ds2781 (imageAddress image)) (lockableOf image) (orderedOf (imageBreaks image)) (judge .1)
 
+  sound-mendable : Mendable image
+  unfolding addressedOf
+  sound-mendable =
+      let family = both-true (eqb (getD (take 8 image) 0 0) 0x3d) _ (passed .0) .0 in
+      record { sized = judge .2; family = sym (getD-take 8 image 0 0 (omega arith)) ∙ eqb-true (getD (take 8 image) 0 0) 0x3d family }
+
   own-crc : mendedCrc image ≡ getD image 7 0
   unfolding addressedOf
   own-crc =
@@ -514,5 +520,19 @@ lines-again image room after w lent last said l =
     let v = rw (c .1) at l in
     (v .answer ∙ rw (done, none) refl, v .written ∙ rw (done, none) refl)
 
+sound-stays : StaysTheorem
+sound-stays image s room said after fits w lent heard last l =
+    let g = sound-mendable image s in
+    let done = mendable-done image (length room) g fits in
+    let listed-done = mendable-done image imageSize g (omega arith) in
+    let quiet-now = unchanged image s .1 in
+    let front : after ≡ mendedOf image ++ drop imageSize room = w .written ∙ ap (λ (m : Mended). mendedRoom m image room) done in
+    record {
+      done = w .answer ∙ done;
+      same = ap (take imageSize) front ∙ take-at (mendedOf image) (drop imageSize room) imageSize (long image (g .sized)) ∙ unchanged image s .0;
+      none = l .answer ∙ rw (listed-done, quiet-now) refl;
+      stays = l .written ∙ rw (listed-done, quiet-now) refl;
+    }
+
 pub listing : ListingTheorem
-listing = record { told = lines-told; refused = no-lines; again = lines-again }
+listing = record { told = lines-told; refused = no-lines; again = lines-again; stays = sound-stays }

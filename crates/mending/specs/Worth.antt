@@ -22,6 +22,7 @@ use Rattle.record.specs.declared.Taken.the-variants.{Run}
 use Rattle.record.specs.Image.{imageSize, addressAt, imageAddress, imageLabel, imageBlock, imageAcr, imageAging, imageBl0, imageBl1}
 use Rattle.record.specs.Record.{takenOf}
 use Rattle.mending.specs.declared.MendRefusal.{MendRefusal}
+use Rattle.mending.specs.declared.Mended.{Mended}
 use Rattle.mending.specs.declared.Mended.the-variants.{Done}
 use Rattle.mending.specs.declared.Listed.{Listed}
 use Rattle.mending.specs.declared.Listed.the-variants.{Lines, Refused}
@@ -116,7 +117,20 @@ LinesAgainTheorem =
     (image room after : List ℕ) → Mending image room Done after
     → (lent last : List ℕ) (said : Listed) → Listing (take imageSize after) lent said last → (said ≡ Lines 0) × (last ≡ lent)
 
+-- "An acceptable image with AS in range comes out unchanged with no lines", of any calls of the two that are given one
+pub record StaysByCalls (image room : List ℕ) (said : Mended) (after lent : List ℕ) (heard : Listed) (last : List ℕ) : Type 0 where
+  pub done : said ≡ Done
+  pub same : take imageSize after ≡ image
+  pub none : heard ≡ Lines 0
+  pub stays : last ≡ lent
+
+abbrev pub StaysTheorem : Type 0
+StaysTheorem =
+    (image : List ℕ) → SoundImage image → (room : List ℕ) (said : Mended) (after : List ℕ) → imageSize ≤ length room → Mending image room said after
+    → (lent : List ℕ) (heard : Listed) (last : List ℕ) → Listing image lent heard last → StaysByCalls image room said after lent heard last
+
 pub record ListingTheorem : Type 0 where
   pub told : LinesTheorem
   pub refused : NoLinesTheorem
   pub again : LinesAgainTheorem
+  pub stays : StaysTheorem
