@@ -4,6 +4,7 @@
 -- mending once."
 --
 -- Stated of the judge that a session asks, of every image; `ByCallTheorem` says that these are the images of every call of `mend` that is not refused.
+-- `ListingTheorem` says what every call of `changes` tells, and the second sentence of both.
 use mathlib.Core.Path.{_≡_}
 use mathlib.Core.Bool.{false}
 use mathlib.Core.Logic.{_≢_}
