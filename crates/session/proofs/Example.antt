@@ -7,9 +7,10 @@ use Rattle.runs.specs.SessionRecord.{didOf}
 use Rattle.session_run.specs.SessionRun.{sessionOf}
 use Rattle.digits.specs.Digits.{hexOf, shownText, shortText, decimalText}
 use Rattle.text.specs.Line.{kindText, replyText, startText, endText}
-use Rattle.text.specs.Text.{runText}
+use Rattle.text.specs.Text.{headerText, runText}
 use Rattle.session.specs.Example.{PrintedText}
 
 pub example : PrintedText
-unfolding runText outcomeOf sessionOf didOf takenOf kindOf recOf sizeOf wholeOf hexOf shownText shortText decimalText kindText replyText startText endText
+unfolding headerText runText outcomeOf sessionOf didOf takenOf kindOf recOf sizeOf wholeOf hexOf shownText shortText decimalText kindText replyText
+    startText endText
 example = refl

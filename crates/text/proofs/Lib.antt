@@ -8,3 +8,4 @@ pub mod Printed
 pub mod AtEnd
 pub mod TakenOut
 pub mod Live
+pub mod Meaning
