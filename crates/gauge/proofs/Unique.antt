@@ -5,6 +5,7 @@ use Rattle.gauge.proofs.Gauge.convert
 use Rattle.gauge.proofs.Gauge.sample
 use Rattle.gauge.proofs.Gauge.read
 use Rattle.gauge.proofs.Gauge.power_on
+use Rattle.gauge.proofs.Gauge.ran
 use Rattle.gauge.proofs.Gauge.transact
 use Rattle.gauge.proofs.can_change
 use Rattle.gauge.proofs.image_in
@@ -24,6 +25,9 @@ power-on-once κs a r r′ w w′ p h h′ = (h .0 ∙ sym (h′ .0), refl)
 
 pub can-change-once : Once can_change.ended can_change.Reads.Pre can_change.Reads.Learnt
 can-change-once κs a r r′ w w′ p h h′ = (h ∙ sym h′, refl)
+
+pub ran-once : Once ran.ended ran.Reads.Pre ran.Reads.Learnt
+ran-once κs a r r′ w w′ p h h′ = (h .0 ∙ sym (h′ .0), refl)
 
 pub transact-once : Once transact.ended transact.Reads.Pre transact.Reads.Learnt
 transact-once κs a r r′ w w′ p h h′ = (h .0 ∙ sym (h′ .0), λ i. (tt, (tt, (tt, ((h .1 .0 ∙ sym (h′ .1 .0)) i, tt)))))

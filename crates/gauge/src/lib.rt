@@ -153,7 +153,7 @@ impl Gauge {
     }
 
     // The function command of a transaction that is selected.
-    fn ran(self, transaction: Transaction, master: &[u8]) -> Gauge
+    pub fn ran(self, transaction: Transaction, master: &[u8]) -> Gauge
         requires { ⌜ GaugeWF self ⌝ }
         ensures { λ r. ⌜ r ≡ ranOf self transaction (now (master .entry)) ⌝ }
         ensures kept { λ r. ⌜ GaugeWF r ⌝ }

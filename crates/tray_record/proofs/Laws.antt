@@ -12,8 +12,6 @@ use Rattle.state.specs.declared.Tick.{Tick}
 use Rattle.state.specs.State.{MeterWF}
 use Rattle.gauge.specs.declared.Gauge.{Gauge}
 use Rattle.gauge.specs.Gauge.{GaugeWF}
-use Rattle.gauge.specs.Act.{actOf}
-use Rattle.bus.specs.declared.Transaction.{Transaction}
 use Rattle.bus.specs.Ask.{sameBytes}
 use Rattle.state.specs.declared.Common.{Common}
 use Rattle.state.specs.declared.Label.{Label}
@@ -30,9 +28,8 @@ use Rattle.record.specs.Record.{takenBy, timedOf, fittedOf}
 use Rattle.tray_record.specs.declared.Tray.{Tray}
 use Rattle.tray_record.specs.declared.Found.{Found}
 use Rattle.tray_record.specs.declared.Found.the-variants.{At, Nowhere}
-use Rattle.tray_record.specs.Tray.{searchFrom, searchOf, matchedOf, aimedBy, hearersOf, noGauge, emptyTray, packOf, storedOf}
-use Rattle.tray_record.specs.Tray.{Reach, one, reachFound, reachBy, trayReach, actedFirst, wiredFirst, trayActed, trayReply}
-use Rattle.tray_record.specs.Tray.{actedAt, TrayWF, trayKindOf, aheadOf, acceptedFor, trayAskedAt}
+use Rattle.tray_record.specs.Tray.{searchFrom, searchOf, matchedOf, aimedBy, noGauge, emptyTray, packOf, storedOf}
+use Rattle.tray_record.specs.Tray.{TrayWF, trayKindOf, aheadOf, acceptedFor, trayAskedAt}
 
 -- ---- before the first record every place has the same
 
@@ -95,12 +92,7 @@ pub pack-wf : (τ : Tray) (i : ℕ) (k : Common) (l : Label) (m : Meter) → Tra
     → GaugeWF (record { common = getD (τ .commons) i k; label = getD (τ .labels) i l; meter = getD (τ .meters) i m })
 pack-wf τ i k l m w h = subst GaugeWF (sym (pack-is τ i k l m w h)) (w .packs i)
 
--- a transaction that goes to one pack
-pub one-acted : (t : Transaction) (master : List ℕ) (τ : Tray) {i slot : ℕ} {g h : Gauge} → i ≡ slot → g ≡ packOf τ i → h ≡ actOf g t master
-    → storedOf τ i h ≡ actedAt t master τ slot τ
-one-acted t master τ ei eg eh = rw (eh, eg, ei) refl
-
--- and each other pack is as it was
+-- each other pack is as it was
 pub stored-other : (τ : Tray) (i j : ℕ) (g : Gauge) → (j ≡ i → ⊥) → packOf (storedOf τ i g) j ≡ packOf τ j
 stored-other τ i j g h = λ x. record {
   common = getD-set-other (τ .commons) i j (g .common) (noGauge .common) h x;
@@ -146,7 +138,7 @@ module _ (commons : List Common) (address : List ℕ) (i n : ℕ) (more : i < n)
 
 -- what is found is one of the slots
 
-abbrev Below : ℕ → Found → Type 0
+abbrev pub Below : ℕ → Found → Type 0
 Below n (At i) = i < n
 Below n Nowhere = Unit
 
@@ -173,25 +165,3 @@ aimed-below said commons count master e = subst (Below count) e (by said)
     by rom.Net33 = tt
     by rom.Net39 = tt
     by rom.Quiet = tt
-
--- ---- a transaction goes to the slot that is aimed at, or is heard by the first packs: by all, or by nobody
-
-module _ (t : Transaction) (master : List ℕ) (τ : Tray) where
-  abbrev Goes : Found → Reach → Type 0
-  Goes (At i) reach = reach ≡ one i
-  Goes Nowhere reach = (trayActed t master reach τ ≡ actedFirst t master τ (hearersOf (t .rom) (τ .count)))
-      × (trayReply t master reach τ ≡ wiredFirst t master τ (hearersOf (t .rom) (τ .count)))
-
-  pub goes : (found : Found) → aimedBy (t .rom) (matchedOf (τ .commons) (τ .count) master) ≡ found → Goes found (trayReach τ t master)
-  goes found e = subst (λ (f : Found). Goes f (trayReach τ t master)) e (by (t .rom) refl)
-    where
-      matched : t .rom ≡ rom.Match → (f : Found) → Goes f (reachFound f)
-      matched r (At i) = refl
-      matched r Nowhere = rw r (refl, refl)
-
-      by : (r : Rom) → t .rom ≡ r → Goes (aimedBy r (matchedOf (τ .commons) (τ .count) master)) (reachBy r (matchedOf (τ .commons) (τ .count) master))
-      by rom.Skip r = rw r (refl, refl)
-      by rom.Match r = matched r (matchedOf (τ .commons) (τ .count) master)
-      by rom.Net33 r = rw r (refl, refl)
-      by rom.Net39 r = rw r (refl, refl)
-      by rom.Quiet r = rw r (refl, refl)

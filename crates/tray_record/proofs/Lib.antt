@@ -2,6 +2,8 @@ pub mod Anded
 pub mod Laws
 pub mod Hearing
 pub mod Chosen
+pub mod Acting
+pub mod Answering
 pub mod Fronts
 pub mod Taking
 pub mod Unique

@@ -6,7 +6,11 @@ use Rattle.tray_record.proofs.slot
 use Rattle.tray_record.proofs.«image_at»
 use Rattle.tray_record.proofs.front
 use Rattle.tray_record.proofs.known
-use Rattle.tray_record.proofs.transacted
+use Rattle.tray_record.proofs.reached
+use Rattle.tray_record.proofs.heard
+use Rattle.tray_record.proofs.unheard
+use Rattle.tray_record.proofs.changing
+use Rattle.tray_record.proofs.changed
 
 pub empty-once : Once empty.ended empty.Reads.Pre empty.Reads.Learnt
 empty-once κs a r r′ w w′ p h h′ = (h .0 ∙ sym (h′ .0), refl)
@@ -23,5 +27,18 @@ front-once κs a r r′ w w′ p h h′ = (h ∙ sym h′, refl)
 pub known-once : Once known.ended known.Reads.Pre known.Reads.Learnt
 known-once κs a r r′ w w′ p h h′ = (h ∙ sym h′, refl)
 
-pub transacted-once : Once transacted.ended transacted.Reads.Pre transacted.Reads.Learnt
-transacted-once κs a r r′ w w′ p h h′ = (h .0 ∙ sym (h′ .0), λ i. (tt, (tt, (tt, ((h .1 .0 ∙ sym (h′ .1 .0)) i, tt)))))
+pub reached-once : Once reached.ended reached.Reads.Pre reached.Reads.Learnt
+reached-once κs a r r′ w w′ p h h′ = (h .0 ∙ sym (h′ .0), refl)
+
+pub heard-once : Once heard.ended heard.Reads.Pre heard.Reads.Learnt
+heard-once κs a r r′ w w′ p h h′ =
+    (refl, λ i. (tt, (tt, (tt, (tt, (tt, ((h .1 .0 ∙ sym (h′ .1 .0)) i, ((h .0 ∙ sym (h′ .0)) i, tt))))))))
+
+pub unheard-once : Once unheard.ended unheard.Reads.Pre unheard.Reads.Learnt
+unheard-once κs a r r′ w w′ p h h′ = (refl, λ i. (tt, (tt, ((h ∙ sym h′) i, tt))))
+
+pub changing-once : Once changing.ended changing.Reads.Pre changing.Reads.Learnt
+changing-once κs a r r′ w w′ p h h′ = (h ∙ sym h′, refl)
+
+pub changed-once : Once changed.ended changed.Reads.Pre changed.Reads.Learnt
+changed-once κs a r r′ w w′ p h h′ = (h .0 ∙ sym (h′ .0), refl)

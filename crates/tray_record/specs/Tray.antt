@@ -1,11 +1,11 @@
 -- A tray of one to eight packs on one line: its state, what a record asks of it, and what each event does.
 use mathlib.Core.Path.{_≡_}
 use mathlib.Core.Bool.{Bool, true, false}
-use mathlib.Core.List.{List}
+use mathlib.Core.List.{List, _++_}
 use Prim.Native.Nat.{ℕ, zero, suc, _+_, _≤_}
 use lib.Dec.{ltb, leb, eqb}
 use lib.ListN.{length, getD, set, take, drop, replicate}
-use Rattle.numbers.specs.Choice.{pick, either}
+use Rattle.numbers.specs.Choice.{pick, both, either}
 use Rattle.slices.specs.Slices.{pairAt}
 use Rattle.state.specs.declared.Tick.{Tick}
 use Rattle.bus.specs.declared.Rom.{Rom}
@@ -14,11 +14,13 @@ use Rattle.bus.specs.declared.Transaction.{Transaction}
 use Rattle.bus.specs.Ask.{sameBytes}
 use Rattle.state.specs.declared.Profile.the-variants.{Ds2781, Ds2775}
 use Rattle.state.specs.declared.Common.{Common}
-use Rattle.replies.specs.Reply.{listed}
+use Rattle.state.specs.declared.Label.{Label}
+use Rattle.state.specs.declared.Meter.{Meter}
+use Rattle.replies.specs.Reply.{listed, repliedOf}
 use Rattle.gauge.specs.declared.Gauge.{Gauge}
 use Rattle.gauge.specs.Gauge.{GaugeWF}
 use Rattle.gauge.specs.Change.{changedOf}
-use Rattle.gauge.specs.Act.{actOf, replyOf}
+use Rattle.gauge.specs.Act.{canChange, actOf, replyOf}
 use Rattle.gauge.specs.Image.{imageOf}
 use Rattle.record.specs.declared.Form.the-variants.{Short, Long}
 use Rattle.record.specs.declared.Kind.{Kind}
@@ -34,6 +36,7 @@ use Rattle.runs.specs.Record.{Rec}
 use Rattle.runs.specs.Run.{Did, silently}
 use Rattle.runs.specs.AnyRecord.{Steps, recordBy}
 use Rattle.tray_record.specs.declared.Tray.{Tray}
+use Rattle.tray_record.specs.declared.Span.{Span}
 use Rattle.tray_record.specs.declared.Found.{Found}
 use Rattle.tray_record.specs.declared.Found.the-variants.{At, Nowhere}
 use Rattle.tray_record.specs.Wire.{andBytes}
@@ -254,6 +257,50 @@ hearersOf rom.Match count = 0
 hearersOf rom.Net33 count = count
 hearersOf rom.Net39 count = count
 hearersOf rom.Quiet count = 0
+
+-- ---- a transaction, as the code carries it out: slot by slot
+
+-- the slots that it reaches
+abbrev pub reachSpan : ℕ → Reach → Span
+reachSpan count (one i) = record { first = i; stop = i + 1 }
+reachSpan count every = record { first = 0; stop = count }
+reachSpan count nobody = record { first = 0; stop = 0 }
+
+-- whether the packs there are selected: all but by a net address read
+abbrev pub selectingOf : Rom → Bool
+selectingOf rom.Skip = true
+selectingOf rom.Match = true
+selectingOf rom.Net33 = false
+selectingOf rom.Net39 = false
+selectingOf rom.Quiet = false
+
+-- whether they can change
+abbrev pub changingOf : Transaction → Bool
+changingOf t = both (selectingOf (t .rom)) (canChange (t .command))
+
+-- the reply of one of them, by its parts
+abbrev pub answerOf : Transaction → Common → Label → Meter → List ℕ
+answerOf t common label meter = repliedOf (selectingOf (t .rom)) common label meter t
+
+-- FFh alone
+abbrev pub lineHigh : Transaction → List ℕ
+lineHigh t = listed (λ i. 0xff) 0 (t .count)
+
+module _ (t : Transaction) where
+  -- the first reply stands at the front of the room as it is, and each further one is ANDed onto it,
+  abbrev pub onLine : Bool → List ℕ → List ℕ → List ℕ
+  onLine true reply room = reply ++ drop (t .count) room
+  onLine false reply room = andBytes room reply
+
+  -- by way of another room
+  abbrev pub besideLine : Bool → List ℕ → List ℕ → List ℕ
+  besideLine true reply scratch = scratch
+  besideLine false reply scratch = reply ++ drop (t .count) scratch
+
+  -- with no slot before the stop there is no reply
+  abbrev pub unheardOf : ℕ → List ℕ → List ℕ
+  unheardOf zero room = lineHigh t ++ drop (t .count) room
+  unheardOf (suc n) room = room
 
 -- ---- what holds of every tray: eight places, of which the first are packs, each well-formed
 

@@ -1,4 +1,4 @@
-// One record of a tray, read; the search over its packs; and a transaction that every pack hears.
+// One record of a tray, read; the search over its packs; and what a transaction does with those that it reaches.
 use bus::Rom;
 use bus::Transaction;
 use gauge::Gauge;
@@ -15,17 +15,15 @@ use state::Profile;
 use state::Tick;
 ghost use mathlib.Core.Path.{_≡_};
 ghost use mathlib.Core.Bool.{true};
-ghost use mathlib.Core.List.{_++_};
 ghost use Prim.Native.Nat.{_≤_, _<_};
-ghost use lib.ListN.{length, drop};
-ghost use Rattle.replies.specs.Reply.{selectedOf};
-ghost use Rattle.gauge.specs.Gauge.{GaugeWF};
-ghost use Rattle.gauge.specs.Act.{actOf, replyOf};
+ghost use lib.ListN.{length};
+ghost use Rattle.state.specs.State.{MeterWF};
 ghost use Rattle.record.specs.Record.{fittedOf};
 ghost use Rattle.runs.specs.AnyRecord.{frontBy};
 ghost use Rattle.tray_record.specs.Wire.{andBytes};
 ghost use Rattle.tray_record.specs.Tray.{emptyTray, TrayWF, searchOf, trayKindOf, aheadOf, acceptedFor, trayAskedAt, isFound, matchedOf, aimedBy};
-ghost use Rattle.tray_record.specs.Tray.{hearersOf, trayReach, packOf, actedAt, actedFirst, wiredFirst, trayActed, trayReply, namedSlot, imageAt};
+ghost use Rattle.tray_record.specs.Tray.{hearersOf, reachBy, trayReach, trayActed, namedSlot, imageAt};
+ghost use Rattle.tray_record.specs.Tray.{reachSpan, selectingOf, changingOf, answerOf, lineHigh, onLine, besideLine, unheardOf};
 
 // The packs on one line, each by its parts; how many there are; and whether the opening is closed.
 pub struct Tray {
@@ -40,6 +38,12 @@ pub struct Tray {
 pub enum Found {
     At(u8),
     Nowhere,
+}
+
+// The slots that a transaction reaches, one after the other: from the first on, before the stop.
+pub struct Span {
+    pub first: u8,
+    pub stop: u8,
 }
 
 // Before the first record.
@@ -225,7 +229,7 @@ fn matched(commons: [Common; 8], count: u8, master: &[u8]) -> Found
     search(commons, count, &master[1..9])
 }
 
-// ---- a transaction that every pack hears
+// ---- replies on one line
 
 // Another reply on the same line.
 fn wire(reply: &[u8], room: &mut [u8])
@@ -239,64 +243,7 @@ fn wire(reply: &[u8], room: &mut [u8])
     }
 }
 
-// A pack that hears a transaction with others: its reply joins theirs at the front of the room.
-fn heard(gauge: Gauge, transaction: Transaction, master: &[u8], room: &mut [u8]) -> Gauge
-    requires { ⌜ GaugeWF gauge ⌝ }
-    requires { ⌜ transaction .count ≤ 256 ⌝ }
-    requires { ⌜ transaction .count ≤ length (now room) ⌝ }
-    ensures { λ r. ⌜ r ≡ actOf gauge transaction (now (master .entry)) ⌝ }
-    ensures replied { λ r. ⌜ now (room .exit) ≡ andBytes (now (room .entry)) (replyOf gauge transaction (now (master .entry))) ⌝ }
-    ensures kept { λ r. ⌜ GaugeWF r ⌝ }
-{
-    let n = transaction.count as usize;
-    let mut reply = [0u8; 256];
-    let after = gauge.transact(transaction, master, &mut reply);
-    wire(&reply[..n], room);
-    after
-}
-
-// Each of the first so many packs carries the transaction out by itself; their replies go to the front of the room as one, FFh where there are none.
-fn first(
-    mut tray: Tray,
-    hearing: u8,
-    transaction: Transaction,
-    master: &[u8],
-    room: &mut [u8],
-) -> Tray
-    requires { ⌜ TrayWF tray × (hearing ≤ tray .count) ⌝ }
-    requires { ⌜ transaction .count ≤ 256 ⌝ }
-    requires { ⌜ transaction .count ≤ length (now room) ⌝ }
-    ensures { λ r. ⌜ r ≡ actedFirst transaction (now (master .entry)) tray hearing ⌝ }
-    ensures replied { λ r. ⌜ now (room .exit)
-        ≡ wiredFirst transaction (now (master .entry)) tray hearing ++ drop (transaction .count) (now (room .entry)) ⌝ }
-    ensures kept { λ r. ⌜ TrayWF r ⌝ }
-{
-    let n = transaction.count as usize;
-    let count = slices::wide(hearing);
-    replies::fill_ones(&mut room[..n]);
-    let mut i = 0;
-    while i < count {
-        let old_common = tray.commons[i];
-        let old_label = tray.labels[i];
-        let old_meter = tray.meters[i];
-        let gauge = Gauge {
-            common: old_common,
-            label: old_label,
-            meter: old_meter,
-        };
-        let after = heard(gauge, transaction, master, room);
-        let common = after.common;
-        let label = after.label;
-        let meter = after.meter;
-        tray.commons[i] = common;
-        tray.labels[i] = label;
-        tray.meters[i] = meter;
-        i += 1;
-    }
-    tray
-}
-
-// ---- a transaction
+// ---- whom a transaction reaches
 
 // The slot that a transaction goes to alone, where a Match finds one.
 fn aimed(rom: Rom, commons: [Common; 8], count: u8, master: &[u8]) -> Found
@@ -326,59 +273,117 @@ fn hearers(rom: Rom, count: u8) -> u8
     }
 }
 
-// It goes to one pack alone, which it selects. Where its command cannot change the pack, this only answers, and the tray stays as it is.
-fn one(mut tray: Tray, slot: u8, transaction: Transaction, master: &[u8], room: &mut [u8]) -> Tray
+// The slots of the packs that hear it.
+pub fn reached(transaction: Transaction, commons: [Common; 8], count: u8, master: &[u8]) -> Span
+    requires { ⌜ count ≤ 8 ⌝ }
+    ensures { λ r. ⌜ r ≡ reachSpan count (reachBy (transaction .rom) (matchedOf commons count (now (master .entry)))) ⌝ }
+    ensures inside { λ r. ⌜ (r .first ≤ r .stop) × (r .stop ≤ count) ⌝ }
+{
+    let rom = transaction.rom;
+    let found = aimed(rom, commons, count, master);
+    match found {
+        Found::At(i) => Span {
+            first: i,
+            stop: i + 1,
+        },
+        Found::Nowhere => Span {
+            first: 0,
+            stop: hearers(rom, count),
+        },
+    }
+}
+
+// Whether these are selected: all but by a net address read.
+fn selecting(rom: Rom) -> bool
+    ensures { λ r. ⌜ r ≡ selectingOf rom ⌝ }
+{
+    match rom {
+        Rom::Match => true,
+        Rom::Net33 => false,
+        Rom::Net39 => false,
+        Rom::Skip => true,
+        Rom::Quiet => false,
+    }
+}
+
+// ---- what those do that it reaches
+
+// Whether they change: where they do not, the tray is not handed on, which would copy it.
+pub fn changing(transaction: Transaction) -> bool
+    ensures { λ r. ⌜ r ≡ changingOf transaction ⌝ }
+{
+    let rom = transaction.rom;
+    let command = transaction.command;
+    numbers::and(selecting(rom), gauge::can_change(command))
+}
+
+// Each changes by itself, and no other.
+pub fn changed(mut tray: Tray, transaction: Transaction, master: &[u8]) -> Tray
     requires { ⌜ TrayWF tray ⌝ }
-    requires { ⌜ slot < 8 ⌝ }
-    requires { ⌜ transaction .count ≤ length (now room) ⌝ }
-    requires { ⌜ selectedOf (packOf tray slot .common .address) transaction (now master) ≡ true ⌝ }
-    ensures { λ r. ⌜ r ≡ actedAt transaction (now (master .entry)) tray slot tray ⌝ }
-    ensures replied { λ r. ⌜ now (room .exit)
-        ≡ replyOf (packOf tray slot) transaction (now (master .entry)) ++ drop (transaction .count) (now (room .entry)) ⌝ }
+    requires { ⌜ changingOf transaction ≡ true ⌝ }
+    ensures { λ r. ⌜ r ≡ trayActed transaction (now (master .entry)) (trayReach tray transaction (now (master .entry))) tray ⌝ }
     ensures kept { λ r. ⌜ TrayWF r ⌝ }
 {
-    let i = slices::wide(slot);
-    let old_common = tray.commons[i];
-    let old_label = tray.labels[i];
-    let old_meter = tray.meters[i];
-    let command = transaction.command;
-    if gauge::can_change(command) {
+    let commons = tray.commons;
+    let span = reached(transaction, commons, tray.count, master);
+    let stop = slices::wide(span.stop);
+    let mut i = slices::wide(span.first);
+    while i < stop {
+        let old_common = tray.commons[i];
+        let old_label = tray.labels[i];
+        let old_meter = tray.meters[i];
         let gauge = Gauge {
             common: old_common,
             label: old_label,
             meter: old_meter,
         };
-        let after = gauge.transact(transaction, master, room);
+        let after = gauge.ran(transaction, master);
         let common = after.common;
         let label = after.label;
         let meter = after.meter;
         tray.commons[i] = common;
         tray.labels[i] = label;
         tray.meters[i] = meter;
-        return tray;
+        i += 1;
     }
-    replies::replied(old_common, old_label, old_meter, transaction, true, room);
     tray
 }
 
-// A transaction: its reply goes to the front of the room, exactly its read count of bytes.
-pub fn transacted(tray: Tray, transaction: Transaction, master: &[u8], room: &mut [u8]) -> Tray
-    requires { ⌜ TrayWF tray ⌝ }
-    requires { ⌜ transaction .count ≤ 256 ⌝ }
+// One of them replies, by its parts: the first in the room itself, each further one by way of a scratch room.
+pub fn heard(
+    common: Common,
+    label: Label,
+    meter: Meter,
+    transaction: Transaction,
+    first: bool,
+    scratch: &mut [u8],
+    room: &mut [u8],
+)
+    requires { ⌜ MeterWF meter ⌝ }
+    requires { ⌜ transaction .count ≤ length (now scratch) ⌝ }
     requires { ⌜ transaction .count ≤ length (now room) ⌝ }
-    ensures { λ r. ⌜ r ≡ trayActed transaction (now (master .entry)) (trayReach tray transaction (now (master .entry))) tray ⌝ }
-    ensures replied { λ r. ⌜ now (room .exit) ≡ trayReply transaction (now (master .entry)) (trayReach tray transaction (now (master .entry)))
-        tray ++ drop (transaction .count) (now (room .entry)) ⌝ }
-    ensures kept { λ r. ⌜ TrayWF r ⌝ }
+    ensures { λ _. ⌜ now (room .exit) ≡ onLine transaction first (answerOf transaction common label meter) (now (room .entry)) ⌝ }
+    ensures aside { λ _. ⌜ now (scratch .exit) ≡ besideLine transaction first (answerOf transaction common label meter) (now (scratch .entry)) ⌝ }
+    ensures bytes { λ _. ⌜ andBytes (lineHigh transaction) (answerOf transaction common label meter) ≡ answerOf transaction common label meter ⌝ }
 {
     let rom = transaction.rom;
-    let commons = tray.commons;
-    let found = aimed(rom, commons, tray.count, master);
-    match found {
-        Found::At(i) => one(tray, i, transaction, master, room),
-        Found::Nowhere => {
-            let hearing = hearers(rom, tray.count);
-            first(tray, hearing, transaction, master, room)
-        }
+    let chosen = selecting(rom);
+    if first {
+        replies::replied(common, label, meter, transaction, chosen, room);
+    } else {
+        let n = transaction.count as usize;
+        replies::replied(common, label, meter, transaction, chosen, scratch);
+        wire(&scratch[..n], room);
+    }
+}
+
+// With no slot before the stop the line stays high.
+pub fn unheard(stop: usize, transaction: Transaction, room: &mut [u8])
+    requires { ⌜ transaction .count ≤ length (now room) ⌝ }
+    ensures { λ _. ⌜ now (room .exit) ≡ unheardOf transaction stop (now (room .entry)) ⌝ }
+{
+    if stop == 0 {
+        let n = transaction.count as usize;
+        replies::fill_ones(&mut room[..n]);
     }
 }

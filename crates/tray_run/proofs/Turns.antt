@@ -1,6 +1,6 @@
 -- What the arms of the match leave of a tray, and of the room.
 use mathlib.Core.Path.{_≡_, refl, sym, ap, subst, _∙_}
-use mathlib.Core.Bool.{true}
+use mathlib.Core.Bool.{true, false}
 use mathlib.Core.List.{List, _++_}
 use Prim.Native.Nat.{ℕ, _+_, _-_, _≤_, _<_}
 use native.Mathlib.Omega.{arith}
@@ -36,10 +36,13 @@ use Rattle.runs.proofs.Fronts.{payloadOf, Ran, Front}
 use Rattle.runs.proofs.Turns as every
 use Rattle.runs.proofs.Turns.{master-part}
 use Rattle.tray_record.specs.declared.Tray.{Tray}
+use Rattle.tray_record.specs.declared.Span.{Span}
 use Rattle.tray_record.specs.Tray.{noGauge, packOf, storedOf, closedOf, packJoined, slotIn, againOf, namedSlot}
-use Rattle.tray_record.specs.Tray.{trayReach, trayActed, trayReply, ofTray, trayDid, TrayWF}
+use Rattle.tray_record.specs.Tray.{trayReach, trayActed, trayReply, reachSpan, changingOf, unheardOf, ofTray, trayDid, TrayWF}
 use Rattle.tray_record.proofs.Laws.{within, set-itself, set-each}
 use Rattle.tray_record.proofs.Hearing.{tray-replying}
+use Rattle.tray_record.proofs.Acting.{reach-idle}
+use Rattle.tray_record.proofs.Answering.{Answering, answering-end, changing-high}
 use Rattle.tray_record.proofs.Fronts.{named-slot}
 use Rattle.tray_record.proofs.Taking.{TrayTaking, tray-taking}
 
@@ -161,6 +164,41 @@ pub sample-by : (raw tick : ℕ) (g : Gauge) → changedOf g (Sample raw tick) �
 unfolding samplingOf
 sample-by raw tick g = refl
 
+-- ---- what a transaction leaves: its reply stands at the front of the room that is left
+
+pub record Transacted (τ : Tray) (room : List ℕ) (used : ℕ) (t : Transaction) (master : List ℕ) (σ : Tray) (after : List ℕ) : Type 0 where
+  pub wf : TrayWF σ
+  pub state : σ ≡ trayActed t master (trayReach τ t master) τ
+  pub rest : after
+      ≡ take used room
+      ++ ((trayReply t master (trayReach τ t master) τ ++ drop (t .count) (part (length room - used) room used)) ++ drop (length room - used) (drop used room))
+
+module _ {τ : Tray} {room : List ℕ} {used : ℕ} {t : Transaction} {master : List ℕ} {σ : Tray} {after : List ℕ} where
+  -- one that changes packs is answered with FFh alone
+  pub transacted-changed : {θ : Tray} {back : List ℕ} → changingOf t ≡ true → TrayWF θ → θ ≡ trayActed t master (trayReach τ t master) τ
+      → back ≡ unheardOf t 0 (part (length room - used) room used)
+      → σ ≡ θ → after ≡ take used room ++ (back ++ drop (length room - used) (drop used room)) → Transacted τ room used t master σ after
+  transacted-changed some w e eb eσ ea = record {
+    wf = subst TrayWF (sym eσ) w;
+    state = eσ ∙ e;
+    rest =
+        ea
+        ∙ ap (λ (b : List ℕ). take used room ++ (b ++ drop (length room - used) (drop used room)))
+        (eb ∙ ap (λ (l : List ℕ). l ++ drop (t .count) (part (length room - used) room used)) (changing-high t τ master some));
+  }
+
+  -- one that does not: those that it reaches have replied
+  pub transacted-read : {span : Span} {stop i : ℕ} {left back : List ℕ} → TrayWF τ → changingOf t ≡ false
+      → span ≡ reachSpan (τ .count) (trayReach τ t master) → stop ≡ span .stop → Answering t τ span (part (length room - used) room used) left i
+      → stop ≤ i → back ≡ unheardOf t stop left
+      → σ ≡ τ → after ≡ take used room ++ (back ++ drop (length room - used) (drop used room)) → Transacted τ room used t master σ after
+  transacted-read w none es e s done eb eσ ea = record {
+    wf = subst TrayWF (sym eσ) w;
+    state = eσ ∙ reach-idle t master τ w none;
+    rest =
+        ea ∙ ap (λ (b : List ℕ). take used room ++ (b ++ drop (length room - used) (drop used room))) (eb ∙ answering-end t τ master es s done e);
+  }
+
 -- ---- the arms
 
 module _ {τ : Tray} {room : List ℕ} {used : ℕ} {l : List ℕ} {r : Record} {σ : Tray} {after : List ℕ} {next line : ℕ}
@@ -205,18 +243,14 @@ module _ {τ : Tray} {room : List ℕ} {used : ℕ} {l : List ℕ} {r : Record} 
         (subst TrayWF (sym e) (record { few = u .few; sizes = u .sizes; packs = u .packs }))
 
   -- a transaction: its master bytes were lent, and the room that is left
-  pub turn-transact : {t : Transaction} {back : List ℕ} {θ : Tray} → Ran ofTray τ (length room - used) l (r .used) (Transact t) →
-      used ≤ length room → TrayWF θ
-      → let m = part (r .used - (4 + t .start)) l (4 + t .start) in θ ≡ trayActed t m (trayReach τ t m) τ
-      → back ≡ trayReply t m (trayReach τ t m) τ ++ drop (t .count) (part (length room - used) room used)
-      → σ ≡ closedOf θ
-      → after ≡ take used room ++ (back ++ drop (length room - used) (drop used room))
-      → next ≡ used + t .count → line ≡ codeOf (r .kind) (r .answer) (t .count) → Turn τ room used l σ after next line
-  turn-transact {t} {back} {θ} x fits v e ea eσ =
+  pub turn-transact : {t : Transaction} {θ : Tray} {back : List ℕ} → Ran ofTray τ (length room - used) l (r .used) (Transact t) → used ≤ length room
+      → Transacted τ room used t (part (r .used - (4 + t .start)) l (4 + t .start)) θ back
+      → σ ≡ closedOf θ → after ≡ back → next ≡ used + t .count → line ≡ codeOf (r .kind) (r .answer) (t .count) → Turn τ room used l σ after next line
+  turn-transact {t} {θ} x fits d eσ eb =
       let m = master-part (r .used) (t .start) l in
       let s : σ ≡ closedOf (trayActed t (masterOf t (payloadOf (r .used) l)) (trayReach τ t (masterOf t (payloadOf (r .used) l))) τ) = eσ
-      ∙ ap closedOf (e ∙ ap (λ (b : List ℕ). trayActed t b (trayReach τ t b) τ) (sym m)) in
-      let b : back ≡ trayReply t (masterOf t (payloadOf (r .used) l)) (trayReach τ t (masterOf t (payloadOf (r .used) l))) τ
-      ++ drop (t .count) (part (length room - used) room used) = rw m ea in
-      every.turn-reply ofTray trayDid did-same TrayWF f (subst TrayWF (sym eσ) (record { few = v .few; sizes = v .sizes; packs = v .packs })) tray-replying
-      x fits s b
+      ∙ ap closedOf (d .state ∙ ap (λ (b : List ℕ). trayActed t b (trayReach τ t b) τ) (sym m)) in
+      let v = d .wf in
+      let w = subst TrayWF (sym eσ) (record { few = v .few; sizes = v .sizes; packs = v .packs }) in
+      every.turn-reply ofTray trayDid did-same TrayWF f w tray-replying x fits s
+      (ap (λ (b : List ℕ). trayReply t b (trayReach τ t b) τ ++ drop (t .count) (part (length room - used) room used)) (sym m)) (eb ∙ d .rest)

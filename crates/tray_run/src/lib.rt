@@ -50,7 +50,8 @@ fn pack_joined(before: Tray, profile: Profile, image: &[u8]) -> Tray
 }
 
 // Records, run from any tray. The match on the event stands in the loop itself, where a slot's parts are taken out and stored back, so that no tray goes
-// through a result but that of an image or a transaction. A record that is cut ends the loop, and is answered behind it.
+// through a result but that of an image or of a transaction that changes packs; those that any other reaches answer in a loop in it, into the room that is
+// left. A record that is cut ends the loop, and is answered behind it.
 pub fn run_on(start: Tray, bytes: &[u8], room: &mut [u8], answers: &mut [u64]) -> Ran
     requires { ⌜ TrayWF start ⌝ }
     requires { ⌜ length (now bytes) ≤ 131072 ⌝ }
@@ -63,6 +64,7 @@ pub fn run_on(start: Tray, bytes: &[u8], room: &mut [u8], answers: &mut [u64]) -
     let mut at = 0;
     let mut used = 0;
     let mut lines = 0;
+    let mut scratch = [0u8; 256];
     while runs::whole(&bytes[at..]) {
         let rest = &bytes[at..];
         let slot = tray_record::slot(rest);
@@ -123,12 +125,34 @@ pub fn run_on(start: Tray, bytes: &[u8], room: &mut [u8], answers: &mut [u64]) -
                 }
                 Event::Transact(transaction) => {
                     let from = 4 + transaction.start as usize;
-                    tray = tray_record::transacted(
-                        tray,
-                        transaction,
-                        &rest[from..end],
-                        &mut room[used..],
-                    );
+                    let master = &rest[from..end];
+                    let left = &mut room[used..];
+                    if tray_record::changing(transaction) {
+                        tray = tray_record::changed(tray, transaction, master);
+                        tray_record::unheard(0, transaction, left);
+                    } else {
+                        let commons = tray.commons;
+                        let span = tray_record::reached(transaction, commons, tray.count, master);
+                        let stop = slices::wide(span.stop);
+                        let mut i = slices::wide(span.first);
+                        while i < stop {
+                            let common = tray.commons[i];
+                            let label = tray.labels[i];
+                            let meter = tray.meters[i];
+                            let fresh = i == slices::wide(span.first);
+                            tray_record::heard(
+                                common,
+                                label,
+                                meter,
+                                transaction,
+                                fresh,
+                                &mut scratch,
+                                left,
+                            );
+                            i += 1;
+                        }
+                        tray_record::unheard(stop, transaction, left);
+                    }
                     tray.closed = true;
                     used = used + (transaction.count as usize);
                     line = runs::code(first.kind, first.answer, transaction.count);
