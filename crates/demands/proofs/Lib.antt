@@ -58,6 +58,7 @@ pub mod Cycles
 pub mod Functions
 pub mod NoSlack
 pub mod Crc
+pub mod MeaningEdges
 pub mod Stepwise
 pub mod Edges
 pub mod Theorems
