@@ -7,7 +7,7 @@ use native.Mathlib.Omega.{arith}
 use lib.ListN.{length, getD, take, drop, set, length-set, length-drop, drop-of-length-le, take-append-drop}
 use lib.Seq.{getD-set-other, getD-take, getD-drop, length-take-le}
 use Rattle.slices.specs.Slices.{part, put}
-use Rattle.slices.proofs.Laws.{put-more, put-front, put-length}
+use Rattle.slices.proofs.Laws.{put-more, put-front}
 use Rattle.streams.specs.Streams.{RestKept}
 
 -- what is moved

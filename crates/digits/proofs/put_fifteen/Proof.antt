@@ -1,5 +1,4 @@
 -- `digits::put_fifteen` meets its contract.
-use Prim.Native.Nat.{_/_}
 use native.Mathlib.Omega.{arith}
 use Rattle.digits.proofs.Laws.{then, wider, fives-short, fives-long, decimal-short}
 use borrow.Author.Needs.{needs}

@@ -3,7 +3,6 @@ use Prim.Native.Nat.{_+_, _-_}
 use native.Mathlib.Omega.{arith}
 use denote.Ref.{now}
 use Rattle.streams.proofs.Moving.{Moving, moving, stays, move-more, moved-all}
-use borrow.Author.Needs.{needs}
 use Rattle.streams.proofs.keep_rest.Statement.{statement}
 use Rattle.streams.proofs.keep_rest.Tie as tie
 
