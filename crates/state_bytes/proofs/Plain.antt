@@ -1,13 +1,13 @@
 -- A value is written as the bytes that it was read from exactly where each flag among them is 0 or 1.
 use mathlib.Core.Path.{_≡_, refl, sym, ap, _∙_}
 use mathlib.Core.Bool.{Bool, true, false}
-use mathlib.Core.List.{List, [], _∷_, _++_}
+use mathlib.Core.List.{List, [], _∷_, _++_, map}
 use Prim.Native.Nat.{ℕ, zero, suc, _+_, _*_, _/_, _%_, _≤_, _<_}
 use native.Mathlib.Nat.{add-zero}
 use native.Mathlib.Numerals.{add-one}
 use native.Mathlib.Omega.{arith}
 use borrow.Author.Tests.{eq-eqb, ne-eqb, le-ltb}
-use lib.Dec.{eqb, ltb}
+use lib.Dec.{eqb, leb, ltb}
 use lib.ListN.{length, getD, take, drop, length-append, length-drop}
 use lib.Seq.{drop-cons, drop-drop, take-add, take-all}
 use Rattle.numbers.specs.Choice.{pick, both}
@@ -18,14 +18,17 @@ use Rattle.bus.proofs.Laws.{equal-same}
 use Rattle.runs.proofs.Records.{Bytes}
 use Rattle.state.specs.declared.Profile.{Profile}
 use Rattle.state.specs.State.{countsCycles}
+use Rattle.gauge.specs.declared.Gauge.{Gauge}
 use Rattle.state_bytes.specs.Layout.{Layout, number1, number2, number4, flag, flagByte, flagIn, bytes, plainAt, _then_, Fields, formed}
-use Rattle.state_bytes.specs.State.{stateSize, stateBytes, sessionAt, flagPlaces, frontFlags, middleFlags, endFlags, profileIn, sessionLayout}
+use Rattle.state_bytes.specs.Layout.{indexed, chained, outEach, repeated}
+use Rattle.state_bytes.specs.State.{stateSize, stateBytes, sessionAt, flagPlaces, profileIn, sessionLayout}
 use Rattle.state_bytes.specs.State.{savedFields, savedLayout, profileFields, profileLayout, locksFields, locksLayout, chargeFields, chargeLayout}
 use Rattle.state_bytes.specs.State.{cyclesFields, cyclesLayout, traceFields, traceLayout, sinceFields, sinceLayout, averageFields, averageLayout}
 use Rattle.state_bytes.specs.State.{tickFields, tickLayout, flowFields, flowLayout, modelFields, modelLayout, resultsFields, resultsLayout}
 use Rattle.state_bytes.specs.State.{readingFields, readingLayout, flagsFields, flagsLayout, shownFields, shownLayout, blockFields, blockLayout}
 use Rattle.state_bytes.specs.State.{cellsFields, cellsLayout, meterFields, meterLayout, labelFields, labelLayout, commonFields, commonLayout}
-use Rattle.state_bytes.specs.State.{gaugeFields, gaugeLayout, sessionFields}
+use Rattle.state_bytes.specs.State.{gaugeFields, gaugeLayout, sessionFields, soundMeter}
+use Rattle.state_bytes.specs.TrayState.{trayFields, trayLayout, soundEach, soundTray, trayVersion, trayStateSize, trayStateBytes, trayAt, soundPlaces}
 
 both-in-turn : (x y z : Bool) → both (both x y) z ≡ both x (both y z)
 both-in-turn true y z = refl
@@ -136,11 +139,16 @@ module _ {A B : Type 0} {a : Layout A} {b : Layout B} where
         ∙ sym (plain-both s (a .flagsFrom i) (b .flagsFrom (i + a .size)));
   }
 
-of-fields : {A B : Type 0} {a : Layout A} (form : Fields A B) → ((v : A) → form .from (form .to v) ≡ v) → Exact a → Exact (formed form a)
-of-fields {a = a} form undo f = record {
-  long = λ s i h. ap (λ v. length (a .out v)) (undo (a .at s i)) ∙ f .long s i h;
-  same = λ s i bytes h. ap (λ v. sameBytes (a .out v) (part (a .size) s i)) (undo (a .at s i)) ∙ f .same s i bytes h;
+-- a struct whose fields are given back, of what is read
+of-read : {A B : Type 0} {a : Layout A} (form : Fields A B) → ((s : List ℕ) (i : ℕ) → form .from (form .to (a .at s i)) ≡ a .at s i) → Exact a
+    → Exact (formed form a)
+of-read {a = a} form undo f = record {
+  long = λ s i h. ap (λ v. length (a .out v)) (undo s i) ∙ f .long s i h;
+  same = λ s i bytes h. ap (λ v. sameBytes (a .out v) (part (a .size) s i)) (undo s i) ∙ f .same s i bytes h;
 }
+
+of-fields : {A B : Type 0} {a : Layout A} (form : Fields A B) → ((v : A) → form .from (form .to v) ≡ v) → Exact a → Exact (formed form a)
+of-fields {a = a} form undo f = of-read form (λ s i. undo (a .at s i)) f
 
 -- ---- of each struct
 
@@ -223,7 +231,107 @@ written-plain b size v bytes =
     drop-cons b 0 0 (omega (arith, size)) ∙ (λ k. v k ∷ sym (take-all 171 (drop 1 b) (omega (arith, length-drop 1 b, size))) k) in
     ap (sameBytes (1 ∷ sessionLayout .out (sessionLayout .at b 1))) whole ∙ session .same b 1 bytes (omega (arith, size))
 
--- the three tests
-pub plain-three : (b : List ℕ) → both (plainAt b frontFlags) (both (plainAt b middleFlags) (plainAt b endFlags)) ≡ plainAt b flagPlaces
-plain-three b =
-    ap (both (plainAt b frontFlags)) (sym (plain-both b middleFlags endFlags)) ∙ sym (plain-both b frontFlags (middleFlags ++ endFlags))
+-- the flags of a meter, by its parts
+pub plain-meter : (s : List ℕ) (i : ℕ) →
+    both (plainAt s (cellsLayout .flagsFrom i))
+    (both (plainAt s (chargeLayout .flagsFrom (i + 71)))
+    (both (plainAt s (flowLayout .flagsFrom (i + 71 + 11))) (plainAt s (shownLayout .flagsFrom (i + 71 + 11 + 21 + 5)))))
+    ≡ plainAt s (meterLayout .flagsFrom i)
+plain-meter s i =
+    let cells = cellsLayout .flagsFrom i in
+    let charge = chargeLayout .flagsFrom (i + 71) in
+    let flow = flowLayout .flagsFrom (i + 71 + 11) in
+    let shown = shownLayout .flagsFrom (i + 71 + 11 + 21 + 5) in
+    ap (λ (b : Bool). both (plainAt s cells) (both (plainAt s charge) b)) (sym (plain-both s flow shown))
+    ∙ ap (both (plainAt s cells)) (sym (plain-both s charge (flow ++ shown)))
+    ∙ sym (plain-both s cells (charge ++ (flow ++ shown)))
+
+-- ---- of a tray: so many places
+
+module _ (s : List ℕ) (i : ℕ) where
+  abbrev placed : ℕ → Gauge
+  placed j = gaugeLayout .at s (i + j * 170)
+
+  abbrev flagged : ℕ → List ℕ
+  flagged j = gaugeLayout .flagsFrom (i + j * 170)
+
+  places-long : (k n : ℕ) → i + (k + n) * 170 ≤ length s → length (outEach gaugeLayout (indexed placed k n)) ≡ n * 170
+  places-long k zero h = refl
+  places-long k (suc n) h =
+      let here = gauge .long s (i + k * 170) (omega arith) in
+      let rest = places-long (k + 1) n (omega arith) in
+      omega (arith, length-append (gaugeLayout .out (placed k)) (outEach gaugeLayout (indexed placed (k + 1) n)), here, rest)
+
+  places-same : Bytes s → (k n : ℕ) → i + (k + n) * 170 ≤ length s
+      → sameBytes (outEach gaugeLayout (indexed placed k n)) (part (n * 170) s (i + k * 170)) ≡ plainAt s (chained (indexed flagged k n))
+  places-same bytes k zero h = refl
+  places-same bytes k (suc n) h =
+      let x = gaugeLayout .out (placed k) in
+      let y = outEach gaugeLayout (indexed placed (k + 1) n) in
+      let size : suc n * 170 ≡ 170 + n * 170 = omega arith in
+      let next : i + k * 170 + 170 ≡ i + (k + 1) * 170 = omega arith in
+      let even = gauge .long s (i + k * 170) (omega arith) ∙ sym (part-length 170 s (i + k * 170) (omega arith)) in
+      let first = gauge .same s (i + k * 170) bytes (omega arith) in
+      let rest = places-same bytes (k + 1) n (omega arith) in
+      ap (λ (m : ℕ). sameBytes (x ++ y) (part m s (i + k * 170))) size
+      ∙ ap (sameBytes (x ++ y)) (part-joined 170 (n * 170) s (i + k * 170))
+      ∙ ap (λ (m : ℕ). sameBytes (x ++ y) (part 170 s (i + k * 170) ++ part (n * 170) s m)) next
+      ∙ same-both x y (part 170 s (i + k * 170)) (part (n * 170) s (i + (k + 1) * 170)) even
+      ∙ (λ t. both (first t) (rest t))
+      ∙ sym (plain-both s (flagged k) (chained (indexed flagged (k + 1) n)))
+
+eight-places : Exact (repeated 8 gaugeLayout)
+eight-places = record {
+  long = λ s i h. places-long s i 0 8 (omega arith);
+  same = λ s i bytes h.
+      let first : i ≡ i + 0 * 170 = omega arith in
+      ap (λ (m : ℕ). sameBytes (outEach gaugeLayout (indexed (placed s i) 0 8)) (part 1360 s m)) first ∙ places-same s i bytes 0 8 (omega arith);
+}
+
+tray : Exact trayLayout
+tray = of-read trayFields (λ s i. refl) (behind one (behind bit eight-places))
+
+tray-written-plain : (b : List ℕ) → length b ≡ trayStateSize → getD b 0 0 ≡ trayVersion → Bytes b
+    → sameBytes (trayStateBytes (trayAt b)) b ≡ plainAt b (trayLayout .flagsFrom 1)
+unfolding trayStateBytes trayAt
+tray-written-plain b size v bytes =
+    let whole : b ≡ trayVersion ∷ part 1362 b 1 =
+    drop-cons b 0 0 (omega (arith, size)) ∙ (λ k. v k ∷ sym (take-all 1362 (drop 1 b) (omega (arith, length-drop 1 b, size))) k) in
+    ap (sameBytes (trayVersion ∷ trayLayout .out (trayLayout .at b 1))) whole ∙ tray .same b 1 bytes (omega (arith, size))
+
+-- what the code tests of each place is what the definition tests of all meters and of all flags
+in-pairs : (a b c d : Bool) → both (both a b) (both c d) ≡ both (both a c) (both b d)
+in-pairs true true c d = refl
+in-pairs true false true d = refl
+in-pairs true false false d = refl
+in-pairs false b c d = refl
+
+places-split : (b : List ℕ) (k n : ℕ) → soundPlaces b k n
+    ≡ both (soundEach (map (λ (g : Gauge). g .meter) (indexed (placed b 3) k n))) (plainAt b (chained (indexed (flagged b 3) k n)))
+places-split b k zero = refl
+places-split b k (suc n) =
+    let m = soundMeter (placed b 3 k .meter) in
+    let p = plainAt b (flagged b 3 k) in
+    let ms = soundEach (map (λ (g : Gauge). g .meter) (indexed (placed b 3) (k + 1) n)) in
+    let ps = plainAt b (chained (indexed (flagged b 3) (k + 1) n)) in
+    ap (both (both m p)) (places-split b (k + 1) n)
+    ∙ in-pairs m p ms ps
+    ∙ ap (both (both m ms)) (sym (plain-both b (flagged b 3 k) (chained (indexed (flagged b 3) (k + 1) n))))
+
+in-turn : (a b c d : Bool) → both a (both b (both c d)) ≡ both (both a c) (both b d)
+in-turn true true c d = refl
+in-turn true false true d = refl
+in-turn true false false d = refl
+in-turn false b c d = refl
+
+pub tray-tested : (b : List ℕ) → length b ≡ trayStateSize → getD b 0 0 ≡ trayVersion → Bytes b
+    → both (leb (getD b 1 0) 8) (both (ltb (getD b 2 0) 2) (soundPlaces b 0 8)) ≡ both (soundTray (trayAt b)) (sameBytes (trayStateBytes (trayAt b)) b)
+unfolding soundTray trayAt
+tray-tested b size v bytes =
+    let few = leb (getD b 1 0) 8 in
+    let closed = ltb (getD b 2 0) 2 in
+    let sound = soundEach (map (λ (g : Gauge). g .meter) (indexed (placed b 3) 0 8)) in
+    let plain = plainAt b (chained (indexed (flagged b 3) 0 8)) in
+    ap (λ (x : Bool). both few (both closed x)) (places-split b 0 8)
+    ∙ in-turn few closed sound plain
+    ∙ ap (both (both few sound)) (sym (tray-written-plain b size v bytes))

@@ -1,11 +1,12 @@
 -- Laws of a tray's eight places: stored one after the other, and tested one after the other.
 use mathlib.Core.Path.{_≡_, refl, sym, ap, subst, _∙_}
 use mathlib.Core.Bool.{Bool, true, false}
-use mathlib.Core.List.{List, [], _∷_}
-use Prim.Native.Nat.{ℕ, zero, suc, _+_, _*_, _≤_, _<_}
+use mathlib.Core.List.{List}
+use Prim.Native.Nat.{ℕ, zero, suc, _+_, _-_, _*_, _≤_, _<_}
 use native.Mathlib.Omega.{arith}
 use native.Mathlib.Numerals.{add-one}
-use lib.ListN.{length, getD, drop}
+use lib.ListN.{length, getD}
+use Rattle.numbers.specs.Choice.{both}
 use Rattle.slices.specs.Slices.{Stored}
 use Rattle.slices.proofs.Laws.{put-length}
 use Rattle.state.specs.declared.Common.{Common}
@@ -16,8 +17,8 @@ use Rattle.tray_record.specs.declared.Tray.{Tray}
 use Rattle.tray_record.specs.Tray.{emptyTray, packOf, storedOf}
 use Rattle.tray_record.proofs.Laws.{pack-at}
 use Rattle.state_bytes.specs.Layout.{indexed, outEach}
-use Rattle.state_bytes.specs.State.{gaugeLayout, soundMeter}
-use Rattle.state_bytes.specs.TrayState.{trayFields, soundEach}
+use Rattle.state_bytes.specs.State.{gaugeLayout}
+use Rattle.state_bytes.specs.TrayState.{trayFields, soundPlace, soundPlaces}
 use Rattle.state_bytes.proofs.Laws.{stored-next}
 
 -- ---- out: one place more
@@ -78,27 +79,21 @@ unfolding filled
 filled-all count f e ec =
     λ i. filled (record { count = count; closed = ec i; commons = e i .commons; labels = e i .labels; meters = e i .meters }) f 8
 
--- ---- the test of each meter
+-- ---- the test of each place
 
-from-here : {A : Type 0} (l : List A) (i : ℕ) (d : A) → i < length l → drop i l ≡ getD l i d ∷ drop (i + 1) l
-from-here [] i d h = absurd (omega arith)
-from-here (x ∷ l) zero d h = refl
-from-here (x ∷ l) (suc i) d h =
-    let e : suc i + 1 ≡ suc (i + 1) = omega arith in
-    from-here l i d (omega arith) ∙ ap (λ (n : ℕ). getD l i d ∷ drop n (x ∷ l)) (sym e)
+module _ (b : List ℕ) (i : ℕ) (low : i < 8) (so-far : soundPlaces b i (8 - i) ≡ soundPlaces b 0 8) where
+  from-here : soundPlaces b i (8 - i) ≡ both (soundPlace b (3 + i * 170)) (soundPlaces b (i + 1) (8 - (i + 1)))
+  from-here =
+      let e : 8 - i ≡ suc (8 - (i + 1)) = omega arith in
+      ap (soundPlaces b i) e
 
-past-all : {A : Type 0} (l : List A) (i : ℕ) → length l ≤ i → drop i l ≡ []
-past-all [] zero h = refl
-past-all [] (suc i) h = refl
-past-all (x ∷ l) zero h = absurd (omega arith)
-past-all (x ∷ l) (suc i) h = past-all l i (omega arith)
+  pub sound-more : soundPlace b (3 + i * 170) ≡ true → soundPlaces b (i + 1) (8 - (i + 1)) ≡ soundPlaces b 0 8
+  sound-more e = (rw e at (sym from-here)) ∙ so-far
 
-module _ (ms : List Meter) (i : ℕ) (so-far : soundEach (drop i ms) ≡ soundEach ms) where
-  pub sound-more : (d : Meter) → i < length ms → soundMeter (getD ms i d) ≡ true → soundEach (drop (i + 1) ms) ≡ soundEach ms
-  sound-more d h e = (rw e at (ap soundEach (sym (from-here ms i d h)))) ∙ so-far
+  pub sound-fails : soundPlace b (3 + i * 170) ≡ false → false ≡ soundPlaces b 0 8
+  sound-fails e = (rw e at (sym from-here)) ∙ so-far
 
-  pub sound-fails : (d : Meter) → i < length ms → soundMeter (getD ms i d) ≡ false → false ≡ soundEach ms
-  sound-fails d h e = (rw e at (ap soundEach (sym (from-here ms i d h)))) ∙ so-far
-
-  pub sound-ends : length ms ≤ i → true ≡ soundEach ms
-  sound-ends h = sym (ap soundEach (past-all ms i h)) ∙ so-far
+pub sound-ends : (b : List ℕ) (i : ℕ) → 8 ≤ i → soundPlaces b i (8 - i) ≡ soundPlaces b 0 8 → true ≡ soundPlaces b 0 8
+sound-ends b i h so-far =
+    let e : 8 - i ≡ 0 = omega arith in
+    sym (ap (soundPlaces b i) e) ∙ so-far

@@ -1,5 +1,5 @@
 -- A step by the state bytes of a tray, from what reading them, the step and writing leave.
-use mathlib.Core.Path.{_≡_, sym, ap, subst, _∙_}
+use mathlib.Core.Path.{_≡_, refl, sym, ap, subst, _∙_}
 use mathlib.Core.Bool.{Bool}
 use mathlib.Core.List.{List}
 use Prim.Native.Nat.{ℕ}
@@ -65,3 +65,9 @@ module _ {state bytes room : List ℕ} {held : TrayStateIn} (h : held ≡ traySt
         kept = sym (ap (λ (b : Bool). pick b (put state 0 (trayStateBytes (d .state))) state) t);
         written = sym (ap (λ (b : Bool). pick b (put room 0 (d .reply)) room) t);
       }
+
+-- the same, of the number alone
+pub tray-stepped-number : {state bytes room : List ℕ} {number : ℕ} → number ≡ trayStateIn state .number → (number ≡ 0 → ⊥)
+    → TrayStateStepped state bytes room (record { number = number; answer = 0; replied = 0 }) state room
+tray-stepped-number {state} {bytes} {room} e z =
+    rw e (tray-stepped-none {held = trayStateIn state} refl (λ h. z (e ∙ h)))

@@ -1,12 +1,12 @@
 -- Out and in of a tray's state undo each other.
-use mathlib.Core.Path.{_≡_, refl, sym, ap, _∙_}
+use mathlib.Core.Path.{_≡_, refl, sym, ap, subst, _∙_}
 use mathlib.Core.Bool.{Bool, true, false}
 use mathlib.Core.List.{List, [], _∷_, map}
 use Prim.Native.Nat.{ℕ, zero, suc, _+_, _*_, _<_}
 use native.Mathlib.Omega.{arith}
 use borrow.Author.Tests.{eq-eqb, ne-eqb, eqb-true, le-leb, leb-true}
 use lib.Dec.{eqb, leb}
-use lib.ListN.{length, getD}
+use lib.ListN.{length, getD, replicate}
 use lib.Seq.{take-all}
 use Rattle.numbers.specs.Choice.{pick, both}
 use Rattle.numbers.proofs.Bounds.{both-true}
@@ -20,7 +20,8 @@ use Rattle.gauge.specs.Gauge.{GaugeWF, Sized, Uncounted}
 use Rattle.gauge.specs.Image.{imageOf}
 use Rattle.gauge.proofs.Reached.{image-sized, image-uncounted}
 use Rattle.tray_record.specs.declared.Tray.{Tray}
-use Rattle.tray_record.specs.Tray.{noGauge, packOf, TrayWF}
+use Rattle.tray_record.specs.Tray.{noGauge, emptyTray, packOf, TrayWF}
+use Rattle.tray_record.proofs.Laws.{empty-wf}
 use Rattle.state_bytes.specs.declared.TrayStateIn.{TrayStateIn}
 use Rattle.state_bytes.specs.Layout.{_then_, indexed}
 use Rattle.state_bytes.specs.State.{gaugeLayout, soundMeter}
@@ -65,7 +66,7 @@ tray =
 
 -- ---- well-formed, and the test of it
 
-no-gauge-wf : GaugeWF noGauge
+pub no-gauge-wf : GaugeWF noGauge
 unfolding imageOf
 no-gauge-wf = record { meter = power-wf _ (omega arith) }
 
@@ -77,6 +78,26 @@ no-gauge-uncounted = image-uncounted Ds2781 _
 
 no-gauge-sound : soundMeter (noGauge .meter) ≡ true
 no-gauge-sound = meter-sound (noGauge .meter) (no-gauge-wf .meter) no-gauge-uncounted
+
+-- a tray without packs
+one-of-same : {A : Type 0} (n i : ℕ) (x : A) → getD (replicate n x) i x ≡ x
+one-of-same zero i x = refl
+one-of-same (suc n) zero x = refl
+one-of-same (suc n) (suc i) x = one-of-same n i x
+
+no-pack : (i : ℕ) → noGauge ≡ packOf emptyTray i
+no-pack i j = record {
+  common = sym (one-of-same 8 i (noGauge .common)) j;
+  label = sym (one-of-same 8 i (noGauge .label)) j;
+  meter = sym (one-of-same 8 i (noGauge .meter)) j;
+}
+
+pub empty-tray-good : TrayStateWF emptyTray
+empty-tray-good = record {
+  wf = empty-wf no-gauge-wf;
+  sized = λ i. subst Sized (no-pack i) no-gauge-sized;
+  uncounted = λ i. subst Uncounted (no-pack i) no-gauge-uncounted;
+}
 
 sound-each : (d : Meter) → soundMeter d ≡ true → (ms : List Meter) → soundEach ms ≡ true → (i : ℕ) → soundMeter (getD ms i d) ≡ true
 sound-each d s [] e i = s
@@ -173,6 +194,32 @@ passed b e =
       same = same-equal (trayStateBytes (trayAt b)) b (both-hold .1);
       read = rw (h .0, h .1, h .2) refl;
     }
+
+-- what is read of bytes that are a tray, and of others
+pub tray-read-held : (b : List ℕ) → trayStateIn b .number ≡ 0 → record { number = 0; tray = trayAt b } ≡ trayStateIn b
+tray-read-held b e = sym (passed b e .read)
+
+none-by : (x y z : Bool) (τ : Tray)
+    → ((pick x (pick y (pick z (record { number = 0; tray = τ }) (noTrayState 52)) (noTrayState 51)) (noTrayState 50)) .number ≡ 0 → ⊥)
+    → noTrayState ((pick x (pick y (pick z (record { number = 0; tray = τ }) (noTrayState 52)) (noTrayState 51)) (noTrayState 50)) .number)
+    ≡ pick x (pick y (pick z (record { number = 0; tray = τ }) (noTrayState 52)) (noTrayState 51)) (noTrayState 50)
+none-by true true true τ h = absurd (h refl)
+none-by true true false τ h = refl
+none-by true false z τ h = refl
+none-by false y z τ h = refl
+
+pub tray-read-none : (b : List ℕ) → (trayStateIn b .number ≡ 0 → ⊥) → noTrayState (trayStateIn b .number) ≡ trayStateIn b
+unfolding trayStateIn
+tray-read-none b = none-by (eqb (length b) trayStateSize) (eqb (getD b 0 0) trayVersion) (trayTold b) (trayAt b)
+
+-- the number by the tests, in their order
+pub tray-number-by : (b : List ℕ) → length b ≡ trayStateSize → getD b 0 0 ≡ trayVersion → {t : Bool} → t ≡ trayTold b
+    → pick t 0 52 ≡ trayStateIn b .number
+tray-number-by b size v {t} e = by t e
+  where
+    by : (t : Bool) → t ≡ trayTold b → pick t 0 52 ≡ trayStateIn b .number
+    by true e = ap (λ (x : TrayStateIn). x .number) (tray-in-state b size v (sym e))
+    by false e = ap (λ (x : TrayStateIn). x .number) (tray-in-none b size v (sym e))
 
 -- bytes that are a tray are as many
 pub tray-in-size : (b : List ℕ) → trayStateIn b .number ≡ 0 → length b ≡ trayStateSize

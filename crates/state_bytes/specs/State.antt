@@ -31,10 +31,11 @@ use Rattle.state.specs.declared.Tick.{Tick}
 use Rattle.state.specs.declared.Trace.{Trace}
 use Rattle.state.specs.State.{countsCycles, runOf}
 use Rattle.gauge.specs.declared.Gauge.{Gauge}
+use Rattle.gauge.specs.Gauge.{GaugeWF}
 use Rattle.runs.specs.declared.Session.{Session}
 use Rattle.runs.specs.Record.{recOf}
 use Rattle.runs.specs.Run.{Did}
-use Rattle.runs.specs.SessionRecord.{didOf}
+use Rattle.runs.specs.SessionRecord.{loadedWith, didOf}
 use Rattle.session_run.specs.SessionRun.{emptyOf}
 use Rattle.state_bytes.specs.declared.StateIn.{StateIn}
 use Rattle.state_bytes.specs.declared.StateStep.{StateStep}
@@ -299,16 +300,6 @@ sessionAt b = sessionLayout .at b 1
 abbrev pub flagPlaces : List ℕ
 flagPlaces = sessionLayout .flagsFrom 1
 
--- those ahead of the blocks, of the charge and the flow, and from the tick on
-abbrev pub frontFlags : List ℕ
-frontFlags = 1 ∷ 42 ∷ 47 ∷ 48 ∷ 49 ∷ []
-
-abbrev pub middleFlags : List ℕ
-middleFlags = 119 ∷ 120 ∷ 125 ∷ 130 ∷ 131 ∷ 140 ∷ []
-
-abbrev pub endFlags : List ℕ
-endFlags = 143 ∷ 167 ∷ 168 ∷ 169 ∷ 170 ∷ 171 ∷ []
-
 -- no state: the number of the refusal, and the state before the first record
 abbrev pub noState : ℕ → StateIn
 noState number = record { number = number; session = emptyOf }
@@ -330,6 +321,11 @@ pub record StateOut (σ : Session) (room : List ℕ) (done : Bool) (after : List
   pub written : after ≡ pick (leb stateSize (length room)) (put room 0 (stateBytes σ)) room
 
 -- ---- a step by state bytes
+
+-- the room of a state got that of another gauge, whose image was accepted
+pub record Became (state : List ℕ) (gauge : Gauge) (after : List ℕ) : Type 0 where
+  pub written : after ≡ put state 0 (stateBytes (loadedWith gauge))
+  pub wf : GaugeWF gauge
 
 module _ (state bytes room : List ℕ) where
   abbrev pub heldIn : Bool

@@ -2,7 +2,7 @@
 use mathlib.Core.Path.{_≡_}
 use mathlib.Core.Bool.{Bool, true}
 use mathlib.Core.List.{List, [], _∷_, map}
-use Prim.Native.Nat.{ℕ, _+_}
+use Prim.Native.Nat.{ℕ, zero, suc, _+_, _*_}
 use lib.Dec.{eqb, leb}
 use lib.ListN.{length, getD}
 use Rattle.numbers.specs.Choice.{pick, both}
@@ -16,7 +16,7 @@ use Rattle.tray_record.specs.declared.Tray.{Tray}
 use Rattle.tray_record.specs.Tray.{emptyTray, packOf, trayDid}
 use Rattle.state_bytes.specs.declared.StateStep.{StateStep}
 use Rattle.state_bytes.specs.declared.TrayStateIn.{TrayStateIn}
-use Rattle.state_bytes.specs.Layout.{Layout, number1, flag, indexed, outEach, repeated, _then_, Fields, formed}
+use Rattle.state_bytes.specs.Layout.{Layout, number1, flag, plainAt, indexed, outEach, repeated, _then_, Fields, formed}
 use Rattle.state_bytes.specs.State.{gaugeLayout, soundMeter}
 
 -- ---- the layout
@@ -67,6 +67,14 @@ trayStateBytes tray = trayVersion ∷ trayLayout .out tray
 
 unfoldable pub trayAt : List ℕ → Tray
 trayAt b = trayLayout .at b 1
+
+-- the same of the gauges that stand at so many places from i on, and that their flags are 0 or 1: what the code tests
+abbrev pub soundPlace : List ℕ → ℕ → Bool
+soundPlace b at = both (soundMeter (gaugeLayout .at b at .meter)) (plainAt b (gaugeLayout .flagsFrom at))
+
+abbrev pub soundPlaces : List ℕ → ℕ → ℕ → Bool
+soundPlaces b i zero = true
+soundPlaces b i (suc n) = both (soundPlace b (3 + i * 170)) (soundPlaces b (i + 1) n)
 
 -- no tray: the number of the refusal, and the tray before the first record
 abbrev pub noTrayState : ℕ → TrayStateIn

@@ -1,5 +1,10 @@
 // The state as bytes, out and in, of a session and of a tray: `gaugeLayout` and those below it, in code.
+use bus::Transaction;
 use gauge::Gauge;
+use record::Change;
+use record::Event;
+use runs::Asked;
+use runs::Record;
 use runs::Session;
 use state::Average;
 use state::Block;
@@ -23,20 +28,25 @@ use state::Tick;
 use state::Trace;
 use tray_record::Tray;
 ghost use mathlib.Core.Path.{_≡_};
+ghost use mathlib.Core.List.{_++_};
 ghost use Prim.Native.Nat.{_+_, _≤_, _<_};
-ghost use lib.ListN.{length, getD};
-ghost use Rattle.slices.specs.Slices.{Stored};
+ghost use lib.ListN.{length, getD, drop};
+ghost use Rattle.numbers.specs.Choice.{pick};
+ghost use Rattle.slices.specs.Slices.{put, Stored};
 ghost use Rattle.state.specs.State.{countsCycles};
-ghost use Rattle.bus.specs.Ask.{sameBytes};
-ghost use Rattle.runs.specs.SessionRecord.{SessionWF};
+ghost use Rattle.gauge.specs.Gauge.{GaugeWF};
+ghost use Rattle.gauge.specs.Change.{changedOf};
+ghost use Rattle.gauge.specs.Act.{canChange, actOf, replyOf};
+ghost use Rattle.runs.specs.AnyRecord.{frontBy};
+ghost use Rattle.runs.specs.SessionRecord.{SessionWF, loadedWith, ofSession};
 ghost use Rattle.tray_record.specs.Tray.{TrayWF};
 ghost use Rattle.state_bytes.specs.Layout.{flagByte, flagIn, plainAt};
 ghost use Rattle.state_bytes.specs.State.{profileIn, cellsLayout, chargeLayout, cyclesLayout, flowLayout, shownLayout, traceLayout, averageLayout};
 ghost use Rattle.state_bytes.specs.State.{resultsLayout, flagsLayout, meterLayout, gaugeLayout, labelLayout, commonLayout, headBytes};
 ghost use Rattle.state_bytes.specs.State.{fromCycles, fromFlow, fromCharge};
-ghost use Rattle.state_bytes.specs.State.{sessionAt, stateBytes, flagPlaces, frontFlags, middleFlags, endFlags, noState, stateIn, StateStepped};
-ghost use Rattle.state_bytes.specs.State.{soundCharge, soundAverage, soundShown, uncountedBy, soundMeter, StateOut};
-ghost use Rattle.state_bytes.specs.TrayState.{packsOut, trayAt, trayStateBytes, soundEach, soundTray, noTrayState, trayStateIn};
+ghost use Rattle.state_bytes.specs.State.{sessionAt, stateBytes, noState, stateIn, StateStepped};
+ghost use Rattle.state_bytes.specs.State.{Became, soundCharge, soundAverage, soundShown, uncountedBy, soundMeter, StateOut};
+ghost use Rattle.state_bytes.specs.TrayState.{packsOut, trayAt, trayStateBytes, soundPlaces, noTrayState, trayStateIn};
 ghost use Rattle.state_bytes.specs.TrayState.{TrayStateOut, TrayStateStepped};
 
 // ---- in
@@ -505,80 +515,98 @@ fn uncounted(profile: Profile, cycles: Cycles, saved: u8) -> bool
     )
 }
 
-fn sound(meter: Meter) -> bool
-    ensures { λ r. ⌜ r ≡ soundMeter meter ⌝ }
+// Whether the meter that stands from an index on is well-formed: of its bytes only those are read that are tested.
+fn sound_at(bytes: &[u8], at: usize) -> bool
+    requires { ⌜ at + 129 ≤ length (now bytes) ⌝ }
+    ensures { λ r. ⌜ r ≡ soundMeter (meterLayout .at (now (bytes .entry)) at) ⌝ }
 {
-    let cells = meter.cells;
-    let profile = cells.profile;
-    let counted = uncounted(profile, meter.cycles, cells.saved.cycles);
-    let charge = sound_charge(meter.charge);
-    let average = sound_average(meter.flow.average);
-    let shown = sound_shown(meter.shown);
+    let profile = profile_at(bytes, at + 4);
+    let rest = slices::quad(bytes, at + 71 + 11 + 21 + 1);
+    let cycles = Cycles {
+        count: bytes[at + 71 + 11 + 21],
+        rest: rest,
+    };
+    let counted = uncounted(profile, cycles, bytes[at + 2 + 1]);
+    let charge = sound_charge(charge_at(bytes, at + 71));
+    let average = sound_average(average_at(bytes, at + 71 + 11 + 6 + 3));
+    let shown = sound_shown(shown_at(bytes, at + 71 + 11 + 21 + 5));
     numbers::and(charge, numbers::and(average, numbers::and(shown, counted)))
 }
 
-fn same(left: &[u8], right: &[u8]) -> bool
-    requires { ⌜ length (now left) ≡ length (now right) ⌝ }
-    ensures { λ r. ⌜ r ≡ sameBytes (now (left .entry)) (now (right .entry)) ⌝ }
+// Whether each flag from an index on is 0 or 1: of the profile and the locks, of the charge, of the flow, of what is shown, of a meter and of a gauge.
+fn plain_cells(bytes: &[u8], at: usize) -> bool
+    requires { ⌜ at + 71 ≤ length (now bytes) ⌝ }
+    ensures { λ r. ⌜ r ≡ plainAt (now (bytes .entry)) (cellsLayout .flagsFrom at) ⌝ }
 {
-    let mut i = 0;
-    while i < left.len() {
-        if left[i] != right[i] {
-            return false;
-        }
-        i += 1;
-    }
-    true
-}
-
-// Whether each flag of a state is 0 or 1, those of the front, of the charge and the flow, and of the end.
-fn plain_front(bytes: &[u8]) -> bool
-    requires { ⌜ length (now bytes) ≡ 172 ⌝ }
-    ensures { λ r. ⌜ r ≡ plainAt (now (bytes .entry)) frontFlags ⌝ }
-{
-    let locks = numbers::and(
-        bytes[47] < 2,
-        numbers::and(bytes[48] < 2, numbers::and(bytes[49] < 2, true)),
-    );
-    numbers::and(bytes[1] < 2, numbers::and(bytes[42] < 2, locks))
-}
-
-fn plain_middle(bytes: &[u8]) -> bool
-    requires { ⌜ length (now bytes) ≡ 172 ⌝ }
-    ensures { λ r. ⌜ r ≡ plainAt (now (bytes .entry)) middleFlags ⌝ }
-{
-    let flow = numbers::and(
-        bytes[130] < 2,
-        numbers::and(bytes[131] < 2, numbers::and(bytes[140] < 2, true)),
-    );
     numbers::and(
-        bytes[119] < 2,
-        numbers::and(bytes[120] < 2, numbers::and(bytes[125] < 2, flow)),
+        bytes[at + 4] < 2,
+        numbers::and(
+            bytes[at + 4 + 1] < 2,
+            numbers::and(bytes[at + 4 + 1 + 1] < 2, true),
+        ),
     )
 }
 
-fn plain_end(bytes: &[u8]) -> bool
-    requires { ⌜ length (now bytes) ≡ 172 ⌝ }
-    ensures { λ r. ⌜ r ≡ plainAt (now (bytes .entry)) endFlags ⌝ }
+fn plain_charge(bytes: &[u8], at: usize) -> bool
+    requires { ⌜ at + 11 ≤ length (now bytes) ⌝ }
+    ensures { λ r. ⌜ r ≡ plainAt (now (bytes .entry)) (chargeLayout .flagsFrom at) ⌝ }
 {
-    let flags = numbers::and(
-        bytes[169] < 2,
-        numbers::and(bytes[170] < 2, numbers::and(bytes[171] < 2, true)),
-    );
     numbers::and(
-        bytes[143] < 2,
-        numbers::and(bytes[167] < 2, numbers::and(bytes[168] < 2, flags)),
+        bytes[at + 1 + 4] < 2,
+        numbers::and(bytes[at + 1 + 4 + 1] < 2, true),
     )
 }
 
-fn plain_flags(bytes: &[u8]) -> bool
-    requires { ⌜ length (now bytes) ≡ 172 ⌝ }
-    ensures { λ r. ⌜ r ≡ plainAt (now (bytes .entry)) flagPlaces ⌝ }
+fn plain_flow(bytes: &[u8], at: usize) -> bool
+    requires { ⌜ at + 21 ≤ length (now bytes) ⌝ }
+    ensures { λ r. ⌜ r ≡ plainAt (now (bytes .entry)) (flowLayout .flagsFrom at) ⌝ }
 {
+    let average = numbers::and(
+        bytes[at + 6 + 3 + 4 + 2] < 2,
+        numbers::and(bytes[at + 6 + 3 + 9] < 2, true),
+    );
     numbers::and(
-        plain_front(bytes),
-        numbers::and(plain_middle(bytes), plain_end(bytes)),
+        bytes[at] < 2,
+        numbers::and(
+            bytes[at + 1 + 2 + 2] < 2,
+            numbers::and(bytes[at + 6] < 2, average),
+        ),
     )
+}
+
+fn plain_shown(bytes: &[u8], at: usize) -> bool
+    requires { ⌜ at + 21 ≤ length (now bytes) ⌝ }
+    ensures { λ r. ⌜ r ≡ plainAt (now (bytes .entry)) (shownLayout .flagsFrom at) ⌝ }
+{
+    let last = numbers::and(
+        bytes[at + 6 + 6 + 5 + 1 + 1] < 2,
+        numbers::and(bytes[at + 6 + 6 + 5 + 1 + 1 + 1] < 2, true),
+    );
+    numbers::and(
+        bytes[at + 6 + 6 + 2 + 2] < 2,
+        numbers::and(
+            bytes[at + 6 + 6 + 5] < 2,
+            numbers::and(bytes[at + 6 + 6 + 5 + 1] < 2, last),
+        ),
+    )
+}
+
+fn plain_meter(bytes: &[u8], at: usize) -> bool
+    requires { ⌜ at + 129 ≤ length (now bytes) ⌝ }
+    ensures { λ r. ⌜ r ≡ plainAt (now (bytes .entry)) (meterLayout .flagsFrom at) ⌝ }
+{
+    let cells = plain_cells(bytes, at);
+    let charge = plain_charge(bytes, at + 71);
+    let flow = plain_flow(bytes, at + 71 + 11);
+    let shown = plain_shown(bytes, at + 71 + 11 + 21 + 5);
+    numbers::and(cells, numbers::and(charge, numbers::and(flow, shown)))
+}
+
+fn plain_gauge(bytes: &[u8], at: usize) -> bool
+    requires { ⌜ at + 170 ≤ length (now bytes) ⌝ }
+    ensures { λ r. ⌜ r ≡ plainAt (now (bytes .entry)) (gaugeLayout .flagsFrom at) ⌝ }
+{
+    numbers::and(bytes[at + 32 + 8] < 2, plain_meter(bytes, at + 32 + 9))
 }
 
 // What was read: the state, or the number of the refusal and the state before the first record.
@@ -608,12 +636,8 @@ fn state_number(bytes: &[u8]) -> u8
     if bytes[0] != 1 {
         return 51;
     }
-    let session = session_at(bytes);
-    numbers::choose8(
-        numbers::and(sound(session.gauge.meter), plain_flags(bytes)),
-        0,
-        52,
-    )
+    let plain = numbers::and(bytes[1] < 2, plain_gauge(bytes, 2));
+    numbers::choose8(numbers::and(sound_at(bytes, 43), plain), 0, 52)
 }
 
 // The state that the bytes are.
@@ -639,26 +663,121 @@ pub struct StateStep {
     pub replied: usize,
 }
 
-// The record at the front of some bytes, run in the state that a lent room holds. Bytes that are no state stay, and nothing is run.
+fn stepped(answer: u8, replied: u16) -> StateStep
+    ensures { λ r. ⌜ r ≡ record { number = 0; answer = answer; replied = replied } ⌝ }
+{
+    StateStep {
+        number: 0,
+        answer: answer,
+        replied: replied as usize,
+    }
+}
+
+// What the record at the front asks of the state that the bytes are, with so many bytes of reply room.
+fn asked_in(state: &[u8], bytes: &[u8], room: usize) -> Record
+    requires { ⌜ length (now state) ≡ 172 ⌝ }
+    ensures { λ r. ⌜ r ≡ frontBy (ofSession .told (sessionAt (now (state .entry)))) room (now (bytes .entry)) ⌝ }
+{
+    let loaded = flag_at(state, 1);
+    let tick = Tick {
+        any: flag_at(state, 143),
+        last: slices::pair(state, 144),
+    };
+    runs::front(bytes, loaded, tick, room)
+}
+
+// Writes the state of a gauge whose image was accepted.
+fn put_loaded(gauge: Gauge, state: &mut [u8])
+    requires { ⌜ 172 ≤ length (now state) ⌝ }
+    ensures { λ _. ⌜ now (state .exit) ≡ put (now (state .entry)) 0 (stateBytes (loadedWith gauge)) ⌝ }
+{
+    let session = Session {
+        loaded: true,
+        gauge: gauge,
+    };
+    put_state(session, state);
+}
+
+// A reading, conversion, sample or power-on. Each writes the state by itself: where one does so for all, its fields are moved once more.
+fn changed_in(state: &mut [u8], change: Change)
+    requires { ⌜ (length (now state) ≡ 172) × GaugeWF (sessionAt (now state) .gauge) ⌝ }
+    ensures { λ _. ⌜ Became (now (state .entry)) (changedOf (sessionAt (now (state .entry)) .gauge) change) (now (state .exit)) ⌝ }
+{
+    let gauge = gauge_at(state, 2);
+    match change {
+        Change::Reading(volt, temp) => {
+            let after = gauge.read(volt, temp);
+            put_loaded(after, state);
+        }
+        Change::Conversion(raw) => {
+            let after = gauge.convert(raw);
+            put_loaded(after, state);
+        }
+        Change::Sample(raw, tick) => {
+            let after = gauge.sample(raw, tick);
+            put_loaded(after, state);
+        }
+        Change::PowerOn => {
+            let after = gauge.power_on();
+            put_loaded(after, state);
+        }
+    }
+}
+
+// A transaction: the state is written where its command can change it.
+fn transacted_in(state: &mut [u8], transaction: Transaction, master: &[u8], room: &mut [u8])
+    requires { ⌜ (length (now state) ≡ 172) × GaugeWF (sessionAt (now state) .gauge) ⌝ }
+    requires { ⌜ transaction .count ≤ length (now room) ⌝ }
+    ensures { λ _. ⌜ now (state .exit) ≡ pick (canChange (transaction .command))
+        (put (now (state .entry)) 0 (stateBytes (loadedWith (actOf (sessionAt (now (state .entry)) .gauge) transaction (now (master .entry))))))
+        (now (state .entry)) ⌝ }
+    ensures kept { λ _. ⌜ GaugeWF (actOf (sessionAt (now (state .entry)) .gauge) transaction (now (master .entry))) ⌝ }
+    ensures replied { λ _. ⌜ now (room .exit)
+        ≡ replyOf (sessionAt (now (state .entry)) .gauge) transaction (now (master .entry)) ++ drop (transaction .count) (now (room .entry)) ⌝ }
+{
+    let gauge = gauge_at(state, 2);
+    let after = gauge.transact(transaction, master, room);
+    let command = transaction.command;
+    if gauge::can_change(command) {
+        put_loaded(after, state);
+    }
+}
+
+// The record at the front of some bytes, run in the state that a lent room holds. Bytes that are no state stay, and nothing is run. Where the record
+// changes nothing, nothing is written.
 pub fn state_step(state: &mut [u8], bytes: &[u8], room: &mut [u8]) -> StateStep
     ensures { λ r. ⌜ StateStepped (now (state .entry)) (now (bytes .entry)) (now (room .entry)) r (now (state .exit)) (now (room .exit)) ⌝ }
 {
     let number = state_number(state);
-    if number == 0 {
-        let session = session_at(state);
-        let done = session_run::step(session, bytes, room);
-        let after = done.session;
-        put_state(after, state);
+    if number != 0 {
         return StateStep {
-            number: 0,
-            answer: done.answer,
-            replied: done.replied,
+            number: number,
+            answer: 0,
+            replied: 0,
         };
     }
-    StateStep {
-        number: number,
-        answer: 0,
-        replied: 0,
+    let first = asked_in(state, bytes, room.len());
+    let end = first.used;
+    let answer = first.answer;
+    let asked = first.event;
+    match asked {
+        Asked::Nothing => stepped(answer, 0),
+        Asked::Run(event) => match event {
+            Event::Image(profile) => {
+                let gauge = gauge::image_in(profile, &bytes[4..end]);
+                put_loaded(gauge, state);
+                stepped(answer, 0)
+            }
+            Event::Change(change) => {
+                changed_in(state, change);
+                stepped(answer, 0)
+            }
+            Event::Transact(transaction) => {
+                let from = 4 + transaction.start as usize;
+                transacted_in(state, transaction, &bytes[from..end], room);
+                stepped(answer, transaction.count)
+            }
+        },
     }
 }
 
@@ -735,36 +854,21 @@ pub fn tray_state_out(tray: Tray, room: &mut [u8]) -> bool
     true
 }
 
-fn sound_each(meters: [Meter; 8]) -> bool
-    ensures { λ r. ⌜ r ≡ soundEach meters ⌝ }
+// Whether the gauge of each place is well-formed, and each of its flags 0 or 1.
+fn sound_places(bytes: &[u8]) -> bool
+    requires { ⌜ length (now bytes) ≡ 1363 ⌝ }
+    ensures { λ r. ⌜ r ≡ soundPlaces (now (bytes .entry)) 0 8 ⌝ }
 {
     let mut i = 0;
     while i < 8 {
-        let meter = meters[i];
-        if sound(meter) {
+        let at = 3 + i * 170;
+        if numbers::and(sound_at(bytes, at + 32 + 9), plain_gauge(bytes, at)) {
             i += 1;
         } else {
             return false;
         }
     }
     true
-}
-
-fn sound_tray(tray: Tray) -> bool
-    ensures { λ r. ⌜ r ≡ soundTray tray ⌝ }
-{
-    let meters = tray.meters;
-    numbers::and(tray.count <= 8, sound_each(meters))
-}
-
-// Whether a tray is written as these bytes.
-fn tray_written_as(tray: Tray, bytes: &[u8]) -> bool
-    requires { ⌜ length (now bytes) ≡ 1363 ⌝ }
-    ensures { λ r. ⌜ r ≡ sameBytes (trayStateBytes tray) (now (bytes .entry)) ⌝ }
-{
-    let mut again = [0u8; 1363];
-    put_tray_state(tray, &mut again);
-    same(&again, bytes)
 }
 
 // What was read: the tray, or the number of the refusal and the tray before the first record.
@@ -783,37 +887,47 @@ fn no_tray_state(number: u8) -> TrayStateIn
     }
 }
 
-// The tray that the bytes are: 50 where they are too few or too many, 51 for another version, 52 where they are no well-formed tray.
+// Which bytes are a tray: 50 where they are too few or too many, 51 for another version, 52 where they are no well-formed tray, else 0.
+fn tray_state_number(bytes: &[u8]) -> u8
+    ensures { λ r. ⌜ r ≡ trayStateIn (now (bytes .entry)) .number ⌝ }
+{
+    if bytes.len() != 1363 {
+        return 50;
+    }
+    if bytes[0] != 129 {
+        return 51;
+    }
+    let places = sound_places(bytes);
+    let tested = numbers::and(bytes[1] <= 8, numbers::and(bytes[2] < 2, places));
+    numbers::choose8(tested, 0, 52)
+}
+
+// The tray that the bytes are.
 pub fn tray_state_in(bytes: &[u8]) -> TrayStateIn
     ensures { λ r. ⌜ r ≡ trayStateIn (now (bytes .entry)) ⌝ }
     ensures kept { λ r. ⌜ TrayWF (r .tray) ⌝ }
 {
-    if bytes.len() != 1363 {
-        return no_tray_state(50);
-    }
-    if bytes[0] != 129 {
-        return no_tray_state(51);
-    }
-    let tray = tray_at(bytes);
-    if numbers::and(sound_tray(tray), tray_written_as(tray, bytes)) {
+    let number = tray_state_number(bytes);
+    if number == 0 {
+        let tray = tray_at(bytes);
         return TrayStateIn {
             number: 0,
             tray: tray,
         };
     }
-    no_tray_state(52)
+    no_tray_state(number)
 }
 
 // The record at the front of some bytes, run in the tray that a lent room holds. Bytes that are no tray stay, and nothing is run.
 pub fn tray_state_step(state: &mut [u8], bytes: &[u8], room: &mut [u8]) -> StateStep
     ensures { λ r. ⌜ TrayStateStepped (now (state .entry)) (now (bytes .entry)) (now (room .entry)) r (now (state .exit)) (now (room .exit)) ⌝ }
 {
-    let held = tray_state_in(state);
-    if held.number == 0 {
-        let tray = held.tray;
+    let number = tray_state_number(state);
+    if number == 0 {
+        let tray = tray_at(state);
         let done = tray_run::step(tray, bytes, room);
         let after = done.tray;
-        tray_state_out(after, state);
+        put_tray_state(after, state);
         return StateStep {
             number: 0,
             answer: done.answer,
@@ -821,7 +935,7 @@ pub fn tray_state_step(state: &mut [u8], bytes: &[u8], room: &mut [u8]) -> State
         };
     }
     StateStep {
-        number: held.number,
+        number: number,
         answer: 0,
         replied: 0,
     }

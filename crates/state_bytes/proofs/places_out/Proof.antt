@@ -16,11 +16,26 @@ abbrev μ-loop : tie.MeasureT-loop
 abbrev eight→commons : tie.After-eight-places Inv-loop μ-loop → tie.After-commons Inv-loop μ-loop
 eight→commons c = c .before .before .before
 
+abbrev loop→eight : tie.At-loop Inv-loop μ-loop → tie.After-eight-places Inv-loop μ-loop
+loop→eight c = c .before
+
 abbrev loop→start : tie.At-loop Inv-loop μ-loop → tie.Start Inv-loop μ-loop
-loop→start c = eight→commons (c .before) .before .before
+loop→start c = eight→commons (loop→eight c) .before .before
+
+abbrev in→loop : tie.In-loop Inv-loop μ-loop → tie.At-loop Inv-loop μ-loop
+in→loop c = c .before
+
+abbrev end→loop : tie.After-loop Inv-loop μ-loop → tie.At-loop Inv-loop μ-loop
+end→loop c = c .before
+
+abbrev common→in : tie.After-common Inv-loop μ-loop → tie.In-loop Inv-loop μ-loop
+common→in c = c .before
+
+abbrev label→in : tie.After-label Inv-loop μ-loop → tie.In-loop Inv-loop μ-loop
+label→in c = common→in (c .before)
 
 abbrev arg→in : tie.After-gauge-out-arg Inv-loop μ-loop → tie.In-loop Inv-loop μ-loop
-arg→in c = c .before .before .before .before
+arg→in c = label→in (c .before .before)
 
 abbrev known→call : tie.After-slice-known2 Inv-loop μ-loop → tie.After-gauge-out Inv-loop μ-loop
 known→call c = c .before .before
@@ -41,16 +56,16 @@ array-copy-out-common : tie.Need-array-copy-out-common Inv-loop μ-loop
 array-copy-out-common c = c .loop-test .taken
 
 mul-label : tie.Need-mul-label Inv-loop μ-loop
-mul-label c = omega (arith, c .before .loop-test .taken)
+mul-label c = omega (arith, common→in c .loop-test .taken)
 
 array-copy-out-label : tie.Need-array-copy-out-label Inv-loop μ-loop
-array-copy-out-label c = c .before .loop-test .taken
+array-copy-out-label c = common→in c .loop-test .taken
 
 mul-meter : tie.Need-mul-meter Inv-loop μ-loop
-mul-meter c = omega (arith, c .before .before .loop-test .taken)
+mul-meter c = omega (arith, label→in c .loop-test .taken)
 
 array-copy-out-meter : tie.Need-array-copy-out-meter Inv-loop μ-loop
-array-copy-out-meter c = c .before .before .loop-test .taken
+array-copy-out-meter c = label→in c .loop-test .taken
 
 mul-gauge-out : tie.Need-mul-gauge-out Inv-loop μ-loop
 mul-gauge-out c = omega (arith, arg→in c .loop-test .taken)
@@ -61,7 +76,7 @@ add-gauge-out c = omega (arith, arg→in c .loop-test .taken)
 gauge-out-requires : tie.Need-gauge-out-requires Inv-loop μ-loop
 gauge-out-requires c κs =
     let turn = arg→in c in
-    omega (arith, turn .loop-test .taken, out-room (turn .before .loop .inv), loop→start (turn .before) .pre)
+    omega (arith, turn .loop-test .taken, out-room (in→loop turn .loop .inv), loop→start (in→loop turn) .pre)
 
 add-i : tie.Need-add-i Inv-loop μ-loop
 add-i c = omega (arith, known→in c .loop-test .taken)
@@ -72,13 +87,13 @@ loop-less c = omega (arith, known→in c .loop-test .taken)
 loop-again : tie.Need-loop-again Inv-loop μ-loop
 loop-again c =
     let turn = known→in c in
-    out-more (turn .before .loop .inv) (turn .loop-test .taken) (turn .before .before .eight-places .ensures) _ _ _ (known→call c .gauge-out .ensures)
+    out-more (in→loop turn .loop .inv) (turn .loop-test .taken) (loop→eight (in→loop turn) .eight-places .ensures) _ _ _ (known→call c .gauge-out .ensures)
 
 same-length : tie.Need-same-length Inv-loop μ-loop
-same-length c = out-room (c .before .loop .inv)
+same-length c = out-room (end→loop c .loop .inv)
 
 returns : tie.Need-returns Inv-loop μ-loop
-returns c = out-all (c .before .loop .inv) (c .loop-test .left)
+returns c = out-all (end→loop c .loop .inv) (c .loop-test .left)
 
 pub places-out-spec : {M : Type 1} → statement M
 places-out-spec =

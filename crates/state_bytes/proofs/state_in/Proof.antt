@@ -9,27 +9,35 @@ use borrow.Author.Needs.{needs}
 use Rattle.state_bytes.proofs.state_in.Statement.{statement}
 use Rattle.state_bytes.proofs.state_in.Tie as tie
 
+-- places: `a→b` leads from the record of the place a back to that of the place b
+abbrev number→start : tie.After-state-number → tie.Start
+number→start c = c .before .before
+
+abbrev then1→number : tie.Then1 → tie.After-state-number
+then1→number c = c .before
+
 abbrev then1→start : tie.Then1 → tie.Start
-then1→start c = c .before .before .before
+then1→start c = number→start (then1→number c)
 
 -- the bytes are a state
 is-state : (c : tie.Then1) → stateIn (now (then1→start c .args .bytes)) .number ≡ 0
-is-state c = sym (c .before .state-number .ensures) ∙ c .if1 .taken
+is-state c = sym (then1→number c .state-number .ensures) ∙ c .if1 .taken
 
 session-at-requires : tie.Need-session-at-requires
 session-at-requires c κs = in-size (now (then1→start c .args .bytes)) (is-state c)
 
 returns : tie.Need-returns
 returns c =
-    let b = now (then1→start (c .before) .args .bytes) in
-    let read = ap (λ (s : Session). record { number = 0; session = s }) (c .session-at .ensures) ∙ read-held b (is-state (c .before)) in
-    (read, subst (λ (x : StateIn). SessionWF (x .session)) (sym read) (undoing .sound b (is-state (c .before)) .wf))
+    let test = c .before in
+    let b = now (then1→start test .args .bytes) in
+    let read = ap (λ (s : Session). record { number = 0; session = s }) (c .session-at .ensures) ∙ read-held b (is-state test) in
+    (read, subst (λ (x : StateIn). SessionWF (x .session)) (sym read) (undoing .sound b (is-state test) .wf))
 
 returns-2 : tie.Need-returns-2
 returns-2 c =
     let test = c .before in
     let counted = test .before in
-    let b = now (counted .before .before .args .bytes) in
+    let b = now (number→start counted .args .bytes) in
     let none = read-none b (λ e. test .if1 .left (counted .state-number .ensures ∙ e)) in
     (c .no-state .ensures .0 ∙ ap noState (counted .state-number .ensures) ∙ none, c .no-state .ensures .1)
 

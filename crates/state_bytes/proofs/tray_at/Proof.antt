@@ -17,23 +17,35 @@ abbrev μ-loop : tie.MeasureT-loop
 μ-loop bytes tray₀ i₀ tray i = 8 - i
 
 -- places: `a→b` leads from the record of the place a back to that of the place b
+abbrev empty→start : tie.After-empty Inv-loop μ-loop → tie.Start Inv-loop μ-loop
+empty→start c = c .before .before
+
+abbrev flag→empty : tie.After-flag-at Inv-loop μ-loop → tie.After-empty Inv-loop μ-loop
+flag→empty c = c .before .before
+
 abbrev flag→start : tie.After-flag-at Inv-loop μ-loop → tie.Start Inv-loop μ-loop
-flag→start c = c .before .before .before .before
+flag→start c = empty→start (flag→empty c)
+
+abbrev in→loop : tie.In-loop Inv-loop μ-loop → tie.At-loop Inv-loop μ-loop
+in→loop c = c .before
 
 abbrev in→start : tie.In-loop Inv-loop μ-loop → tie.Start Inv-loop μ-loop
-in→start c = flag→start (c .before .before)
+in→start c = flag→start (in→loop c .before)
+
+abbrev meter→read : tie.After-meter Inv-loop μ-loop → tie.After-gauge-at Inv-loop μ-loop
+meter→read c = c .before .before .before
 
 abbrev meter→in : tie.After-meter Inv-loop μ-loop → tie.In-loop Inv-loop μ-loop
-meter→in c = c .before .before .before .before
+meter→in c = meter→read c .before
 
 empty-requires : tie.Need-empty-requires Inv-loop μ-loop
 empty-requires c κs = search needs
 
 shared-slice-read-tray : tie.Need-shared-slice-read-tray Inv-loop μ-loop
-shared-slice-read-tray c = omega (arith, c .before .before .before .pre)
+shared-slice-read-tray c = omega (arith, empty→start (c .before) .pre)
 
 flag-at-requires : tie.Need-flag-at-requires Inv-loop μ-loop
-flag-at-requires c κs = omega (arith, c .before .before .before .pre)
+flag-at-requires c κs = omega (arith, empty→start (c .before) .pre)
 
 loop-holds : tie.Need-loop-holds Inv-loop μ-loop
 unfolding filled
@@ -75,16 +87,17 @@ loop-less c = omega (arith, meter→in c .loop-test .taken)
 loop-again : tie.Need-loop-again Inv-loop μ-loop
 loop-again c =
     let turn = meter→in c in
-    (omega (arith, turn .loop-test .taken), filled-more _ _ (turn .before .loop .i) (turn .before .loop .inv .1) (c .before .before .before .gauge-at .ensures))
+    (omega (arith, turn .loop-test .taken), filled-more _ _ (in→loop turn .loop .i) (in→loop turn .loop .inv .1) (meter→read c .gauge-at .ensures))
 
 returns : tie.Need-returns Inv-loop μ-loop
 unfolding trayAt
 returns c =
-    let flag = c .before .before in
+    let last = c .before in
+    let flag = last .before in
     let b = now (flag→start flag .args .bytes) in
-    let e : c .before .loop .i ≡ 8 = omega (arith, c .before .loop .inv .0, c .loop-test .left) in
-    c .before .loop .inv .1 ∙ ap (filled _ _) e
-    ∙ filled-all (getD b 1 0) (λ j. gaugeLayout .at b (3 + j * 170)) (flag .before .before .empty .ensures .0) (flag .flag-at .ensures)
+    let e : last .loop .i ≡ 8 = omega (arith, last .loop .inv .0, c .loop-test .left) in
+    last .loop .inv .1 ∙ ap (filled _ _) e
+    ∙ filled-all (getD b 1 0) (λ j. gaugeLayout .at b (3 + j * 170)) (flag→empty flag .empty .ensures .0) (flag .flag-at .ensures)
 
 pub tray-at-spec : {M : Type 1} → statement M
 tray-at-spec =

@@ -1,20 +1,20 @@
 use borrow.Author.Needs.{needs}
-use Rattle.state_bytes.proofs.plain_middle.Statement.{statement}
-use Rattle.state_bytes.proofs.plain_middle.Tie as tie
+use Rattle.state_bytes.proofs.plain_cells.Statement.{statement}
+use Rattle.state_bytes.proofs.plain_cells.Tie as tie
 
 returns : tie.Need-returns
 returns c = cc
 
-pub plain-middle-spec : {M : Type 1} → statement M
-plain-middle-spec =
+pub plain-cells-spec : {M : Type 1} → statement M
+plain-cells-spec =
     tie.close
     (tie.spec
     (λ c. search needs)
     (λ c. search needs)
     (λ c. search needs)
-    (λ c κs. search needs)
-    (λ c κs. search needs)
-    (λ c κs. search needs)
+    (λ c. search needs)
+    (λ c. search needs)
+    (λ c. search needs)
     (λ c. search needs)
     (λ c. search needs)
     (λ c. search needs)

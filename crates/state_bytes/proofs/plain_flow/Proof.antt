@@ -1,0 +1,33 @@
+use borrow.Author.Needs.{needs}
+use Rattle.state_bytes.proofs.plain_flow.Statement.{statement}
+use Rattle.state_bytes.proofs.plain_flow.Tie as tie
+
+returns : tie.Need-returns
+returns c = cc
+
+pub plain-flow-spec : {M : Type 1} → statement M
+plain-flow-spec =
+    tie.close
+    (tie.spec
+    (λ c. search needs)
+    (λ c. search needs)
+    (λ c. search needs)
+    (λ c. search needs)
+    (λ c. search needs)
+    (λ c. search needs)
+    (λ c. search needs)
+    (λ c. search needs)
+    (λ c. search needs)
+    (λ c κs. search needs)
+    (λ c κs. search needs)
+    (λ c. search needs)
+    (λ c. search needs)
+    (λ c. search needs)
+    (λ c. search needs)
+    (λ c. search needs)
+    (λ c. search needs)
+    (λ c. search needs)
+    (λ c κs. search needs)
+    (λ c κs. search needs)
+    (λ c κs. search needs)
+    returns)
