@@ -38,9 +38,21 @@ keep_mode() { # FILE
     if [ -f "$1" ] && [ ! -L "$1" ] && mode=$(stat -c %a -- "$1"); then umask "$(printf %o $((0777 & ~0$mode)))"; fi
 }
 
+# The image would be written to the file of the state, and then the state over it.
+apart() { # STATE [OUT]
+    if [ $# -eq 2 ] && { [ "$1" = "$2" ] || [ "$1" -ef "$2" ]; }; then
+        say "$name: OUT is the file STATE: give OUT another name"
+        exit 1
+    fi
+}
+
 # Runs the program and ends.
 start() { # WORD..
     local ended
+    case $name in
+    resume) apart "$@" ;;
+    resume_tray) apart "$1" "${@:3}" ;;
+    esac
     case $name in mend | resume | resume_tray) keep_mode "$1" ;; esac
     if [[ $options != *' --strict '* ]]; then
         told "$@"

@@ -20,7 +20,11 @@ take_words() { # WORD..
     done
     for word in "$@"; do
         case $word in
-        --*=*) [[ $allowed == *" ${word%%=*}= "* ]] || misused && valued+=("${word#*=}") ;;
+        --*=*)
+            [[ $allowed == *" ${word%%=*}= "* ]] || misused
+            allowed=${allowed/" ${word%%=*}= "/ } # once: of two words for one thing none is dropped unseen
+            valued+=("${word#*=}")
+            ;;
         --*) [[ $allowed == *" $word "* ]] || misused && options+="$word " ;;
         *) given+=("$word") ;;
         esac
