@@ -1,30 +1,33 @@
 -- What each entry hands back, from what the functions below it promise: once for any state that is kept as bytes.
-use mathlib.Core.Path.{_≡_, refl, sym, ap, subst, _∙_}
+use mathlib.Core.Path.{_≡_, refl, sym, ap, _∙_}
 use mathlib.Core.Bool.{Bool, true, false}
 use mathlib.Core.List.{List}
-use Prim.Native.Nat.{ℕ, zero, suc, _≤_, _<_}
+use Prim.Native.Nat.{ℕ, _≤_, _<_}
 use native.Mathlib.Omega.{arith}
 use borrow.Author.Tests.{eq-eqb, ne-eqb, eqb-true, eqb-false, le-leb, lt-leb}
 use lib.Dec.{eqb, leb}
-use lib.ListN.{length, getD, replicate, length-replicate}
+use lib.ListN.{length, length-replicate}
 use Rattle.numbers.specs.Choice.{pick}
+use Rattle.numbers.proofs.Bounds.{both-true}
 use Rattle.slices.specs.Slices.{put}
 use Rattle.slices.proofs.Laws.{put-whole}
-use Rattle.gauge.specs.Gauge.{Sized, Uncounted}
-use Rattle.gauge.proofs.Reached.{image-sized, image-uncounted}
+use Rattle.gauge.proofs.Reached.{image-sized}
 use Rattle.runs.specs.declared.Session.{Session}
 use Rattle.session_run.specs.SessionRun.{emptyOf}
 use Rattle.tray_record.specs.declared.Tray.{Tray}
-use Rattle.tray_record.specs.Tray.{TrayWF, noGauge, emptyTray, packOf}
+use Rattle.tray_record.specs.Tray.{emptyTray}
 use Rattle.state_bytes.specs.declared.StateIn.{StateIn}
 use Rattle.state_bytes.specs.declared.StateStep.{StateStep}
 use Rattle.state_bytes.specs.declared.TrayStateIn.{TrayStateIn}
-use Rattle.state_bytes.specs.State.{stateSize, stateBytes, StateOut, StateStepped}
-use Rattle.state_bytes.specs.TrayState.{trayStateSize, trayStateBytes, TrayStateOut, TrayStateStepped}
-use Rattle.state_bytes.specs.Theorems.{TrayStateWF}
+use Rattle.state_bytes.specs.State.{stateSize, stateBytes, stateIn, StateOut, StateStepped}
+use Rattle.state_bytes.specs.TrayState.{trayStateSize, trayStateBytes, trayStateIn, TrayStateOut, TrayStateStepped}
 use Rattle.state_bytes.proofs.Undoing.{state-length, undoing}
-use Rattle.state_bytes.proofs.TrayUndoing.{tray-state-length, tray-undoing}
-use Rattle.library.specs.Library.{KeptAs, keptPack, keptTray, Started, isState, doing, RecordDone, ImageTaken}
+use Rattle.state_bytes.proofs.TrayUndoing.{empty-tray-good, tray-state-length, tray-undoing}
+use Rattle.library.specs.declared.LibraryResult.{LibraryResult}
+use Rattle.library.specs.Library.{KeptAs, keptPack, keptTray, Started, isState, headed, doing, RecordDone, ImageTaken}
+
+never : true ≡ false → ⊥
+never e = let z : _≡_ {A = ℕ} 0 1 = cc in omega arith
 
 -- ---- of any state
 
@@ -45,7 +48,13 @@ module _ {S : Type 0} (k : KeptAs S) where
     pub record-short : length bytes < 4 → RecordDone k state bytes room (record { answer = 54; count = 0 }) state room
     record-short short =
         let none = lt-leb 4 (length bytes) short in
-        record { answered = simp none; counted = simp none; kept = simp none; written = simp none }
+        record {
+          answered = simp none;
+          counted = simp none;
+          kept = simp none;
+          written = simp none;
+          again = λ run. absurd (never (sym (both-true _ _ run .0) ∙ none));
+        }
 
     -- a step by state bytes: its number, answer, count and reply, what is left where nothing was run, and where something was
     pub record-done : {s : StateStep} {after last : List ℕ} → 4 ≤ length bytes → s .number ≡ k .numberOf state
@@ -53,8 +62,9 @@ module _ {S : Type 0} (k : KeptAs S) where
         → s .replied ≡ pick (isState k state) (length (doing k state bytes room .reply)) 0
         → (isState k state ≡ false → after ≡ state) → (s .number ≡ 0 → after ≡ k .bytesOf (doing k state bytes room .state))
         → last ≡ pick (isState k state) (put room 0 (doing k state bytes room .reply)) room
+        → (s .number ≡ 0 → (k .numberOf after ≡ 0) × (k .held after ≡ doing k state bytes room .state))
         → RecordDone k state bytes room (record { answer = pick (eqb (s .number) 0) (s .answer) (s .number); count = s .replied }) after last
-    record-done {s} {after} {last} long number answered counted stays moves written = by (isState k state) refl
+    record-done {s} {after} {last} long number answered counted stays moves written again = by (isState k state) refl
       where
         head : leb 4 (length bytes) ≡ true
         head = le-leb 4 (length bytes) long
@@ -68,6 +78,7 @@ module _ {S : Type 0} (k : KeptAs S) where
               counted = counted ∙ simp (head, held);
               kept = moves zero ∙ simp (head, held);
               written = written ∙ simp (head, held);
+              again = λ run. again zero;
             }
         by false held =
             let some = ne-eqb (s .number) 0 (λ e. eqb-false (k .numberOf state) 0 held (sym number ∙ e)) in
@@ -76,6 +87,7 @@ module _ {S : Type 0} (k : KeptAs S) where
               counted = counted ∙ simp (head, held);
               kept = stays held ∙ simp (head, held);
               written = written ∙ simp (head, held);
+              again = λ run. absurd (never (sym (both-true (headed k state bytes room) (isState k state) run .1) ∙ held));
             }
 
   module _ (number : S → List ℕ → ℕ) (filled : S → List ℕ → List ℕ) (size : S → ℕ) {state room : List ℕ} {read : ℕ} (is : read ≡ k .numberOf state) where
@@ -118,6 +130,7 @@ module _ {state bytes room after last : List ℕ} {s : StateStep} where
       let moves : s .number ≡ 0 → after ≡ stateBytes (doing keptPack state bytes room .state) = λ z.
       sym (undoing .forth after (ap (λ (x : StateIn). x .number) (h .again z))) ∙ ap (λ (x : StateIn). stateBytes (x .session)) (h .again z) in
       record-done keptPack long (h .number) (h .answered) (h .counted) (λ none. h .kept ∙ simp none) moves (h .written)
+      (λ z. (ap (λ (x : StateIn). x .number) (h .again z), ap (λ (x : StateIn). x .session) (h .again z)))
 
   -- ---- of a tray
 
@@ -128,27 +141,11 @@ module _ {state bytes room after last : List ℕ} {s : StateStep} where
       sym (tray-undoing .forth after (ap (λ (x : TrayStateIn). x .number) (h .again z)))
       ∙ ap (λ (x : TrayStateIn). trayStateBytes (x .tray)) (h .again z) in
       record-done keptTray long (h .number) (h .answered) (h .counted) (λ none. h .kept ∙ simp none) moves (h .written)
+      (λ z. (ap (λ (x : TrayStateIn). x .number) (h .again z), ap (λ (x : TrayStateIn). x .tray) (h .again z)))
 
-one-of-same : {A : Type 0} (n i : ℕ) (x : A) → getD (replicate n x) i x ≡ x
-one-of-same zero i x = refl
-one-of-same (suc n) zero x = refl
-one-of-same (suc n) (suc i) x = one-of-same n i x
-
-no-pack : (i : ℕ) → noGauge ≡ packOf emptyTray i
-no-pack i j = record {
-  common = sym (one-of-same 8 i (noGauge .common)) j;
-  label = sym (one-of-same 8 i (noGauge .label)) j;
-  meter = sym (one-of-same 8 i (noGauge .meter)) j;
-}
-
-pub tray-started : {room after : List ℕ} {τ : Tray} {done : Bool} → length room ≡ trayStateSize → τ ≡ emptyTray → TrayWF τ
+pub tray-started : {room after : List ℕ} {τ : Tray} {done : Bool} → length room ≡ trayStateSize → τ ≡ emptyTray
     → TrayStateOut τ room done after → Started keptTray room 0 after
-tray-started {room} {after} {τ} size e wf h =
+tray-started {room} {after} {τ} size e h =
     let long = le-leb trayStateSize (length room) (omega (arith, size)) in
     let front : after ≡ put room 0 (trayStateBytes τ) = h .written ∙ simp long in
-    let good : TrayStateWF emptyTray = record {
-      wf = subst TrayWF e wf;
-      sized = λ i. subst Sized (no-pack i) (image-sized _ _ (length-replicate {A = ℕ} 60 0));
-      uncounted = λ i. subst Uncounted (no-pack i) (image-uncounted _ _);
-    } in
-    started keptTray size (tray-state-length emptyTray good) (front ∙ ap (λ (t : Tray). put room 0 (trayStateBytes t)) e)
+    started keptTray size (tray-state-length emptyTray empty-tray-good) (front ∙ ap (λ (t : Tray). put room 0 (trayStateBytes t)) e)

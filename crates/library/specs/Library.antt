@@ -1,6 +1,6 @@
 -- What a program in C is handed back, and what the buffers that it lent hold then, whatever they held before and however long they were.
 use mathlib.Core.Path.{_≡_}
-use mathlib.Core.Bool.{Bool}
+use mathlib.Core.Bool.{Bool, true}
 use mathlib.Core.List.{List}
 use Prim.Native.Nat.{ℕ}
 use lib.Dec.{eqb, leb}
@@ -87,6 +87,8 @@ module _ {S : Type 0} (k : KeptAs S) where
       pub counted : r .count ≡ pick isRun (length (doing .reply)) 0
       pub kept : after ≡ pick isRun (k .bytesOf (doing .state)) state
       pub written : last ≡ pick isRun (put room 0 (doing .reply)) room
+      -- the bytes that are left stand for the state after it, so that the next call takes them
+      pub again : isRun ≡ true → (k .numberOf after ≡ 0) × (k .held after ≡ doing .state)
 
   -- ---- the image that is taken out of the state that the bytes stand for, by the answer, the room and the size that it has then; the state itself is
   -- only read

@@ -11,7 +11,7 @@ returns-2 : tie.Need-returns-2
 returns-2 c =
     let out = c .before .before in
     let made = out .before .before in
-    tray-started (made .before .if1 .left) (made .empty .ensures .0) (made .empty .ensures .1) (out .tray-state-out .ensures)
+    tray-started (made .before .if1 .left) (made .empty .ensures .0) (out .tray-state-out .ensures)
 
 pub trovimbe-tray-start-spec : {M : Type 1} → statement M
 trovimbe-tray-start-spec =
