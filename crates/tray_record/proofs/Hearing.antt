@@ -1,4 +1,4 @@
--- A transaction that every pack hears, pack by pack.
+-- What a tray replies: as many bytes as are asked, however many packs hear it.
 use mathlib.Core.Path.{_≡_, refl, _∙_}
 use mathlib.Core.List.{List}
 use Prim.Native.Nat.{ℕ, zero, suc}

@@ -50,8 +50,8 @@ fn pack_joined(before: Tray, profile: Profile, image: &[u8]) -> Tray
 }
 
 // Records, run from any tray. The match on the event stands in the loop itself, where a slot's parts are taken out and stored back, so that no tray goes
-// through a result but that of an image or of a transaction that changes packs; those that any other reaches answer in a loop in it, into the room that is
-// left. A record that is cut ends the loop, and is answered behind it.
+// through a result but that of an image or of a transaction that changes packs, which is answered with FFh; the packs that any other reaches answer in a
+// loop in it, one after the other. A record that is cut ends the loop, and is answered behind it.
 pub fn run_on(start: Tray, bytes: &[u8], room: &mut [u8], answers: &mut [u64]) -> Ran
     requires { ⌜ TrayWF start ⌝ }
     requires { ⌜ length (now bytes) ≤ 131072 ⌝ }
