@@ -8,22 +8,6 @@ use borrow.Author.Needs.{needs}
 use Rattle.bus.proofs.asked.Statement.{statement}
 use Rattle.bus.proofs.asked.Tie as tie
 
--- places: `a→b` leads from the record of the place a back to that of the place b
-abbrev asked-at→enum-told : tie.After-asked-at → tie.After-enum-told
-asked-at→enum-told c = c .before
-
-abbrev asked-at2→enum-told2 : tie.After-asked-at2 → tie.After-enum-told2
-asked-at2→enum-told2 c = c .before
-
-abbrev plain→enum-told3 : tie.After-plain → tie.After-enum-told3
-plain→enum-told3 c = c .before
-
-abbrev plain2→enum-told4 : tie.After-plain2 → tie.After-enum-told4
-plain2→enum-told4 c = c .before
-
-abbrev plain3→enum-told5 : tie.After-plain3 → tie.After-enum-told5
-plain3→enum-told5 c = c .before
-
 -- what an arm of the match gives, where the first byte says that arm
 arm : (start count : ℕ) (master : List ℕ) (said rom : Rom) (r : Transaction) → said ≡ romOf master → said ≡ rom →
     r ≡ askedBy start count master rom → r ≡ askedOf start count master
@@ -64,19 +48,19 @@ plain-requires-3 : tie.Need-plain-requires-3
 plain-requires-3 c κs = search needs
 
 returns : tie.Need-returns
-returns c = arm _ _ _ _ _ _ (asked-at→enum-told c .before .before .rom-of .ensures) (asked-at→enum-told c .enum-told .given .1) (c .asked-at .ensures)
+returns c = search arm
 
 returns-2 : tie.Need-returns-2
-returns-2 c = arm _ _ _ _ _ _ (asked-at2→enum-told2 c .before .before .rom-of .ensures) (asked-at2→enum-told2 c .enum-told2 .given .1) (c .asked-at2 .ensures)
+returns-2 c = search arm
 
 returns-3 : tie.Need-returns-3
-returns-3 c = arm _ _ _ _ _ _ (plain→enum-told3 c .before .before .rom-of .ensures) (plain→enum-told3 c .enum-told3 .given .1) (c .plain .ensures)
+returns-3 c = search arm
 
 returns-4 : tie.Need-returns-4
-returns-4 c = arm _ _ _ _ _ _ (plain2→enum-told4 c .before .before .rom-of .ensures) (plain2→enum-told4 c .enum-told4 .given .1) (c .plain2 .ensures)
+returns-4 c = search arm
 
 returns-5 : tie.Need-returns-5
-returns-5 c = arm _ _ _ _ _ _ (plain3→enum-told5 c .before .before .rom-of .ensures) (plain3→enum-told5 c .enum-told5 .given .1) (c .plain3 .ensures)
+returns-5 c = search arm
 
 pub asked-spec : {M : Type 1} → statement M
 asked-spec =

@@ -23,7 +23,7 @@ rom-first [] h = absurd (h refl)
 rom-first (b ∷ bs) h = refl
 
 returns : tie.Need-returns
-returns c = rom-none (now (c .before .before .args .master)) (c .if1 .taken)
+returns c = search rom-none
 
 shared-slice-read-rom-by : tie.Need-shared-slice-read-rom-by
 shared-slice-read-rom-by c = search needs
