@@ -22,6 +22,6 @@ pub record NoOffset (meter : Meter) : Type 0 where
 pub record OffsetUncarried : Type 0 where
   -- whatever count and mark a pack has, its image is the same
   pub out : (g : Gauge) (charge : Charge) (flow : Flow) → bytesOf (withMeter g (withFlow (withCharge (g .meter) charge) flow)) ≡ bytesOf g
-  -- a pack that is made of an image has none, and none has one that is powered on
+  -- a pack that is made of an image has neither, nor has one that is powered on
   pub in-none : (profile : Profile) (image : List ℕ) → NoOffset (imageOf profile image .meter)
   pub power-on-none : (g : Gauge) → NoOffset (powerOnOf g .meter)

@@ -31,7 +31,7 @@ pub record DataLine (address : ℕ) (bytes line : List ℕ) : Type 0 where
   pub written : line ≡ hexLineText (dataRecord address bytes)
 
 -- "40 a line that isn't a colon, the upper-case digit pairs its count asks and a line feed, 41 checksum, 42 any record but the end record and 16 bytes at
--- 0020h, 0060h or 0070h": a line that is none of these, and none but such a line
+-- 0020h, 0060h or 0070h": a line is good where it is none of these, and only there
 pub record GoodLines : Type 0 where
   pub only : (l : List ℕ) → checkedLineOf l ≡ Good → (l ≡ endLine) ⊎ DataLine (addressIn l) (dataIn l) l
   pub end : checkedLineOf endLine ≡ Good

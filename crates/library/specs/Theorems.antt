@@ -34,7 +34,7 @@ module _ {S : Type 0} (k : KeptAs S) where
   allDone σ (c ∷ cs) = allDone (pick (leb 4 (length (c .bytes))) (k .did σ (length (c .room)) (recOf (c .bytes)) .state) σ) cs
 
   pub record CallAfterCall : Type 0 where
-    -- "a state that an entry has left in the caller's bytes is always taken by the next call"
+    -- docs/LIBRARY.md: "A state that an entry left is always taken by the next."
     pub taken : (room first : List ℕ) (calls : List LibraryCall) → Started k room 0 first → CallsDone first calls → k .numberOf (lastKept first calls) ≡ 0
     -- and it is the one that the records come to, from the state before the first
     pub stands : (room first : List ℕ) (calls : List LibraryCall) → Started k room 0 first → CallsDone first calls →

@@ -1,6 +1,6 @@
 -- FIGURES TO HOLD. "Marked (*) are proved of the definitions, as one table under one statement": `Hold figures`.
 --
--- The table has four parts. `paperFigures` are the cases that document 01 marks with *, in its order: the numbers of F12 and F13 are those of request [1]
+-- The table has three parts. `paperFigures` are the cases that document 01 marks with *, in its order: the numbers of F12 and F13 are those of request [1]
 -- of document 02, those of F8 and F9 are of request [6], and W6.2 and W12.5, figures of requests [6] and [12], stand beside the cases that they are like.
 -- `cycleFigures` are of the cycle counter of request [12]. The rest, at large numbers, are our own.
 --

@@ -9,7 +9,7 @@ use lib.Seq.{sets}
 abbrev pub part : ℕ → List ℕ → ℕ → List ℕ
 part n s at = take n (drop at s)
 
--- the list l with the bytes vs written over what it has from i on (`put-is` of proofs/Laws.antt says it in one line)
+-- the list l with the bytes vs written over what it has from i on (`WordsMean` of demands says it in one line)
 abbrev pub put : List ℕ → ℕ → List ℕ → List ℕ
 put l i vs = sets l i vs
 

@@ -322,7 +322,7 @@ pub record StateOut (σ : Session) (room : List ℕ) (done : Bool) (after : List
 
 -- ---- a step by state bytes
 
--- the room of a state got that of another gauge, whose image was accepted
+-- the room holds the state of this gauge, whose image was accepted
 pub record Became (state : List ℕ) (gauge : Gauge) (after : List ℕ) : Type 0 where
   pub written : after ≡ put state 0 (stateBytes (loadedWith gauge))
   pub wf : GaugeWF gauge

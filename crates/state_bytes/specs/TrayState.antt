@@ -68,7 +68,7 @@ trayStateBytes tray = trayVersion ∷ trayLayout .out tray
 unfoldable pub trayAt : List ℕ → Tray
 trayAt b = trayLayout .at b 1
 
--- the same of the gauges that stand at so many places from i on, and that their flags are 0 or 1: what the code tests
+-- the gauges at so many places from i on are well-formed, and their flags are 0 or 1: what the code tests
 abbrev pub soundPlace : List ℕ → ℕ → Bool
 soundPlace b at = both (soundMeter (gaugeLayout .at b at .meter)) (plainAt b (gaugeLayout .flagsFrom at))
 

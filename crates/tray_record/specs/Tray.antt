@@ -287,17 +287,17 @@ abbrev pub lineHigh : Transaction → List ℕ
 lineHigh t = listed (λ i. 0xff) 0 (t .count)
 
 module _ (t : Transaction) where
-  -- the first reply stands at the front of the room as it is, and each further one is ANDed onto it,
+  -- the room: the first reply stands at its front as it is, and each further one is ANDed onto that
   abbrev pub onLine : Bool → List ℕ → List ℕ → List ℕ
   onLine true reply room = reply ++ drop (t .count) room
   onLine false reply room = andBytes room reply
 
-  -- by way of another room
+  -- the scratch room, by way of which a further one comes
   abbrev pub besideLine : Bool → List ℕ → List ℕ → List ℕ
   besideLine true reply scratch = scratch
   besideLine false reply scratch = reply ++ drop (t .count) scratch
 
-  -- with no slot before the stop there is no reply
+  -- with no slot before the stop no pack replies, and every byte is FFh
   abbrev pub unheardOf : ℕ → List ℕ → List ℕ
   unheardOf zero room = lineHigh t ++ drop (t .count) room
   unheardOf (suc n) room = room
