@@ -29,15 +29,11 @@ use Rattle.runs.proofs.Records.{whole-end, size-whole, size-cut}
 use Rattle.runs.proofs.Fronts.{payloadOf, Ran, Front, idle}
 use Rattle.runs.proofs.Turns.{master-part}
 use Rattle.session_run.proofs.Turns.{did-same, ran-taking}
-use Rattle.tray_record.specs.declared.Tray.{Tray}
-use Rattle.tray_record.specs.Tray.{emptyTray, packOf, storedOf}
-use Rattle.tray_record.proofs.Laws.{empty-wf, stored-wf}
-use Rattle.tray_record.proofs.Chosen.{one-idle}
+use Rattle.tray_record.proofs.Acting.{act-none}
 use Rattle.state_bytes.specs.declared.StateIn.{StateIn}
 use Rattle.state_bytes.specs.State.{stateBytes, sessionAt, stateIn, didIn, Became, StateStepped}
 use Rattle.state_bytes.specs.Theorems.{StateWF}
 use Rattle.state_bytes.proofs.Undoing.{state-length, in-size, read-held, undoing}
-use Rattle.state_bytes.proofs.TrayUndoing.{no-gauge-wf}
 use Rattle.state_bytes.proofs.Kept.{did-sized, did-uncounted}
 
 module _ {state bytes room : List ℕ} {held : StateIn} (h : held ≡ stateIn state) where
@@ -109,13 +105,6 @@ became {state} e made w is = record {
   written = e ∙ ap (λ (x : Gauge). put state 0 (stateBytes (loadedWith x))) (made ∙ is);
   wf = subst GaugeWF (made ∙ is) w;
 }
-
--- a command that cannot change a gauge leaves it as it is: said of a tray, and so of the gauge that is put into its first slot
-acted-none : (g : Gauge) (t : Transaction) (master : List ℕ) → GaugeWF g → canChange (t .command) ≡ false → actOf g t master ≡ g
-acted-none g t master w none =
-    let τ = storedOf emptyTray 0 g in
-    let stays = one-idle t master τ 0 (stored-wf emptyTray 0 g (empty-wf no-gauge-wf) w) (omega arith) none in
-    sym (ap (λ (x : Tray). packOf x 0) stays)
 
 module _ (state : List ℕ) (zero : stateIn state .number ≡ 0) where
   was-read : record { number = 0; session = sessionAt state } ≡ stateIn state
@@ -190,7 +179,7 @@ module _ (state : List ℕ) (zero : stateIn state .number ≡ 0) where
             → after ≡ put state 0 (stateBytes (loadedWith (actOf (sessionAt state .gauge) t lent)))
         state-after true e h = h
         state-after false e h =
-            let stays = loaded ∙ ap loadedWith (sym (acted-none (sessionAt state .gauge) t lent held-wf e)) in
+            let stays = loaded ∙ ap loadedWith (sym (act-none t lent (sessionAt state .gauge) e)) in
             h ∙ same-state ∙ ap (λ (s : Session). put state 0 (stateBytes s)) stays
 
         pub step-reply : {after last : List ℕ} → GaugeWF (actOf (sessionAt state .gauge) t lent)

@@ -42,6 +42,14 @@ module _ (t : Transaction) (master : List ℕ) where
       by true command.Lock e = absurd (never e)
       by true command.Nothing e = refl
 
+  -- a command that cannot change a gauge leaves it as it is, selected or not
+  pub act-none : (g : Gauge) → canChange (t .command) ≡ false → actOf g t master ≡ g
+  act-none g none = act-idle g (by (selectedOf (g .common .address) t master))
+    where
+      by : (chosen : Bool) → both chosen (canChange (t .command)) ≡ false
+      by true = none
+      by false = refl
+
   stored-itself : (τ : Tray) (i : ℕ) → TrayWF τ → i < 8 → storedOf τ i (packOf τ i) ≡ τ
   stored-itself τ i w h =
       let commons = set-itself (τ .commons) i (noGauge .common) (omega (arith, w .sizes .0)) in
