@@ -12,12 +12,19 @@ use lib.ListN.{length, drop}
 use Rattle.state.specs.declared.Profile.the-variants.{Ds2781, Ds2775}
 use Rattle.gauge.specs.declared.Gauge.{Gauge}
 use Rattle.gauge.specs.Image.{bytesOf, sizeFor}
+use Rattle.gauge.specs.Reach.{Reached}
 use Rattle.runs.specs.declared.Session.{Session}
-use Rattle.session_run.specs.SessionRun.{TakenOut}
+use Rattle.runs.specs.SessionRecord.{didOf}
+use Rattle.session_run.specs.SessionRun.{emptyOf, TakenOut}
 use Rattle.tray_record.specs.declared.Tray.{Tray}
-use Rattle.tray_record.specs.Tray.{packOf}
+use Rattle.tray_record.specs.Tray.{emptyTray, packOf, trayDid}
 use Rattle.tray_run.specs.TrayRun.{slotHeld, SlotOut}
 use Rattle.demands.specs.Images.{profileOf}
+use Rattle.demands.specs.Call.{Call, Within}
+
+-- the image of a gauge has as many bytes as are taken from the room
+abbrev pub Fills : Gauge → Type 0
+Fills gauge = length (bytesOf gauge) ≡ sizeFor gauge
 
 -- a refusal, with which nothing is written
 abbrev pub RefusedOut : ℕ → List ℕ → ℕ → List ℕ → Type 0
@@ -31,6 +38,10 @@ pub record OutAnswers : Type 0 where
   -- how many bytes an image has
   pub sixty : (g : Gauge) → profileOf g ≡ Ds2781 → sizeFor g ≡ 60
   pub sixty-one : (g : Gauge) → profileOf g ≡ Ds2775 → sizeFor g ≡ 61
+  -- "the first 60 bytes of the lent room": the image of any gauge that events reach from an accepted one has so many, and so that of what a run left
+  pub fills : (g : Gauge) → Reached g → Fills g
+  pub session-fills : (d : Call Session) → Within didOf emptyOf d → d .ran .state .loaded ≡ true → Fills (d .ran .state .gauge)
+  pub slot-fills : (d : Call Tray) (i : ℕ) → Within trayDid emptyTray d → i < d .ran .state .count → Fills (packOf (d .ran .state) i)
   -- of a session
   pub unaccepted : (σ : Session) (room : List ℕ) (answer : ℕ) (after : List ℕ) → TakenOut σ room answer after
       → σ .loaded ≡ false → RefusedOut 5 room answer after
