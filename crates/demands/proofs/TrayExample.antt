@@ -32,12 +32,12 @@ use Rattle.runs.specs.declared.Session.{Session}
 use Rattle.runs.specs.SessionRecord.{didOf}
 use Rattle.session_run.specs.SessionRun.{emptyOf}
 use Rattle.tray_record.specs.declared.Tray.{Tray}
-use Rattle.tray_record.specs.Tray.{emptyTray, packOf, searchOf, trayKindOf, matchedOf, trayDid}
+use Rattle.tray_record.specs.Tray.{emptyTray, packOf, searchOf, trayKindOf, matchedOf, one, trayDid}
 use Rattle.tray_run.specs.TrayRun.{trayLines, slotOutNumber, slotOutRoom}
 use Rattle.demands.specs.Call.{Call, Within, linesIn, firstOf, Stopped}
 use Rattle.demands.specs.Sections.{last, more}
 use Rattle.demands.specs.Class.{blockOf, touchedOf, labelsOf, touchedClass}
-use Rattle.demands.specs.Alone.{slotted, AloneMet}
+use Rattle.demands.specs.Alone.{reachIn, slotted, AloneMet}
 use Rattle.demands.specs.Demand2.{SlotCarried, SlotPowersOn, SlotCarriedMet}
 use Rattle.demands.specs.Demand3.{imageRecords, TrayDemand3Met, WholeTrayDemand3Met, WholeTrayRefusedMet}
 use Rattle.demands.specs.Single.{inTray, SingleMet}
@@ -299,7 +299,7 @@ slot-carried-met = record {
   powered = slot-powers-on;
 }
 
--- A slot's event changes its own pack, and a transaction that every pack hears leaves both with the same label
+-- A slot's event and a matched transaction change their own pack, and a transaction that every pack hears leaves both with the same label
 
 abbrev two-packs : Tray
 two-packs = call (opened []) .ran .state
@@ -308,6 +308,20 @@ pub own-changes : packOf (trayDid two-packs 0 (converting 1) .state) 1 ≡ packO
 unfolding recOf sizeOf wholeOf trayDid trayKindOf searchOf judgedAmong addressedOf orderedOf crc.bitOf crc.eightOf crc.nextOf imageOf poweredOf
     conversionOf convertOf flowedOf
 own-changes e = let z : _≡_ {A = ℕ} 31768 32768 = ap (λ (g : Gauge). g .meter .flow .trace .last) e in omega arith
+
+-- two bytes written at 20h of the pack in slot 1 alone
+abbrev labelled : List ℕ
+labelled = 0 ∷ 0x55 ∷ (address ++ (0x6c ∷ 0x20 ∷ 0x5a ∷ 0xa5 ∷ []))
+
+reaches-own : reachIn two-packs Short labelled ≡ one 1
+unfolding recOf sizeOf wholeOf trayDid trayKindOf searchOf matchedOf judgedAmong addressedOf orderedOf crc.bitOf crc.eightOf crc.nextOf imageOf
+    askedOf askedAt romBy commandOf
+reaches-own = refl
+
+matched-changes : packOf (trayDid two-packs 0 (whole 4 labelled) .state) 1 ≡ packOf two-packs 1 → ⊥
+unfolding recOf sizeOf wholeOf trayDid trayKindOf searchOf matchedOf judgedAmong addressedOf orderedOf crc.bitOf crc.eightOf crc.nextOf imageOf
+    askedOf askedAt romBy commandOf actOf selectedOf ownOf ranOf writtenOf labelWrittenOf laidOf inLabel
+matched-changes e = let z : _≡_ {A = ℕ} 0x5a 0 = ap (λ (g : Gauge). getD (g .label .shadow) 0 0) e in omega arith
 
 pub skip-changes : packOf (trayDid two-packs 0 writing .state) 0 .label .shadow ≡ packOf (trayDid two-packs 0 writing .state) 1 .label .shadow
 unfolding recOf sizeOf wholeOf trayDid trayKindOf searchOf judgedAmong addressedOf orderedOf crc.bitOf crc.eightOf crc.nextOf imageOf
@@ -332,6 +346,10 @@ alone-met = record {
   slot = 1;
   goes = slotted refl refl;
   changes = own-changes;
+  form = Short;
+  payload = labelled;
+  reaches = reaches-own;
+  matched-changes = matched-changes;
   skip = writing;
   first-hears = first-hears;
   second-hears = second-hears;

@@ -29,7 +29,8 @@ pub data Goes (τ : Tray) (i : ℕ) : Rec → Type 0 where
 abbrev pub Alone : Type 0
 Alone = (τ : Tray) (room : ℕ) (r : Rec) (i j : ℕ) → Goes τ i r → (j ≡ i → ⊥) → packOf (trayDid τ room r .state) j ≡ packOf τ j
 
--- and it speaks of something: an event changes the pack of its own slot; and a write by CCh, which goes to every pack, changes two of them, to one label
+-- and it speaks of something: an event changes the pack of its own slot, and so does a transaction that is matched to it; and a write by CCh, which goes to
+-- every pack, changes two of them, to one label
 pub record AloneMet : Type 0 where
   pub tray : Tray
   pub room : ℕ
@@ -37,6 +38,10 @@ pub record AloneMet : Type 0 where
   pub slot : ℕ
   pub goes : Goes tray slot event
   pub changes : packOf (trayDid tray room event .state) slot ≡ packOf tray slot → ⊥
+  pub form : Form
+  pub payload : List ℕ
+  pub reaches : reachIn tray form payload ≡ one slot
+  pub matched-changes : packOf (trayDid tray room (whole (formKind form) payload) .state) slot ≡ packOf tray slot → ⊥
   pub skip : Rec
   pub first-hears : packOf (trayDid tray room skip .state) 0 ≡ packOf tray 0 → ⊥
   pub second-hears : packOf (trayDid tray room skip .state) 1 ≡ packOf tray 1 → ⊥
