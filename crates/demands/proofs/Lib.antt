@@ -55,6 +55,7 @@ pub mod TakeOut
 pub mod Bus
 pub mod Words
 pub mod Cycles
+pub mod Offset
 pub mod Functions
 pub mod NoSlack
 pub mod Crc

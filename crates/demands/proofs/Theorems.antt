@@ -29,6 +29,7 @@ use Rattle.demands.proofs.TakeOut.{out-answers}
 use Rattle.demands.proofs.Bus.{bus-rules}
 use Rattle.demands.proofs.Words.{words-mean}
 use Rattle.demands.proofs.Cycles.{cycle-rules}
+use Rattle.demands.proofs.Offset.{offset-runs}
 use Rattle.demands.proofs.Demand1.{demand-1, tray-demand-1}
 use Rattle.demands.proofs.Numbers.{each-number-holds}
 use Rattle.demands.proofs.Demand2.{taken-image, demand-2, tray-demand-2}
@@ -118,6 +119,7 @@ gauges = record {
   engines = both-engines;
   slow = slow;
   offset = offset-rules;
+  offset-runs = offset-runs;
   offset-images = offset-uncarried;
   offset-figures = offset-figures-hold;
   longer = longer;

@@ -25,6 +25,7 @@ pub mod TakeOut
 pub mod Bus
 pub mod Words
 pub mod Cycles
+pub mod Offset
 pub mod Printed
 pub mod Contracts
 pub mod NoSlack

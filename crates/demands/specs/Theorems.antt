@@ -38,6 +38,7 @@ use Rattle.demands.specs.TakeOut.{OutAnswers}
 use Rattle.demands.specs.Bus.{BusRules}
 use Rattle.demands.specs.Words.{WordsMean}
 use Rattle.demands.specs.Cycles.{CycleRules}
+use Rattle.demands.specs.Offset.{OffsetRuns}
 use Rattle.demands.specs.Printed.{PrintedLines}
 use Rattle.demands.specs.Demand1.{sessionMost, trayMost, Demand1}
 use Rattle.demands.specs.Demand2.{Demand2, Demand2Met, ReadBackMet, TrayDemand2, SlotCarriedMet, SlotReadBackMet}
@@ -162,6 +163,7 @@ pub record OfGauges : Type 0 where
   -- [7]: "On the 1024th, the previous c is shown, averaged and counted; the raw value is ignored. The first conversion after an ACR write, by bus only,
   -- shows and averages its c but adds nothing to the count, AB included. .. power-on clears both"
   pub offset : OffsetRules
+  pub offset-runs : OffsetRuns
   -- "The image carries neither"
   pub offset-images : OffsetUncarried
   pub offset-figures : Hold offsetFigures
