@@ -1,5 +1,5 @@
 -- What mending is worth, proved.
-use mathlib.Core.Path.{_≡_, refl, sym, ap, _∙_}
+use mathlib.Core.Path.{_≡_, refl, sym, ap, subst, _∙_}
 use mathlib.Core.Bool.{Bool, true, false}
 use mathlib.Core.Logic.{_≢_}
 use mathlib.Core.List.{List, [], _∷_, _++_}
@@ -33,7 +33,8 @@ use Rattle.mending.specs.declared.MendRefusal.{MendRefusal}
 use Rattle.mending.specs.declared.Mended.{Mended}
 use Rattle.mending.specs.declared.Mended.the-variants as mended
 use Rattle.mending.specs.declared.Listed.the-variants as listed
-use Rattle.mending.specs.Worth.{Mendable, SoundImage, KeptBytes, LinesTold, AcceptedTheorem, UnchangedTheorem, TwiceTheorem}
+use Rattle.mending.specs.Worth.{Mendable, SoundImage, Arranged, KeptBytes, MendedBytes, MendedBreakpoints, LinesTold}
+use Rattle.mending.specs.Worth.{AcceptedTheorem, UnchangedTheorem, TwiceTheorem}
 use Rattle.mending.specs.Worth.{ArrangedTheorem, CappedTheorem, KeptTheorem, ByCallTheorem}
 use Rattle.mending.specs.Worth.{LinesTheorem, NoLinesTheorem, LinesAgainTheorem, StaysTheorem, ListingTheorem}
 use Rattle.mending.proofs.Laws.{granted, mended-length}
@@ -47,6 +48,12 @@ back x h = omega arith
 
 moved-again : (x : ℕ) → movedInto 63 128 (movedInto 63 128 x) ≡ movedInto 63 128 x
 moved-again x = omega arith
+
+moved-up : (x : ℕ) → x < 63 → movedInto 63 128 x ≡ 63
+moved-up x h = omega arith
+
+moved-down : (x : ℕ) → 128 < x → movedInto 63 128 x ≡ 128
+moved-down x h = omega arith
 
 moved-none : (x : ℕ) → 63 ≤ x → x ≤ 128 → movedInto 63 128 x ≡ x
 moved-none x h i = omega arith
@@ -368,6 +375,26 @@ module _ (image : List ℕ) (size : length image ≡ imageSize) where
     others = there .others;
   }
 
+  -- ---- what stands in the six bytes that can change
+
+  stands : MendedBytes image m
+  stands = record {
+    crc = there .crc;
+    old = λ h. there .aging ∙ moved-up (imageAging image) h;
+    young = λ h. there .aging ∙ moved-down (imageAging image) h;
+    in-range = λ low high. there .aging ∙ moved-none (imageAging image) low high;
+    locks = there .locks;
+  }
+
+  breaks-stand : MendedBreakpoints image m
+  breaks-stand = record {
+    breaks = breaks-there;
+    ascending = subst (Arranged (cappedOf (imageBreaks image))) (sym breaks-there) (arranged (cappedOf (imageBreaks image)));
+    tbp34 = there .b34 ∙ sym (ap (λ (x : Breaks). offset8Of (x .b34)) breaks-there);
+    tbp23 = there .b23 ∙ sym (ap (λ (x : Breaks). offset8Of (x .b23)) breaks-there);
+    tbp12 = there .b12 ∙ sym (ap (λ (x : Breaks). offset8Of (x .b12)) breaks-there);
+  }
+
 -- ---- an image that is sound already
 
 module _ (image : List ℕ) (s : SoundImage image) where
@@ -443,7 +470,7 @@ pub twice : TwiceTheorem
 twice image g = let e = again image (g .sized) in (e, quiet (mendedOf image) e)
 
 pub kept : KeptTheorem
-kept image size = keeps image size
+kept image size = (keeps image size, stands image size, breaks-stand image size)
 
 by-done : (image room after : List ℕ) → Mending image room mended.Done after → Mendable image × (take imageSize after ≡ mendedOf image)
 by-done image room after w =

@@ -4,30 +4,31 @@
 -- mending once."
 --
 -- Stated of the judge that a session asks, of every image; `ByCallTheorem` says that these are the images of every call of `mend` that is not refused.
--- `ListingTheorem` says what every call of `changes` tells, and the second sentence of both.
+-- `ListingTheorem` says what every call of `changes` tells, and the second of these sentences of the calls of both functions.
 use mathlib.Core.Path.{_≡_}
 use mathlib.Core.Bool.{false}
 use mathlib.Core.Logic.{_≢_}
 use mathlib.Core.List.{List, []}
-use Prim.Native.Nat.{ℕ, _+_, _≤_, _<_}
+use Prim.Native.Nat.{ℕ, _+_, _%_, _≤_, _<_}
 use lib.IntN.{pos}
 use lib.ListN.{length, getD, take, drop}
 use lib.Signed.{leZ}
 use Rattle.numbers.specs.Choice.{pick}
-use Rattle.numbers.specs.Offset.{value}
+use Rattle.numbers.specs.Offset.{value, offset8Of}
+use Rattle.crc.specs.Crc.{crcOf}
 use Rattle.params.specs.declared.Breaks.{Breaks}
 use Rattle.params.specs.Params.{byteAt}
 use Rattle.state.specs.declared.Profile.the-variants.{Ds2781}
 use Rattle.record.specs.declared.Event.the-variants.{Image}
 use Rattle.record.specs.declared.Taken.the-variants.{Run}
-use Rattle.record.specs.Image.{imageSize, addressAt, imageAddress, imageLabel, imageBlock, imageAcr, imageAging, imageBl0, imageBl1}
+use Rattle.record.specs.Image.{imageSize, addressAt, imageAddress, imageLabel, imageBlock, imageBreaks, imageAcr, imageAging, imageBl0, imageBl1}
 use Rattle.record.specs.Record.{takenOf}
 use Rattle.mending.specs.declared.MendRefusal.{MendRefusal}
 use Rattle.mending.specs.declared.Mended.{Mended}
 use Rattle.mending.specs.declared.Mended.the-variants.{Done}
 use Rattle.mending.specs.declared.Listed.{Listed}
 use Rattle.mending.specs.declared.Listed.the-variants.{Lines, Refused}
-use Rattle.mending.specs.Mending.{capOf, arrangedOf, mendedOf, changesOf, changesSize, Mending, Listing}
+use Rattle.mending.specs.Mending.{capOf, cappedOf, arrangedOf, mendedOf, changesOf, changesSize, Mending, Listing}
 
 -- an image that is not refused
 pub record Mendable (image : List ℕ) : Type 0 where
@@ -88,8 +89,31 @@ pub record KeptBytes (image after : List ℕ) : Type 0 where
   -- byte by byte: six of them can change, the CRC, TBP34, TBP23 and TBP12, AS and the lock byte
   pub others : (i : ℕ) → i ≢ 0x07 → i ≢ 0x34 → i ≢ 0x35 → i ≢ 0x36 → i ≢ 0x3a → i ≢ 0x3b → getD after i 0 ≡ getD image i 0
 
+-- ---- what stands in the six: "address CRC recomputed, AS moved to the nearest end, upper six lock bits cleared, breakpoints capped at 40, then put in
+-- ascending order from TBP12"
+
+pub record MendedBytes (image after : List ℕ) : Type 0 where
+  -- of the first seven bytes, as they are
+  pub crc : getD after 0x07 0 ≡ crcOf (take 7 image)
+  pub old : getD image 0x3a 0 < 63 → getD after 0x3a 0 ≡ 63
+  pub young : 128 < getD image 0x3a 0 → getD after 0x3a 0 ≡ 128
+  pub in-range : 63 ≤ getD image 0x3a 0 → getD image 0x3a 0 ≤ 128 → getD after 0x3a 0 ≡ getD image 0x3a 0
+  pub locks : getD after 0x3b 0 ≡ getD image 0x3b 0 % 4
+
+-- the three that are read from the mended image are those that are read from the image, each capped, in ascending order
+pub record MendedBreakpoints (image after : List ℕ) : Type 0 where
+  pub breaks : imageBreaks after ≡ arrangedOf (cappedOf (imageBreaks image))
+  pub ascending : Arranged (cappedOf (imageBreaks image)) (imageBreaks after)
+  -- TBP34, TBP23 and TBP12 stand at these offsets, as bytes in two's complement
+  pub tbp34 : getD after 0x34 0 ≡ offset8Of (imageBreaks after .b34)
+  pub tbp23 : getD after 0x35 0 ≡ offset8Of (imageBreaks after .b23)
+  pub tbp12 : getD after 0x36 0 ≡ offset8Of (imageBreaks after .b12)
+
+-- so each of the 60 bytes is said
 abbrev pub KeptTheorem : Type 0
-KeptTheorem = (image : List ℕ) → length image ≡ imageSize → KeptBytes image (mendedOf image)
+KeptTheorem =
+    (image : List ℕ) → length image ≡ imageSize
+    → KeptBytes image (mendedOf image) × MendedBytes image (mendedOf image) × MendedBreakpoints image (mendedOf image)
 
 -- ---- and so of every call of `mend` that is done, whatever it was given
 
@@ -108,7 +132,7 @@ pub record LinesTold (image room : List ℕ) (n : ℕ) (after : List ℕ) : Type
 abbrev pub LinesTheorem : Type 0
 LinesTheorem = (image room after : List ℕ) (n : ℕ) → length room ≡ changesSize → Listing image room (Lines n) after → LinesTold image room n after
 
--- there are none only where no call of `mend` would be done, and then the room stays
+-- it is refused only where no call of `mend` would be done, and then the room stays
 abbrev pub NoLinesTheorem : Type 0
 NoLinesTheorem = (image room after : List ℕ) (why : MendRefusal) → Listing image room (Refused why) after → (Mendable image → ⊥) × (after ≡ room)
 
