@@ -5,7 +5,8 @@ use mathlib.Core.List.{List, [], _∷_, _++_}
 use Prim.Native.Nat.{ℕ, zero, suc, _+_, _-_, _≤_, _<_}
 use borrow.Author.Tests.{eqb-true, le-leb, lt-ltb}
 use lib.Dec.{ltb, eqb}
-use lib.ListN.{length, getD, take, replicate}
+use lib.ListN.{length, getD, take}
+use Rattle.numbers.specs.Choice.{both, either, butNot}
 use Rattle.numbers.proofs.Bounds.{picked}
 use Rattle.params.specs.Params.{rnaopOf}
 use Rattle.slices.specs.Slices.{laidOf}
@@ -14,23 +15,25 @@ use Rattle.state.specs.declared.Label.{Label}
 use Rattle.state.specs.declared.Meter.{Meter}
 use Rattle.state.specs.declared.Profile.{Profile}
 use Rattle.state.specs.State.{countsCycles, poweredOf, restartedOf}
-use Rattle.label.specs.Label.{inLabel, inBlock, labelWrittenOf, labelCopiedOf, labelRecalledOf}
-use Rattle.block1.specs.Block1.{reachesOf, cyclesWrittenOf, blockWrittenOf, meterWrittenOf, blockCopiedOf, meterCopiedOf, blockRecalledOf, meterRecalledOf}
+use Rattle.label.specs.Label.{inLabel, inBlock, labelWrittenOf, labelCopiedOf, labelRecalledOf, commonLockedOf}
+use Rattle.block1.specs.Block1.{withCells, withLocks, reachesOf, cyclesWrittenOf, blockWrittenOf, meterWrittenOf, blockCopiedOf, meterCopiedOf}
+use Rattle.block1.specs.Block1.{blockRecalledOf, meterRecalledOf, meterLockedOf}
 use Rattle.block1.proofs.Kept.{written-locked, copied-locked, cycles-uncounted, cycles-locked}
-use Rattle.label.proofs.Kept.{label-written-locked, label-copied-locked}
+use Rattle.label.proofs.Kept.{but-none, label-written-locked, label-copied-locked}
 use Rattle.bus.specs.declared.Rom.{Rom}
 use Rattle.bus.specs.declared.Rom.the-variants.{Net33, Net39, Skip, Match, Quiet}
 use Rattle.bus.specs.declared.Transaction.{Transaction}
 use Rattle.bus.specs.Ask.{romBy, romOf, askedAt, askedBy, askedOf}
 use Rattle.bus.proofs.Laws.{own-own, own-only, asked-placed}
-use Rattle.replies.specs.declared.Source.the-variants.{Idle}
-use Rattle.replies.specs.Reply.{selectedBy, selectedOf, netSourceOf, sourceByte, listed}
+use Rattle.replies.specs.declared.Source.{Source}
+use Rattle.replies.specs.declared.Source.the-variants.{Address, Idle}
+use Rattle.replies.specs.Reply.{selectedBy, selectedOf, netSourceOf, netByte, sourceByte, listed}
 use Rattle.gauge.specs.declared.Gauge.{Gauge}
-use Rattle.gauge.specs.Gauge.{writtenOf, copiedOf, recalledOf, powerOnOf}
+use Rattle.gauge.specs.Gauge.{writtenOf, copiedOf, recalledOf, lockedOf, powerOnOf}
 use Rattle.gauge.specs.Act.{actOf, replyOf}
 use Rattle.gauge.proofs.Kept.{saved-untouched, address-kept, no-block, save-ignores-locks}
 use Rattle.demands.specs.Images.{profileOf}
-use Rattle.demands.specs.Bus.{firstByte, selects, BusRules}
+use Rattle.demands.specs.Bus.{firstByte, selects, allHigh, BusRules}
 
 -- The first byte says who is selected
 
@@ -84,7 +87,7 @@ others-none address (b ∷ rest) start count skip match =
 
 -- A reply of nothing is FFh
 
-idle-high : (common : Common) (label : Label) (meter : Meter) (n i : ℕ) → listed (sourceByte common label meter Idle) i n ≡ replicate n 0xff
+idle-high : (common : Common) (label : Label) (meter : Meter) (n i : ℕ) → listed (sourceByte common label meter Idle) i n ≡ allHigh n
 unfolding sourceByte
 idle-high common label meter zero i = refl
 idle-high common label meter (suc n) i = ap (λ (l : List ℕ). 0xff ∷ l) (idle-high common label meter n (i + 1))
@@ -93,28 +96,44 @@ module _ (g : Gauge) (start count : ℕ) (master : List ℕ) where
   abbrev rnaop : Bool
   rnaop = rnaopOf (g .meter .cells .block .shadow)
 
-  quiet-high : selects (g .common .address) start count master ≡ false → netSourceOf (romOf master) rnaop ≡ Idle
-      → replyOf g (askedOf start count master) master ≡ replicate count 0xff
+  sourced : (source : Source) → selects (g .common .address) start count master ≡ false → netSourceOf (romOf master) rnaop ≡ source
+      → replyOf g (askedOf start count master) master ≡ listed (sourceByte (g .common) (g .label) (g .meter) source) 0 count
   unfolding replyOf
-  quiet-high none idle =
-      rw (none, asked-rom start count master, idle, asked-placed start count master .counts)
-      (idle-high (g .common) (g .label) (g .meter) count 0)
+  sourced source none from = rw (none, asked-rom start count master, from, asked-placed start count master .counts) refl
+
+  quiet-high : selects (g .common .address) start count master ≡ false → netSourceOf (romOf master) rnaop ≡ Idle
+      → replyOf g (askedOf start count master) master ≡ allHigh count
+  quiet-high none idle = sourced Idle none idle ∙ idle-high (g .common) (g .label) (g .meter) count 0
 
 unselected-high : (g : Gauge) (start count : ℕ) (master : List ℕ) → (firstByte master ≡ 0x33 → ⊥) → (firstByte master ≡ 0x39 → ⊥)
-    → selects (g .common .address) start count master ≡ false → replyOf g (askedOf start count master) master ≡ replicate count 0xff
+    → selects (g .common .address) start count master ≡ false → replyOf g (askedOf start count master) master ≡ allHigh count
 unselected-high g start count [] net33 net39 none = quiet-high g start count [] none refl
 unselected-high g start count (b ∷ rest) net33 net39 none =
     quiet-high g start count (b ∷ rest) none
     (first-rom (λ (rom : Rom). netSourceOf rom (rnaop g start count (b ∷ rest)) ≡ Idle) b
     (λ e. absurd (net33 e)) (λ e. absurd (net39 e)) (λ e. refl) (λ e. refl) refl)
 
+-- The net address reads
+
+net-33h : (g : Gauge) (start count : ℕ) (rest : List ℕ) → rnaopOf (g .meter .cells .block .shadow) ≡ false
+    → replyOf g (askedOf start count (0x33 ∷ rest)) (0x33 ∷ rest) ≡ listed (netByte (g .common .address)) 0 count
+unfolding romBy sourceByte
+net-33h g start count rest e =
+    sourced g start count (0x33 ∷ rest) Address (selected-by start count (0x33 ∷ rest) (g .common .address)) (rw e refl)
+
+net-39h : (g : Gauge) (start count : ℕ) (rest : List ℕ) → rnaopOf (g .meter .cells .block .shadow) ≡ true
+    → replyOf g (askedOf start count (0x39 ∷ rest)) (0x39 ∷ rest) ≡ listed (netByte (g .common .address)) 0 count
+unfolding romBy sourceByte
+net-39h g start count rest e =
+    sourced g start count (0x39 ∷ rest) Address (selected-by start count (0x39 ∷ rest) (g .common .address)) (rw e refl)
+
 wrong-33h : (g : Gauge) (start count : ℕ) (rest : List ℕ) → rnaopOf (g .meter .cells .block .shadow) ≡ true
-    → replyOf g (askedOf start count (0x33 ∷ rest)) (0x33 ∷ rest) ≡ replicate count 0xff
+    → replyOf g (askedOf start count (0x33 ∷ rest)) (0x33 ∷ rest) ≡ allHigh count
 unfolding romBy
 wrong-33h g start count rest e = quiet-high g start count (0x33 ∷ rest) (selected-by start count (0x33 ∷ rest) (g .common .address)) (rw e refl)
 
 wrong-39h : (g : Gauge) (start count : ℕ) (rest : List ℕ) → rnaopOf (g .meter .cells .block .shadow) ≡ false
-    → replyOf g (askedOf start count (0x39 ∷ rest)) (0x39 ∷ rest) ≡ replicate count 0xff
+    → replyOf g (askedOf start count (0x39 ∷ rest)) (0x39 ∷ rest) ≡ allHigh count
 unfolding romBy
 wrong-39h g start count rest e = quiet-high g start count (0x39 ∷ rest) (selected-by start count (0x39 ∷ rest) (g .common .address)) (rw e refl)
 
@@ -183,6 +202,37 @@ module _ (g : Gauge) (a : ℕ) where
   unfolding copiedOf recalledOf meterCopiedOf meterRecalledOf
   counter-left = (refl, refl)
 
+-- A lock
+
+either-set : (t : Bool) → either t true ≡ true
+either-set true = refl
+either-set false = refl
+
+module _ (g : Gauge) (a : ℕ) where
+  label-locks : g .meter .cells .locks .lock ≡ true → inLabel a ≡ true
+      → (lockedOf g a .common .bl0 ≡ true) × (lockedOf g a .meter .cells .locks .lock ≡ false)
+  unfolding lockedOf commonLockedOf meterLockedOf
+  label-locks e here = (rw (e, here) (either-set (g .common .bl0)), rw (e, here) refl)
+
+  block-locks : g .meter .cells .locks .lock ≡ true → inBlock a ≡ true → lockedOf g a .meter .cells .locks ≡ record { lock = false; bl1 = true }
+  unfolding lockedOf meterLockedOf
+  block-locks e here = rw (e, here, either-set (g .meter .cells .locks .bl1), either-set (inLabel a)) refl
+
+  lock-needs-bit : g .meter .cells .locks .lock ≡ false → lockedOf g a ≡ g
+  unfolding lockedOf commonLockedOf meterLockedOf
+  lock-needs-bit e = λ i. record {
+    common = record { address = g .common .address; bl0 = none (g .common .bl0) (inLabel a) i };
+    label = g .label;
+    meter = withCells (g .meter) (withLocks (g .meter .cells) (record { lock = kept i; bl1 = none (g .meter .cells .locks .bl1) (inBlock a) i }));
+  }
+    where
+      none : (s t : Bool) → either s (both (g .meter .cells .locks .lock) t) ≡ s
+      none true t = refl
+      none false t = rw e refl
+
+      kept : butNot (g .meter .cells .locks .lock) (either (inLabel a) (inBlock a)) ≡ g .meter .cells .locks .lock
+      kept = rw e (but-none (either (inLabel a) (inBlock a)))
+
 alike : (m n : Meter) → m .cells .profile ≡ n .cells .profile → m .cells .block .eeprom ≡ n .cells .block .eeprom
     → m .cells .saved ≡ n .cells .saved → m .cells .locks .bl1 ≡ n .cells .locks .bl1 → restartedOf m ≡ restartedOf n
 unfolding poweredOf
@@ -203,6 +253,8 @@ bus-rules = record {
   own-only = own-only;
   match-selects = match-selects;
   match-only = match-only;
+  net-33h = net-33h;
+  net-39h = net-39h;
   skip-selects = skip-selects;
   others-select-none = others-none;
   unselected = unselected;
@@ -222,6 +274,9 @@ bus-rules = record {
   counter-locked = counter-shut;
   counter-none = counter-none;
   counter-left = counter-left;
+  label-locks = label-locks;
+  block-locks = block-locks;
+  lock-needs-bit = lock-needs-bit;
   saved-untouched = saved-untouched;
   save-ignores-locks = save-ignores-locks;
   address-kept = λ g c. address-kept (λ (f : Profile) (address : List ℕ). address ≡ g .common .address) .change g c refl;

@@ -15,7 +15,7 @@ use Rattle.block1.specs.Block1.{withCells, withLocks}
 use Rattle.label.specs.Label.{inLabel, inBlock}
 use Rattle.bus.specs.declared.Transaction.{Transaction}
 use Rattle.bus.specs.Ask.{ownOf, askedOf}
-use Rattle.replies.specs.Reply.{selectedOf}
+use Rattle.replies.specs.Reply.{selectedOf, netByte, listed}
 use Rattle.record.specs.declared.Change.{Change}
 use Rattle.gauge.specs.declared.Gauge.{Gauge}
 use Rattle.gauge.specs.Gauge.{writtenOf, copiedOf, recalledOf, lockedOf, readingOf, powerOnOf}
@@ -31,6 +31,10 @@ firstByte master = getD master 0 0
 abbrev pub selects : List ℕ → ℕ → ℕ → List ℕ → Bool
 selects address start count master = selectedOf address (askedOf start count master) master
 
+-- a reply of so many bytes, all FFh
+abbrev pub allHigh : ℕ → List ℕ
+allHigh count = replicate count 0xff
+
 -- a gauge with other locks
 abbrev pub relockedAs : Gauge → Common → Locks → Gauge
 relockedAs gauge common locks = record { common = common; label = gauge .label; meter = withCells (gauge .meter) (withLocks (gauge .meter .cells) locks) }
@@ -41,6 +45,11 @@ pub record BusRules : Type 0 where
   pub own-only : (address master : List ℕ) → ownOf address master ≡ true → take 8 (drop 1 master) ≡ address
   pub match-selects : (address rest : List ℕ) (start count : ℕ) → length address ≡ 8 → selects address start count (0x55 ∷ (address ++ rest)) ≡ true
   pub match-only : (address rest : List ℕ) (start count : ℕ) → selects address start count (0x55 ∷ rest) ≡ true → take 8 rest ≡ address
+  -- "33h (RNAOP 0) or 39h (RNAOP 1) .. replies the 8 address bytes, then FFh"
+  pub net-33h : (g : Gauge) (start count : ℕ) (rest : List ℕ) → rnaopOf (g .meter .cells .block .shadow) ≡ false
+      → replyOf g (askedOf start count (0x33 ∷ rest)) (0x33 ∷ rest) ≡ listed (netByte (g .common .address)) 0 count
+  pub net-39h : (g : Gauge) (start count : ℕ) (rest : List ℕ) → rnaopOf (g .meter .cells .block .shadow) ≡ true
+      → replyOf g (askedOf start count (0x39 ∷ rest)) (0x39 ∷ rest) ≡ listed (netByte (g .common .address)) 0 count
   -- "CCh selects": every gauge. No other first byte selects any, nor does a transaction without one
   pub skip-selects : (address rest : List ℕ) (start count : ℕ) → selects address start count (0xcc ∷ rest) ≡ true
   pub others-select-none : (address master : List ℕ) (start count : ℕ) → (firstByte master ≡ 0xcc → ⊥) → (firstByte master ≡ 0x55 → ⊥)
@@ -49,11 +58,11 @@ pub record BusRules : Type 0 where
   -- does not allow
   pub unselected : (g : Gauge) (t : Transaction) (master : List ℕ) → selectedOf (g .common .address) t master ≡ false → actOf g t master ≡ g
   pub unselected-high : (g : Gauge) (start count : ℕ) (master : List ℕ) → (firstByte master ≡ 0x33 → ⊥) → (firstByte master ≡ 0x39 → ⊥)
-      → selects (g .common .address) start count master ≡ false → replyOf g (askedOf start count master) master ≡ replicate count 0xff
+      → selects (g .common .address) start count master ≡ false → replyOf g (askedOf start count master) master ≡ allHigh count
   pub wrong-33h-high : (g : Gauge) (start count : ℕ) (rest : List ℕ) → rnaopOf (g .meter .cells .block .shadow) ≡ true
-      → replyOf g (askedOf start count (0x33 ∷ rest)) (0x33 ∷ rest) ≡ replicate count 0xff
+      → replyOf g (askedOf start count (0x33 ∷ rest)) (0x33 ∷ rest) ≡ allHigh count
   pub wrong-39h-high : (g : Gauge) (start count : ℕ) (rest : List ℕ) → rnaopOf (g .meter .cells .block .shadow) ≡ false
-      → replyOf g (askedOf start count (0x39 ∷ rest)) (0x39 ∷ rest) ≡ replicate count 0xff
+      → replyOf g (askedOf start count (0x39 ∷ rest)) (0x39 ∷ rest) ≡ allHigh count
   -- "For copy, recall and lock an address in no block does nothing."
   pub no-block : (g : Gauge) (a : ℕ) → inLabel a ≡ false → inBlock a ≡ false → (copiedOf g a ≡ g) × (recalledOf g a ≡ g) × (lockedOf g a ≡ g)
   -- "Dropped: .. locked"; "copy: .. if unlocked": neither reaches a locked block
@@ -80,6 +89,12 @@ pub record BusRules : Type 0 where
   pub counter-locked : (g : Gauge) (a : ℕ) (bytes : List ℕ) → g .meter .cells .locks .bl1 ≡ true → writtenOf g a bytes .meter .cycles ≡ g .meter .cycles
   pub counter-none : (g : Gauge) (a : ℕ) (bytes : List ℕ) → countsCycles (profileOf g) ≡ false → writtenOf g a bytes .meter .cycles ≡ g .meter .cycles
   pub counter-left : (g : Gauge) (a : ℕ) → (copiedOf g a .meter .cycles ≡ g .meter .cycles) × (recalledOf g a .meter .cycles ≡ g .meter .cycles)
+  -- "6Ah lock: if the LOCK bit is 1, lock the block and clear LOCK.": and else nothing
+  pub label-locks : (g : Gauge) (a : ℕ) → g .meter .cells .locks .lock ≡ true → inLabel a ≡ true
+      → (lockedOf g a .common .bl0 ≡ true) × (lockedOf g a .meter .cells .locks .lock ≡ false)
+  pub block-locks : (g : Gauge) (a : ℕ) → g .meter .cells .locks .lock ≡ true → inBlock a ≡ true
+      → lockedOf g a .meter .cells .locks ≡ record { lock = false; bl1 = true }
+  pub lock-needs-bit : (g : Gauge) (a : ℕ) → g .meter .cells .locks .lock ≡ false → lockedOf g a ≡ g
   -- "Saved cells belong to neither block and no lock covers them.": no transaction changes them, and a reading saves the same whatever is locked
   pub saved-untouched : (g : Gauge) (t : Transaction) (master : List ℕ) → actOf g t master .meter .cells .saved ≡ g .meter .cells .saved
   pub save-ignores-locks : (g : Gauge) (common : Common) (locks : Locks) (volt temp : ℕ)
