@@ -25,7 +25,7 @@ use Rattle.record.specs.declared.Event.the-variants.{Image, Change, Transact}
 use Rattle.record.specs.declared.Taken.{Taken}
 use Rattle.record.specs.declared.Taken.the-variants.{Run, Refused}
 use Rattle.record.specs.Record.{masterOf, fittedOf}
-use Rattle.runs.proofs.AnyRecord.{reply-length}
+use Rattle.gauge.proofs.Acting.{reply-length}
 use Rattle.runs.specs.Record.{whole, recsOf}
 use Rattle.runs.specs.Run.{Did}
 use Rattle.runs.specs.declared.Session.{Session}

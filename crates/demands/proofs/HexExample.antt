@@ -9,7 +9,7 @@ use borrow.Author.Tests.{ltb-true, ltb-false}
 use lib.Dec.{ltb, ltb→lt}
 use lib.ListN.{getD, replicate, List·getD-eq-default}
 use Rattle.crc.specs.Crc as crc
-use Rattle.crc.proofs.Table.{at}
+use Rattle.numbers.proofs.Table.{at}
 use Rattle.digits.specs.Digits.{hexOf}
 use Rattle.record.specs.Image.{imageBlock}
 use Rattle.record.specs.Record.{addressedOf, orderedOf, judgedAmong}

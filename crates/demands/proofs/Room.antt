@@ -18,7 +18,7 @@ use Rattle.runs.specs.Record.{Rec, whole, cut}
 use Rattle.runs.specs.Run.{Did, silently, Line, lineOf, linesAfter, endAfter}
 use Rattle.runs.specs.declared.Session.{Session}
 use Rattle.runs.specs.SessionRecord.{loadedWith, lastTick, takenDid, didOf}
-use Rattle.runs.proofs.AnyRecord.{reply-length}
+use Rattle.gauge.proofs.Acting.{reply-length}
 use Rattle.demands.specs.Class.{sessionAsked}
 use Rattle.demands.specs.Demand3.{takenAsks, recAsks, asksAll}
 use Rattle.demands.proofs.Mix.{endFrom, gotFrom}

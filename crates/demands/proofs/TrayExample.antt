@@ -10,7 +10,7 @@ use lib.ListN.{length, getD, replicate, List·getD-eq-default}
 use Rattle.state.specs.declared.Profile.{Profile}
 use Rattle.state.specs.declared.Profile.the-variants.{Ds2781, Ds2775}
 use Rattle.crc.specs.Crc as crc
-use Rattle.crc.proofs.Table.{at}
+use Rattle.numbers.proofs.Table.{at}
 use Rattle.hex.specs.Theorems.{Bytes}
 use Rattle.slices.specs.Slices.{laidOf}
 use Rattle.state.specs.State.{timelyOf, poweredOf}

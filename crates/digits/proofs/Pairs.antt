@@ -7,7 +7,7 @@ use native.Mathlib.Omega.{arith}
 use lib.Dec.{T, eqb, eqb→eq}
 use lib.ListN.{length, getD}
 use Rattle.numbers.specs.Choice.{pick}
-use Rattle.crc.proofs.Table.{every, at}
+use Rattle.numbers.proofs.Table.{every, at}
 use Rattle.digits.specs.Digits.{hexOf, lower, pairText, pairsOf, entryText}
 
 -- the entry x is right at k: of a byte's two, the first is that of its upper half

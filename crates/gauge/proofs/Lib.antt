@@ -1,5 +1,6 @@
 pub mod Kept
 pub mod Unique
+pub mod Acting
 pub mod Aging
 pub mod Profiles
 pub mod Image

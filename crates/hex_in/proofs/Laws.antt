@@ -4,11 +4,11 @@ use mathlib.Core.List.{List, _++_}
 use Prim.Native.Nat.{ℕ, _≤_, _<_}
 use native.Mathlib.Omega.{arith}
 use borrow.Author.Tests.{lt-ltb, le-ltb}
-use lib.ListN.{length, drop, length-append}
-use Rattle.slices.proofs.Laws.{put-front}
+use lib.ListN.{length, length-append}
 use Rattle.streams.specs.declared.Said.{Said}
 use Rattle.streams.specs.declared.Stream.the-variants.{Output}
 use Rattle.streams.specs.Streams.{Saying, error, refusedText}
+use Rattle.streams.proofs.Laws.{front-put}
 use Rattle.hex.specs.declared.HexRefusal.{HexRefusal}
 use Rattle.hex.specs.declared.Answer.{Answer}
 use Rattle.hex.specs.declared.Answer.the-variants.{Done, Refused}
@@ -42,7 +42,7 @@ module _ {text room after : List ℕ} {answer : Answer} (w : Importing text room
   bytes-said is =
       let bytes : List ℕ = importedOf (textLines text) in
       let long : length bytes ≡ importSize = imported-length is in
-      let front = put-front room bytes (omega arith) ∙ ap (λ (n : ℕ). bytes ++ drop n room) long in
+      let front = front-put room bytes long (omega arith) in
       rw (le-ltb mostText (length text) few, answered ∙ is)
       (record {
         stream = refl;

@@ -1,18 +1,17 @@
 -- What follows of what `write` told, and of files that are too long.
 use mathlib.Core.Path.{_≡_, refl, sym, ap, _∙_}
 use mathlib.Core.Bool.{Bool, true, false}
-use mathlib.Core.List.{List, [], _++_}
+use mathlib.Core.List.{List, []}
 use Prim.Native.Nat.{ℕ, _<_}
 use native.Mathlib.Omega.{arith}
 use borrow.Author.Tests.{ne-eqb}
-use lib.ListN.{length, take, drop}
+use lib.ListN.{length, take}
 use Rattle.numbers.specs.Choice.{both}
-use Rattle.slices.proofs.Laws.{put-front}
 use Rattle.streams.specs.declared.Said.{Said}
 use Rattle.streams.specs.declared.Stream.the-variants.{Output}
 use Rattle.streams.specs.Streams.{Front, CountWithin, Speech, Saying, error, refusedText}
 use Rattle.digits.specs.Ascii.{ascii}
-use Rattle.streams.proofs.Laws.{cut, seen}
+use Rattle.streams.proofs.Laws.{cut, seen, front-put}
 use Rattle.record.specs.Image.{imageSize, imageBlock}
 use Rattle.record.specs.declared.Refusal.the-variants.{Size}
 use Rattle.record.specs.declared.Taken.the-variants as taken
@@ -45,7 +44,7 @@ module _ {pack factory room after : List ℕ} {answer : Answer} (w : Exporting p
       let text : List ℕ = exportText (exportLabel pack factory) (imageBlock pack) in
       let long : length text ≡ exportSize =
       text-length (exportLabel pack factory) (imageBlock pack) (label-sized pack factory held) (block-sized pack factory held) in
-      let front = put-front room text (omega arith) ∙ ap (λ (n : ℕ). text ++ drop n room) long in
+      let front = front-put room text long (omega arith) in
       rw (answered ∙ is)
       (record {
         stream = refl;

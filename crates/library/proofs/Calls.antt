@@ -17,12 +17,13 @@ use Rattle.session_run.specs.SessionRun.{emptyOf}
 use Rattle.tray_record.specs.declared.Tray.{Tray}
 use Rattle.tray_record.specs.Tray.{emptyTray}
 use Rattle.state_bytes.specs.declared.StateIn.{StateIn}
-use Rattle.state_bytes.specs.declared.StateStep.{StateStep}
 use Rattle.state_bytes.specs.declared.TrayStateIn.{TrayStateIn}
-use Rattle.state_bytes.specs.State.{stateSize, stateBytes, StateOut, StateStepped}
-use Rattle.state_bytes.specs.TrayState.{trayStateSize, trayStateBytes, TrayStateOut, TrayStateStepped}
+use Rattle.state_bytes.specs.State.{stateSize, stateBytes, StateOut}
+use Rattle.state_bytes.specs.TrayState.{trayStateSize, trayStateBytes, TrayStateOut}
 use Rattle.state_bytes.proofs.Undoing.{state-length, undoing}
 use Rattle.state_bytes.proofs.TrayUndoing.{empty-tray-good, tray-state-length, tray-undoing}
+use Rattle.state_bytes.specs.declared.StateStep.{StateStep}
+use Rattle.state_bytes.specs.Steps.{StateStepped, TrayStateStepped}
 use Rattle.library.specs.Library.{KeptAs, keptPack, keptTray, Started, isState, headed, doing, RecordDone, ImageTaken}
 
 never : true ≡ false → ⊥

@@ -1,15 +1,14 @@
 -- What follows of what `changes` and `mend` told, and of an input that is too long.
-use mathlib.Core.Path.{_≡_, refl, sym, ap, _∙_}
+use mathlib.Core.Path.{_≡_, refl, ap, _∙_}
 use mathlib.Core.Bool.{Bool}
 use mathlib.Core.List.{List, [], _++_, append-nil}
 use Prim.Native.Nat.{ℕ, _<_}
 use native.Mathlib.Omega.{arith}
 use borrow.Author.Tests.{ne-eqb}
 use lib.ListN.{length, take, drop-of-length-le}
-use Rattle.slices.proofs.Laws.{put-length}
 use Rattle.streams.specs.declared.Said.{Said}
 use Rattle.streams.specs.declared.Stream.the-variants.{Output}
-use Rattle.streams.specs.Streams.{Front, CountWithin, Speech, Saying, error, refusedText}
+use Rattle.streams.specs.Streams.{Front, CountWithin, Saying, error, refusedText}
 use Rattle.streams.proofs.Laws.{cut, seen}
 use Rattle.record.specs.Image.{imageSize}
 use Rattle.mending.specs.declared.MendRefusal.{MendRefusal}
@@ -58,10 +57,6 @@ filed {image} {file} {after} size w = by (mendingAnswer image imageSize) (rw siz
     by Done e =
         e ∙ ap (λ (rest : List ℕ). mendedOf image ++ rest) (drop-of-length-le file {i = imageSize} (omega arith)) ∙ append-nil (mendedOf image)
     by (Refused why) e = e
-
--- what is said leaves the room its length
-pub said-sized : {what : Speech} {room after : List ℕ} {r : Said} → Saying what room r after → length room ≡ length after
-said-sized {what} {room} w = sym (ap length (w .written) ∙ put-length room 0 (what .text))
 
 -- ---- of an input that is too long the bytes do not matter
 

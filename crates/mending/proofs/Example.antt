@@ -8,7 +8,7 @@ use borrow.Author.Tests.{ltb-true, ltb-false}
 use lib.Dec.{ltb, ltb→lt}
 use lib.ListN.{getD, replicate, List·getD-eq-default}
 use Rattle.crc.specs.Crc as crc
-use Rattle.crc.proofs.Table.{at}
+use Rattle.numbers.proofs.Table.{at}
 use Rattle.digits.specs.Ascii.{ascii}
 use Rattle.digits.specs.Digits.{hexOf}
 use Rattle.record.specs.declared.Refusal.the-variants.{Address}

@@ -1,15 +1,14 @@
 -- What follows of what `write` told, and of files that are too long.
 use mathlib.Core.Path.{_≡_, refl, sym, ap, _∙_}
-use mathlib.Core.List.{List, [], _++_}
+use mathlib.Core.List.{List, []}
 use Prim.Native.Nat.{ℕ, _<_}
 use native.Mathlib.Omega.{arith}
 use borrow.Author.Tests.{ne-eqb}
-use lib.ListN.{length, take, drop}
-use Rattle.slices.proofs.Laws.{put-front}
+use lib.ListN.{length, take}
 use Rattle.streams.specs.declared.Said.{Said}
 use Rattle.streams.specs.declared.Stream.the-variants.{Output}
 use Rattle.streams.specs.Streams.{Front, CountWithin, Saying, error, refusedText}
-use Rattle.streams.proofs.Laws.{cut, seen}
+use Rattle.streams.proofs.Laws.{cut, seen, front-put}
 use Rattle.state.specs.declared.Profile.the-variants.{Ds2781}
 use Rattle.record.specs.declared.Refusal.the-variants.{Size}
 use Rattle.record.specs.declared.Taken.{Taken}
@@ -43,7 +42,7 @@ module _ {image wanted room after : List ℕ} {answer : Written} (w : Programmin
   session-said is kept =
       let g = granted image wanted programmingSize (answered ∙ is) in
       let long : length (programmingOf image wanted) ≡ programmingSize = programming-length image wanted (judged-sized Ds2781 image (g .accepted)) (g .all) in
-      let front = put-front room (programmingOf image wanted) (omega arith) ∙ ap (λ (n : ℕ). programmingOf image wanted ++ drop n room) long in
+      let front = front-put room (programmingOf image wanted) long (omega arith) in
       rw (answered ∙ is)
       (record {
         stream = refl;

@@ -9,16 +9,13 @@ use lib.Dec.{ltb}
 use lib.ListN.{length}
 use Rattle.numbers.proofs.Bounds.{picked}
 use Rattle.slices.specs.Slices.{part, pairAt}
-use Rattle.bus.specs.declared.Transaction.{Transaction}
-use Rattle.replies.proofs.Listed.{listed-length}
-use Rattle.gauge.specs.declared.Gauge.{Gauge}
-use Rattle.gauge.specs.Act.{replyOf}
 use Rattle.record.specs.declared.Event.{Event}
 use Rattle.record.specs.declared.Event.the-variants.{Image, Change, Transact}
 use Rattle.record.specs.declared.Taken.{Taken}
 use Rattle.record.specs.declared.Taken.the-variants as taken
 use Rattle.record.specs.Record.{masterOf, asksOf, fittedOf}
 use Rattle.record.proofs.Fits.{refusal-range}
+use Rattle.gauge.proofs.Acting.{reply-length}
 use Rattle.runs.specs.Record.{Rec, whole, cut, wholeOf}
 use Rattle.runs.specs.Run.{Did}
 use Rattle.runs.proofs.Records.{rec-whole, size-whole, rec-cut, size-cut}
@@ -69,10 +66,6 @@ module _ {S : Type 0} (k : Steps S) (h : Replying k) where
   record-fits = record { answer = λ σ room r. small σ room r .answer; reply = λ σ room r. small σ room r .reply }
 
 -- ---- of sessions
-
-pub reply-length : (g : Gauge) (t : Transaction) (master : List ℕ) → length (replyOf g t master) ≡ t .count
-unfolding replyOf
-reply-length g t master = listed-length _ 0 (t .count)
 
 pub session-replying : Replying ofSession
 session-replying = record { answer = answers; reply = replies }

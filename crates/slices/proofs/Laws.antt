@@ -8,7 +8,7 @@ use native.Mathlib.Nat.{zero-add, add-zero, suc-add, add-suc, sub-zero}
 use native.Mathlib.Numerals.{add-one}
 use native.Mathlib.Omega.{arith}
 use lib.Dec.{eqb, leb}
-use lib.ListN.{length, getD, take, drop, set, length-append, length-take, length-drop, length-set, drop-of-length-le}
+use lib.ListN.{length, getD, take, drop, set, length-append, length-take, length-drop, length-set, drop-of-length-le, take-append-drop}
 use lib.Seq.{sets-eq, length-sets, drop-cons, drop-length, take-add, take-all, take-nil, take-at, drop-at}
 use lib.Seq.{drop-drop, length-take-le, getD-set-same, getD-set-other, getD-take, getD-drop}
 use borrow.Author.Tests.{eqb-true, eqb-false, leb-true, leb-false}
@@ -72,15 +72,39 @@ put-copy l s at n e h =
     rw k (put-whole l (part n s at) (part-length n s at h ∙ sym e))
 
 -- two parts, one behind the other
-part-both : (m n : ℕ) (s : List ℕ) (at : ℕ) → part (m + n) s at ≡ part m s at ++ part n s (at + m)
-part-both m n s at = take-add m n (drop at s) ∙ ap (λ (r : List ℕ). part m s at ++ take n r) (drop-drop m at s)
+pub part-joined : (m n : ℕ) (s : List ℕ) (at : ℕ) → part (m + n) s at ≡ part m s at ++ part n s (at + m)
+part-joined m n s at = take-add m n (drop at s) ∙ ap (λ (r : List ℕ). part m s at ++ take n r) (drop-drop m at s)
 
 pub put-both : (l s : List ℕ) (at m n : ℕ) → length l ≡ m + n → at + (m + n) ≤ length s →
     put (put l 0 (part m s at)) m (part n s (at + m)) ≡ part (m + n) s at
 put-both l s at m n e h =
     put-next l 0 m (part m s at) (part n s (at + m)) (omega (arith, part-length m s at (omega arith)))
-    ∙ ap (put l 0) (sym (part-both m n s at))
+    ∙ ap (put l 0) (sym (part-joined m n s at))
     ∙ put-whole l (part (m + n) s at) (part-length (m + n) s at h ∙ sym e)
+
+-- Bytes that stand there already need not be written
+
+pub put-there : (s : List ℕ) (i n : ℕ) (x : List ℕ) → part n s i ≡ x → i + n ≤ length s → put s i x ≡ s
+put-there s i n x e h =
+    let size = part-length n s i h in
+    ap (put s i) (sym e)
+    ∙ put-is s i (part n s i) (omega (arith, size))
+    ∙ ap (λ (k : ℕ). take i s ++ part n s i ++ drop (i + k) s) size
+    ∙ ap (λ (r : List ℕ). r ++ drop (i + n) s) (sym (take-add i n s))
+    ∙ take-append-drop (i + n) s
+
+-- the first of two, one behind the other
+pub put-second : (s : List ℕ) (i m : ℕ) (x y : List ℕ) → length x ≡ m → part m s i ≡ x → i + m ≤ length s → put s (i + m) y ≡ put s i (x ++ y)
+put-second s i m x y size e h =
+    ap (λ (l : List ℕ). put l (i + m) y) (sym (put-there s i m x e h)) ∙ put-next s i (i + m) x y (omega (arith, size))
+
+-- what stands behind bytes that are written is as it was
+pub part-behind : (s : List ℕ) (i m n : ℕ) (x : List ℕ) → length x ≡ m → i + m ≤ length s → part n (put s i x) (i + m) ≡ part n s (i + m)
+part-behind s i m n x size h =
+    let front : length (take i s ++ x) ≡ i + m = length-append (take i s) x ∙ omega (arith, length-take-le i s (omega arith), size) in
+    ap (λ (l : List ℕ). part n l (i + m)) (put-is s i x (omega (arith, size)))
+    ∙ ap (take n) (drop-at (take i s ++ x) (drop (i + length x) s) (i + m) front)
+    ∙ ap (λ (k : ℕ). take n (drop (i + k) s)) size
 
 -- A part that is lent, `&mut l[i..]`, and comes back
 

@@ -22,6 +22,10 @@ stored-then {m} {n} {xs} {ys} {l} {a} {b} {i} f g = record {
       g .written ∙ ap (λ (x : List ℕ). put x (i + m) ys) (f .written) ∙ put-next l i (i + m) xs ys (omega (arith, f .sized));
 }
 
+-- the same, of so many bytes in all
+pub stored-both : {k m n : ℕ} {xs ys l a b : List ℕ} {i : ℕ} → Stored m xs l i a → Stored n ys a (i + m) b → k ≡ m + n → Stored k (xs ++ ys) l i b
+stored-both {xs = xs} {ys} {l} {b = b} {i} f g e = subst (λ (n : ℕ). Stored n (xs ++ ys) l i b) (sym e) (stored-then f g)
+
 -- an array that holds the bytes of a value was stored
 pub stored-as : {n : ℕ} {array vs l b : List ℕ} {i : ℕ} → array ≡ vs → length vs ≡ n → b ≡ put l i array → Stored n vs l i b
 stored-as {vs = vs} {l} {b} {i} e size h = record { sized = size; written = h ∙ ap (put l i) e }
@@ -90,7 +94,7 @@ drop-less (suc m) n [] = ap (drop (suc m)) (take-nil (suc m + n)) ∙ sym (take-
 drop-less (suc m) n (x ∷ xs) = rw (suc-add m n) (drop-less m n xs)
 
 -- what two lists joined are a part of stands there one behind the other
-part-both : (m n : ℕ) (s : List ℕ) (i : ℕ) (x y : List ℕ) → length x ≡ m → part (m + n) s i ≡ x ++ y → (part m s i ≡ x) × (part n s (i + m) ≡ y)
+pub part-both : (m n : ℕ) (s : List ℕ) (i : ℕ) (x y : List ℕ) → length x ≡ m → part (m + n) s i ≡ x ++ y → (part m s i ≡ x) × (part n s (i + m) ≡ y)
 part-both m n s i x y size e = (
   sym (take-less m n (drop i s)) ∙ ap (take m) e ∙ take-at x y m size,
   ap (take n) (sym (drop-drop m i s)) ∙ sym (drop-less m n (drop i s)) ∙ ap (drop m) e ∙ drop-at x y m size,

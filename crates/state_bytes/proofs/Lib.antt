@@ -3,8 +3,12 @@ pub mod Plain
 pub mod TrayLaws
 pub mod Undoing
 pub mod TrayUndoing
+pub mod Tested
 pub mod Kept
 pub mod TrayKept
+pub mod Places
+pub mod TrayPlaces
+pub mod TrayActing
 pub mod Stepping
 pub mod TrayStepping
 pub mod Unique

@@ -3,20 +3,17 @@ use mathlib.Core.Path.{_≡_, refl, sym, ap, _∙_}
 use mathlib.Core.Bool.{Bool, true, false}
 use mathlib.Core.List.{List, [], _∷_, _++_, map}
 use Prim.Native.Nat.{ℕ, zero, suc, _+_, _*_, _/_, _%_, _≤_, _<_}
-use native.Mathlib.Nat.{add-zero}
-use native.Mathlib.Numerals.{add-one}
 use native.Mathlib.Omega.{arith}
-use borrow.Author.Tests.{eq-eqb, ne-eqb, le-ltb}
+use borrow.Author.Tests.{ne-eqb, le-ltb}
 use lib.Dec.{eqb, leb, ltb}
 use lib.ListN.{length, getD, take, drop, length-append, length-drop}
-use lib.Seq.{drop-cons, drop-drop, take-add, take-all}
-use Rattle.numbers.specs.Choice.{pick, both}
+use lib.Seq.{drop-cons, take-all}
+use Rattle.numbers.specs.Choice.{both}
 use Rattle.slices.specs.Slices.{part, pairAt}
-use Rattle.slices.proofs.Laws.{part-length}
+use Rattle.slices.proofs.Laws.{part-length, part-joined}
 use Rattle.bus.specs.Ask.{sameBytes}
 use Rattle.bus.proofs.Laws.{equal-same}
 use Rattle.runs.proofs.Records.{Bytes}
-use Rattle.state.specs.declared.Profile.{Profile}
 use Rattle.state.specs.State.{countsCycles}
 use Rattle.gauge.specs.declared.Gauge.{Gauge}
 use Rattle.state_bytes.specs.Layout.{Layout, number1, number2, number4, flag, flagByte, flagIn, bytes, plainAt, _then_, Fields, formed}
@@ -28,7 +25,8 @@ use Rattle.state_bytes.specs.State.{tickFields, tickLayout, flowFields, 
 use Rattle.state_bytes.specs.State.{readingFields, readingLayout, flagsFields, flagsLayout, shownFields, shownLayout, blockFields, blockLayout}
 use Rattle.state_bytes.specs.State.{cellsFields, cellsLayout, meterFields, meterLayout, labelFields, labelLayout, commonFields, commonLayout}
 use Rattle.state_bytes.specs.State.{gaugeFields, gaugeLayout, sessionFields, soundMeter}
-use Rattle.state_bytes.specs.TrayState.{trayFields, trayLayout, soundEach, soundTray, trayVersion, trayStateSize, trayStateBytes, trayAt, soundPlaces}
+use Rattle.state_bytes.specs.TrayState.{trayFields, trayLayout, soundEach, soundTray, trayVersion, trayStateSize, trayStateBytes, trayAt}
+use Rattle.state_bytes.specs.Tested.{soundPlaces}
 
 both-in-turn : (x y z : Bool) → both (both x y) z ≡ both x (both y z)
 both-in-turn true y z = refl
@@ -41,7 +39,7 @@ same-both (x ∷ a) b [] d e = absurd (omega (arith, e))
 same-both (x ∷ a) b (y ∷ c) d e =
     ap (both (eqb x y)) (same-both a b c d (omega (arith, e))) ∙ sym (both-in-turn (eqb x y) (sameBytes a c) (sameBytes b d))
 
-pub plain-both : (s xs ys : List ℕ) → plainAt s (xs ++ ys) ≡ both (plainAt s xs) (plainAt s ys)
+plain-both : (s xs ys : List ℕ) → plainAt s (xs ++ ys) ≡ both (plainAt s xs) (plainAt s ys)
 plain-both s [] ys = refl
 plain-both s (x ∷ xs) ys =
     ap (both (ltb (getD s x 0) 2)) (plain-both s xs ys) ∙ sym (both-in-turn (ltb (getD s x 0) 2) (plainAt s xs) (plainAt s ys))
@@ -51,9 +49,6 @@ plain-both s (x ∷ xs) ys =
 part-one : (s : List ℕ) (i : ℕ) → i + 1 ≤ length s → part 1 s i ≡ getD s i 0 ∷ []
 part-one s i h = ap (take 1) (drop-cons s i 0 (omega arith))
 
-part-joined : (m n : ℕ) (s : List ℕ) (i : ℕ) → part (m + n) s i ≡ part m s i ++ part n s (i + m)
-part-joined m n s i = take-add m n (drop i s) ∙ ap (λ (r : List ℕ). part m s i ++ take n r) (drop-drop m i s)
-
 part-two : (s : List ℕ) (i : ℕ) → i + 2 ≤ length s → part 2 s i ≡ getD s i 0 ∷ getD s (i + 1) 0 ∷ []
 part-two s i h =
     let one = part-one s i (omega arith) in
@@ -62,9 +57,9 @@ part-two s i h =
 
 -- ---- of each part
 
-record Exact {A : Type 0} (l : Layout A) : Type 0 where
-  long : (s : List ℕ) (i : ℕ) → i + l .size ≤ length s → length (l .out (l .at s i)) ≡ l .size
-  same : (s : List ℕ) (i : ℕ) → Bytes s → i + l .size ≤ length s → sameBytes (l .out (l .at s i)) (part (l .size) s i) ≡ plainAt s (l .flagsFrom i)
+pub record Exact {A : Type 0} (l : Layout A) : Type 0 where
+  pub long : (s : List ℕ) (i : ℕ) → i + l .size ≤ length s → length (l .out (l .at s i)) ≡ l .size
+  pub same : (s : List ℕ) (i : ℕ) → Bytes s → i + l .size ≤ length s → sameBytes (l .out (l .at s i)) (part (l .size) s i) ≡ plainAt s (l .flagsFrom i)
 
 -- what is written is what stood there
 as-it-was : (l m : List ℕ) → l ≡ m → sameBytes l m ≡ true
@@ -210,10 +205,10 @@ cells = of-fields cellsFields (λ v. refl) (behind saved (behind profile (behind
 meter : Exact meterLayout
 meter = of-fields meterFields (λ v. refl) (behind cells (behind charge (behind flow (behind cycles shown))))
 
-label : Exact labelLayout
+pub label : Exact labelLayout
 label = of-fields labelFields (λ v. refl) (behind (row 16) (row 16))
 
-common : Exact commonLayout
+pub common : Exact commonLayout
 common = of-fields commonFields (λ v. refl) (behind (row 8) bit)
 
 gauge : Exact gaugeLayout
@@ -224,27 +219,27 @@ session = of-fields sessionFields (λ v. refl) (behind bit gauge)
 
 -- ---- of the state: the version stands first
 
-pub written-plain : (b : List ℕ) → length b ≡ stateSize → getD b 0 0 ≡ 1 → Bytes b → sameBytes (stateBytes (sessionAt b)) b ≡ plainAt b flagPlaces
+written-plain : (b : List ℕ) → length b ≡ stateSize → getD b 0 0 ≡ 1 → Bytes b → sameBytes (stateBytes (sessionAt b)) b ≡ plainAt b flagPlaces
 unfolding stateBytes sessionAt
 written-plain b size v bytes =
     let whole : b ≡ 1 ∷ part 171 b 1 =
     drop-cons b 0 0 (omega (arith, size)) ∙ (λ k. v k ∷ sym (take-all 171 (drop 1 b) (omega (arith, length-drop 1 b, size))) k) in
     ap (sameBytes (1 ∷ sessionLayout .out (sessionLayout .at b 1))) whole ∙ session .same b 1 bytes (omega (arith, size))
 
--- the flags of a meter, by its parts
-pub plain-meter : (s : List ℕ) (i : ℕ) →
-    both (plainAt s (cellsLayout .flagsFrom i))
-    (both (plainAt s (chargeLayout .flagsFrom (i + 71)))
-    (both (plainAt s (flowLayout .flagsFrom (i + 71 + 11))) (plainAt s (shownLayout .flagsFrom (i + 71 + 11 + 21 + 5)))))
-    ≡ plainAt s (meterLayout .flagsFrom i)
-plain-meter s i =
-    let cells = cellsLayout .flagsFrom i in
-    let charge = chargeLayout .flagsFrom (i + 71) in
-    let flow = flowLayout .flagsFrom (i + 71 + 11) in
-    let shown = shownLayout .flagsFrom (i + 71 + 11 + 21 + 5) in
-    ap (λ (b : Bool). both (plainAt s cells) (both (plainAt s charge) b)) (sym (plain-both s flow shown))
-    ∙ ap (both (plainAt s cells)) (sym (plain-both s charge (flow ++ shown)))
-    ∙ sym (plain-both s cells (charge ++ (flow ++ shown)))
+-- what the code tests of the bytes of a state is what the definition tests of its meter and of its flags
+flag-first : (f m p : Bool) → both f (both (both m p) true) ≡ both m (both f p)
+flag-first true true true = refl
+flag-first true true false = refl
+flag-first true false p = refl
+flag-first false true p = refl
+flag-first false false p = refl
+
+pub state-tested : (b : List ℕ) → length b ≡ stateSize → getD b 0 0 ≡ 1 → Bytes b
+    → both (ltb (getD b 1 0) 2) (soundPlaces b 2 0 1) ≡ both (soundMeter (sessionAt b .gauge .meter)) (sameBytes (stateBytes (sessionAt b)) b)
+unfolding sessionAt
+state-tested b size v bytes =
+    let sound = soundMeter (gaugeLayout .at b 2 .meter) in
+    flag-first (ltb (getD b 1 0) 2) sound (plainAt b (gaugeLayout .flagsFrom 2)) ∙ ap (both sound) (sym (written-plain b size v bytes))
 
 -- ---- of a tray: so many places
 
@@ -306,17 +301,18 @@ in-pairs true false true d = refl
 in-pairs true false false d = refl
 in-pairs false b c d = refl
 
-places-split : (b : List ℕ) (k n : ℕ) → soundPlaces b k n
-    ≡ both (soundEach (map (λ (g : Gauge). g .meter) (indexed (placed b 3) k n))) (plainAt b (chained (indexed (flagged b 3) k n)))
-places-split b k zero = refl
-places-split b k (suc n) =
-    let m = soundMeter (placed b 3 k .meter) in
-    let p = plainAt b (flagged b 3 k) in
-    let ms = soundEach (map (λ (g : Gauge). g .meter) (indexed (placed b 3) (k + 1) n)) in
-    let ps = plainAt b (chained (indexed (flagged b 3) (k + 1) n)) in
-    ap (both (both m p)) (places-split b (k + 1) n)
-    ∙ in-pairs m p ms ps
-    ∙ ap (both (both m ms)) (sym (plain-both b (flagged b 3 k) (chained (indexed (flagged b 3) (k + 1) n))))
+module _ (b : List ℕ) (from : ℕ) where
+  places-split : (k n : ℕ) → soundPlaces b from k n
+      ≡ both (soundEach (map (λ (g : Gauge). g .meter) (indexed (placed b from) k n))) (plainAt b (chained (indexed (flagged b from) k n)))
+  places-split k zero = refl
+  places-split k (suc n) =
+      let m = soundMeter (placed b from k .meter) in
+      let p = plainAt b (flagged b from k) in
+      let ms = soundEach (map (λ (g : Gauge). g .meter) (indexed (placed b from) (k + 1) n)) in
+      let ps = plainAt b (chained (indexed (flagged b from) (k + 1) n)) in
+      ap (both (both m p)) (places-split (k + 1) n)
+      ∙ in-pairs m p ms ps
+      ∙ ap (both (both m ms)) (sym (plain-both b (flagged b from k) (chained (indexed (flagged b from) (k + 1) n))))
 
 in-turn : (a b c d : Bool) → both a (both b (both c d)) ≡ both (both a c) (both b d)
 in-turn true true c d = refl
@@ -325,13 +321,13 @@ in-turn true false false d = refl
 in-turn false b c d = refl
 
 pub tray-tested : (b : List ℕ) → length b ≡ trayStateSize → getD b 0 0 ≡ trayVersion → Bytes b
-    → both (leb (getD b 1 0) 8) (both (ltb (getD b 2 0) 2) (soundPlaces b 0 8)) ≡ both (soundTray (trayAt b)) (sameBytes (trayStateBytes (trayAt b)) b)
+    → both (leb (getD b 1 0) 8) (both (ltb (getD b 2 0) 2) (soundPlaces b 3 0 8)) ≡ both (soundTray (trayAt b)) (sameBytes (trayStateBytes (trayAt b)) b)
 unfolding soundTray trayAt
 tray-tested b size v bytes =
     let few = leb (getD b 1 0) 8 in
     let closed = ltb (getD b 2 0) 2 in
     let sound = soundEach (map (λ (g : Gauge). g .meter) (indexed (placed b 3) 0 8)) in
     let plain = plainAt b (chained (indexed (flagged b 3) 0 8)) in
-    ap (λ (x : Bool). both few (both closed x)) (places-split b 0 8)
+    ap (λ (x : Bool). both few (both closed x)) (places-split b 3 0 8)
     ∙ in-turn few closed sound plain
     ∙ ap (both (both few sound)) (sym (tray-written-plain b size v bytes))

@@ -1,21 +1,21 @@
 -- A step by state bytes, from what reading them, the event and writing leave.
 use mathlib.Core.Path.{_≡_, refl, sym, ap, subst, _∙_}
 use mathlib.Core.Bool.{Bool, true, false}
-use mathlib.Core.List.{List, _++_}
+use mathlib.Core.List.{List, [], _∷_, _++_}
 use Prim.Native.Nat.{ℕ, _+_, _-_, _≤_}
 use native.Mathlib.Omega.{arith}
-use borrow.Author.Tests.{eq-eqb, ne-eqb}
+use borrow.Author.Tests.{eq-eqb, ne-eqb, le-leb}
 use lib.ListN.{length, drop}
+use lib.Seq.{take-all}
 use Rattle.numbers.specs.Choice.{pick}
 use Rattle.slices.specs.Slices.{part, put, pairAt}
-use Rattle.slices.proofs.Laws.{put-front, put-whole}
+use Rattle.slices.proofs.Laws.{put-front, put-whole, put-second}
 use Rattle.bus.specs.declared.Transaction.{Transaction}
 use Rattle.record.specs.declared.Event.{Event}
 use Rattle.record.specs.declared.Event.the-variants.{Transact}
-use Rattle.record.specs.Record.{masterOf}
 use Rattle.gauge.specs.declared.Gauge.{Gauge}
 use Rattle.gauge.specs.Gauge.{GaugeWF}
-use Rattle.gauge.specs.Act.{canChange, actOf, replyOf}
+use Rattle.gauge.specs.Act.{actOf, replyOf}
 use Rattle.runs.specs.Record.{recOf, sizeOf, wholeOf}
 use Rattle.runs.specs.Run.{Did, silently}
 use Rattle.runs.specs.Step.{StepDone}
@@ -24,16 +24,19 @@ use Rattle.runs.specs.declared.Record.{Record}
 use Rattle.runs.specs.declared.Session.{Session}
 use Rattle.runs.specs.AnyRecord.{recordBy}
 use Rattle.runs.specs.SessionRecord.{SessionWF, loadedWith, eventDid, ofSession, didOf}
-use Rattle.runs.proofs.AnyRecord.{reply-length, session-replying}
+use Rattle.gauge.proofs.Acting.{reply-length}
+use Rattle.runs.proofs.AnyRecord.{session-replying}
 use Rattle.runs.proofs.Records.{whole-end, size-whole, size-cut}
 use Rattle.runs.proofs.Fronts.{payloadOf, Ran, Front, idle}
 use Rattle.runs.proofs.Turns.{master-part}
 use Rattle.session_run.proofs.Turns.{did-same, ran-taking}
-use Rattle.tray_record.proofs.Acting.{act-none}
 use Rattle.state_bytes.specs.declared.StateIn.{StateIn}
-use Rattle.state_bytes.specs.State.{stateBytes, sessionAt, stateIn, didIn, Became, StateStepped}
+use Rattle.state_bytes.specs.Layout.{flagByte}
+use Rattle.state_bytes.specs.State.{stateSize, gaugeLayout, stateBytes, sessionAt, stateIn, StateOut}
 use Rattle.state_bytes.specs.Theorems.{StateWF}
-use Rattle.state_bytes.proofs.Undoing.{state-length, in-size, read-held, undoing}
+use Rattle.state_bytes.specs.Places.{gaugeAt, Placed, Became}
+use Rattle.state_bytes.specs.Steps.{didIn, StateStepped}
+use Rattle.state_bytes.proofs.Undoing.{gauge, state-length, in-size, read-held, undoing}
 use Rattle.state_bytes.proofs.Kept.{did-sized, did-uncounted}
 
 module _ {state bytes room : List ℕ} {held : StateIn} (h : held ≡ stateIn state) where
@@ -97,30 +100,44 @@ size-fits l = by (wholeOf l) refl
     by true w = omega (arith, size-whole l (pairAt l 0) (pairAt l 2) w refl refl, whole-end l w)
     by false w = omega (arith, size-cut l w)
 
--- ---- the events
+-- ---- the state that the bytes are
 
--- the state of a gauge was written, which an event had made of another
-pub became : {state after : List ℕ} {g h k : Gauge} → after ≡ put state 0 (stateBytes (loadedWith g)) → g ≡ h → GaugeWF g → h ≡ k → Became state k after
-became {state} e made w is = record {
-  written = e ∙ ap (λ (x : Gauge). put state 0 (stateBytes (loadedWith x))) (made ∙ is);
-  wf = subst GaugeWF (made ∙ is) w;
-}
+-- a state was written over as many bytes
+pub out-whole : {σ : Session} {state after : List ℕ} {done : Bool} → length state ≡ stateSize → StateOut σ state done after
+    → after ≡ put state 0 (stateBytes σ)
+out-whole {state = state} size out = rw (le-leb stateSize (length state) (omega (arith, size))) at (out .written)
 
 module _ (state : List ℕ) (zero : stateIn state .number ≡ 0) where
   was-read : record { number = 0; session = sessionAt state } ≡ stateIn state
   was-read = read-held state zero
 
-  -- the state that was read, and the same written
   good : StateWF (sessionAt state)
   good = subst (λ (x : StateIn). StateWF (x .session)) (sym was-read) (undoing .sound state zero)
 
-  pub held-wf : GaugeWF (sessionAt state .gauge)
-  held-wf = good .wf .gauge
+  written-so : stateBytes (sessionAt state) ≡ state
+  written-so = ap (λ (x : StateIn). stateBytes (x .session)) was-read ∙ undoing .forth state zero
 
   same-state : state ≡ put state 0 (stateBytes (sessionAt state))
   same-state =
-      let bytes-of = ap (λ (x : StateIn). stateBytes (x .session)) was-read ∙ undoing .forth state zero in
-      sym (put-whole state (stateBytes (sessionAt state)) (state-length (sessionAt state) (good .sized) ∙ sym (in-size state zero)) ∙ bytes-of)
+      sym (put-whole state (stateBytes (sessionAt state)) (state-length (sessionAt state) (good .sized) ∙ sym (in-size state zero)) ∙ written-so)
+
+  -- its gauge stands from 2 on
+  pub pack-placed : Placed state 2
+  unfolding gaugeAt sessionAt stateBytes
+  pack-placed =
+      let out = gaugeLayout .out (gaugeAt state 2) in
+      record {
+        inside = omega (arith, in-size state zero);
+        whole = ap (λ (b : List ℕ). part 170 b 2) (sym written-so) ∙ take-all 170 out (omega (arith, gauge .sized (gaugeAt state 2) (good .sized)));
+        wf = good .wf .gauge;
+      }
+
+  -- another gauge there is the state of that gauge, where an image was accepted before
+  pub loaded-became : {g : Gauge} {after : List ℕ} → sessionAt state .loaded ≡ true → Became state 2 g after → after ≡ put state 0 (stateBytes (loadedWith g))
+  unfolding sessionAt stateBytes
+  loaded-became {g} loaded b =
+      let head : part 2 state 0 ≡ 1 ∷ 1 ∷ [] = ap (λ (s : List ℕ). part 2 s 0) (sym written-so) ∙ ap (λ (l : Bool). 1 ∷ flagByte l ∷ []) loaded in
+      b .written ∙ put-second state 0 2 (1 ∷ 1 ∷ []) (gaugeLayout .out g) refl head (omega (arith, in-size state zero))
 
   module _ (bytes room : List ℕ) where
     -- what the record does is known
@@ -149,46 +166,31 @@ module _ (state : List ℕ) (zero : stateIn state .number ≡ 0) where
 
         -- an image or a change
         pub step-silent : {g : Gauge} {after : List ℕ} → eventDid (sessionAt state) (payloadOf (r .used) bytes) e ≡ silently (loadedWith g) 0
-            → Became state g after → StateStepped state bytes room (record { number = 0; answer = r .answer; replied = 0 }) after room
-        step-silent d b = by-did (x .did ∙ d) (record { gauge = b .wf }) answers refl (b .written) refl
+            → GaugeWF g → after ≡ put state 0 (stateBytes (loadedWith g))
+            → StateStepped state bytes room (record { number = 0; answer = r .answer; replied = 0 }) after room
+        step-silent d wf after = by-did (x .did ∙ d) (record { gauge = wf }) answers refl after refl
 
       -- a transaction
       module _ {t : Transaction} (x : Ran ofSession (sessionAt state) (length room) bytes (r .used) (Transact t)) where
         abbrev lent : List ℕ
         lent = part (r .used - (4 + t .start)) bytes (4 + t .start)
 
-        master-is : masterOf t (payloadOf (r .used) bytes) ≡ lent
-        master-is = master-part (r .used) (t .start) bytes
-
         did : recordBy ofSession (sessionAt state) (length room) (recOf bytes)
             ≡ record { state = loadedWith (actOf (sessionAt state .gauge) t lent); answer = 0; reply = replyOf (sessionAt state .gauge) t lent }
         did =
             let by : List ℕ → Did Session =
             λ m. record { state = loadedWith (actOf (sessionAt state .gauge) t m); answer = 0; reply = replyOf (sessionAt state .gauge) t m } in
-            x .did ∙ ap by master-is
+            x .did ∙ ap by (master-part (r .used) (t .start) bytes)
 
         asked-bytes : length (replyOf (sessionAt state .gauge) t lent) ≡ t .count
         asked-bytes = reply-length (sessionAt state .gauge) t lent
 
-        loaded : sessionAt state ≡ loadedWith (sessionAt state .gauge)
-        loaded = λ i. record { loaded = ran-taking x .0 i; gauge = sessionAt state .gauge }
-
-        -- the state was written, or stays where the command cannot change it
-        state-after : {after : List ℕ} (b : Bool) → canChange (t .command) ≡ b
-            → after ≡ pick b (put state 0 (stateBytes (loadedWith (actOf (sessionAt state .gauge) t lent)))) state
-            → after ≡ put state 0 (stateBytes (loadedWith (actOf (sessionAt state .gauge) t lent)))
-        state-after true e h = h
-        state-after false e h =
-            let stays = loaded ∙ ap loadedWith (sym (act-none t lent (sessionAt state .gauge) e)) in
-            h ∙ same-state ∙ ap (λ (s : Session). put state 0 (stateBytes s)) stays
-
-        pub step-reply : {after last : List ℕ} → GaugeWF (actOf (sessionAt state .gauge) t lent)
-            → after ≡ pick (canChange (t .command)) (put state 0 (stateBytes (loadedWith (actOf (sessionAt state .gauge) t lent)))) state
+        pub step-reply : {after last : List ℕ} → Became state 2 (actOf (sessionAt state .gauge) t lent) after
             → last ≡ replyOf (sessionAt state .gauge) t lent ++ drop (t .count) room
             → StateStepped state bytes room (record { number = 0; answer = r .answer; replied = t .count }) after last
-        step-reply {last = last} wf after reply =
+        step-reply {last = last} b reply =
             let fits : length (replyOf (sessionAt state .gauge) t lent) ≤ length room = omega (arith, asked-bytes, x .held) in
             let front = put-front room (replyOf (sessionAt state .gauge) t lent) fits in
             let whole : last ≡ put room 0 (replyOf (sessionAt state .gauge) t lent) =
             reply ∙ ap (λ (n : ℕ). replyOf (sessionAt state .gauge) t lent ++ drop n room) (sym asked-bytes) ∙ sym front in
-            by-did did (record { gauge = wf }) (answers x) (sym asked-bytes) (state-after (canChange (t .command)) refl after) whole
+            by-did did (record { gauge = b .wf }) (answers x) (sym asked-bytes) (loaded-became (ran-taking x .0) b) whole

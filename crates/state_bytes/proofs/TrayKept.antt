@@ -68,7 +68,7 @@ module _ (P : Gauge → Type 0) (k : Kept P) (image : (f : Profile) (p : List �
 
 -- ---- the sizes of its arrays, and that a DS2781 counts no cycles
 
-stored-sized : (τ : Tray) (i : ℕ) (g : Gauge) → Placed Sized τ → Sized g → Placed Sized (storedOf τ i g)
+pub stored-sized : (τ : Tray) (i : ℕ) (g : Gauge) → Placed Sized τ → Sized g → Placed Sized (storedOf τ i g)
 stored-sized τ i g h s j = record {
   address = set-each (λ (c : Common). length (c .address) ≡ 8) (noGauge .common) (τ .commons) i (g .common) (s .address) (λ n. h n .address) j;
   label = set-each LabelSized (noGauge .label) (τ .labels) i (g .label) (s .label) (λ n. h n .label) j;

@@ -1,5 +1,5 @@
--- Laws of a tray's eight places: stored one after the other, and tested one after the other.
-use mathlib.Core.Path.{_≡_, refl, sym, ap, subst, _∙_}
+-- Laws of a tray's eight places, stored one after the other; and of so many places that are tested one after the other.
+use mathlib.Core.Path.{_≡_, sym, ap, subst, _∙_}
 use mathlib.Core.Bool.{Bool, true, false}
 use mathlib.Core.List.{List}
 use Prim.Native.Nat.{ℕ, zero, suc, _+_, _-_, _*_, _≤_, _<_}
@@ -18,7 +18,8 @@ use Rattle.tray_record.specs.Tray.{emptyTray, packOf, storedOf}
 use Rattle.tray_record.proofs.Laws.{pack-at}
 use Rattle.state_bytes.specs.Layout.{indexed, outEach}
 use Rattle.state_bytes.specs.State.{gaugeLayout}
-use Rattle.state_bytes.specs.TrayState.{trayFields, soundPlace, soundPlaces}
+use Rattle.state_bytes.specs.TrayState.{trayFields}
+use Rattle.state_bytes.specs.Tested.{soundPlace, soundPlaces}
 use Rattle.state_bytes.proofs.Laws.{stored-next}
 
 -- ---- out: one place more
@@ -81,19 +82,25 @@ filled-all count f e ec =
 
 -- ---- the test of each place
 
-module _ (b : List ℕ) (i : ℕ) (low : i < 8) (so-far : soundPlaces b i (8 - i) ≡ soundPlaces b 0 8) where
-  from-here : soundPlaces b i (8 - i) ≡ both (soundPlace b (3 + i * 170)) (soundPlaces b (i + 1) (8 - (i + 1)))
-  from-here =
-      let e : 8 - i ≡ suc (8 - (i + 1)) = omega arith in
-      ap (soundPlaces b i) e
+pub sound-starts : (b : List ℕ) (from n : ℕ) → soundPlaces b from 0 (n - 0) ≡ soundPlaces b from 0 n
+sound-starts b from n =
+    let e : n - 0 ≡ n = omega arith in
+    ap (soundPlaces b from 0) e
 
-  pub sound-more : soundPlace b (3 + i * 170) ≡ true → soundPlaces b (i + 1) (8 - (i + 1)) ≡ soundPlaces b 0 8
-  sound-more e = (rw e at (sym from-here)) ∙ so-far
+module _ (b : List ℕ) (from n i : ℕ) where
+  module _ (low : i < n) (so-far : soundPlaces b from i (n - i) ≡ soundPlaces b from 0 n) where
+    from-here : soundPlaces b from i (n - i) ≡ both (soundPlace b (from + i * 170)) (soundPlaces b from (i + 1) (n - (i + 1)))
+    from-here =
+        let e : n - i ≡ suc (n - (i + 1)) = omega arith in
+        ap (soundPlaces b from i) e
 
-  pub sound-fails : soundPlace b (3 + i * 170) ≡ false → false ≡ soundPlaces b 0 8
-  sound-fails e = (rw e at (sym from-here)) ∙ so-far
+    pub sound-more : soundPlace b (from + i * 170) ≡ true → soundPlaces b from (i + 1) (n - (i + 1)) ≡ soundPlaces b from 0 n
+    sound-more e = (rw e at (sym from-here)) ∙ so-far
 
-pub sound-ends : (b : List ℕ) (i : ℕ) → 8 ≤ i → soundPlaces b i (8 - i) ≡ soundPlaces b 0 8 → true ≡ soundPlaces b 0 8
-sound-ends b i h so-far =
-    let e : 8 - i ≡ 0 = omega arith in
-    sym (ap (soundPlaces b i) e) ∙ so-far
+    pub sound-fails : soundPlace b (from + i * 170) ≡ false → false ≡ soundPlaces b from 0 n
+    sound-fails e = (rw e at (sym from-here)) ∙ so-far
+
+  pub sound-ends : n ≤ i → soundPlaces b from i (n - i) ≡ soundPlaces b from 0 n → true ≡ soundPlaces b from 0 n
+  sound-ends h so-far =
+      let e : n - i ≡ 0 = omega arith in
+      sym (ap (soundPlaces b from i) e) ∙ so-far

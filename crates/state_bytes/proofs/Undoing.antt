@@ -153,7 +153,7 @@ average-sound : (a : Average) → AverageWF a → soundAverage a ≡ true
 unfolding soundAverage
 average-sound a w = rw (lt-ltb (a .made) 1024 (w .made), le-leb (a .sum) (65535 * runOf a) (w .sum)) refl
 
-no-cycles : (m : Meter) → uncountedBy (m .cells .profile) (m .cycles) (m .cells .saved .cycles) ≡ true
+pub no-cycles : (m : Meter) → uncountedBy (m .cells .profile) (m .cycles) (m .cells .saved .cycles) ≡ true
     → countsCycles (m .cells .profile) ≡ false → NoCycles m
 unfolding uncountedBy
 no-cycles m e none =
@@ -166,7 +166,7 @@ no-cycles m e none =
       saved = eqb-true (m .cells .saved .cycles) 0 (b .1);
     }
 
-cycles-none : (m : Meter) → (countsCycles (m .cells .profile) ≡ false → NoCycles m)
+pub cycles-none : (m : Meter) → (countsCycles (m .cells .profile) ≡ false → NoCycles m)
     → uncountedBy (m .cells .profile) (m .cycles) (m .cells .saved .cycles) ≡ true
 unfolding uncountedBy
 cycles-none m h = by (countsCycles (m .cells .profile)) refl

@@ -1,7 +1,7 @@
 -- The state of a session as bytes: one layout for each struct of the state, in the order of `state`; and which bytes are a state.
 use mathlib.Core.Path.{_≡_}
 use mathlib.Core.Bool.{Bool, true}
-use mathlib.Core.List.{List, [], _∷_, _++_}
+use mathlib.Core.List.{List, _∷_, _++_}
 use Prim.Native.Nat.{ℕ, _+_, _*_, _^_}
 use lib.Dec.{eqb, leb, ltb}
 use lib.ListN.{length, getD}
@@ -31,14 +31,9 @@ use Rattle.state.specs.declared.Tick.{Tick}
 use Rattle.state.specs.declared.Trace.{Trace}
 use Rattle.state.specs.State.{countsCycles, runOf}
 use Rattle.gauge.specs.declared.Gauge.{Gauge}
-use Rattle.gauge.specs.Gauge.{GaugeWF}
 use Rattle.runs.specs.declared.Session.{Session}
-use Rattle.runs.specs.Record.{recOf}
-use Rattle.runs.specs.Run.{Did}
-use Rattle.runs.specs.SessionRecord.{loadedWith, didOf}
 use Rattle.session_run.specs.SessionRun.{emptyOf}
 use Rattle.state_bytes.specs.declared.StateIn.{StateIn}
-use Rattle.state_bytes.specs.declared.StateStep.{StateStep}
 use Rattle.state_bytes.specs.Layout.{Layout, number1, number2, number4, flag, bytes, _then_, Fields, formed}
 
 -- ---- a layout for each struct
@@ -319,27 +314,3 @@ stateIn b =
 pub record StateOut (σ : Session) (room : List ℕ) (done : Bool) (after : List ℕ) : Type 0 where
   pub fits : done ≡ leb stateSize (length room)
   pub written : after ≡ pick (leb stateSize (length room)) (put room 0 (stateBytes σ)) room
-
--- ---- a step by state bytes
-
--- the room holds the state of this gauge, whose image was accepted
-pub record Became (state : List ℕ) (gauge : Gauge) (after : List ℕ) : Type 0 where
-  pub written : after ≡ put state 0 (stateBytes (loadedWith gauge))
-  pub wf : GaugeWF gauge
-
-module _ (state bytes room : List ℕ) where
-  abbrev pub heldIn : Bool
-  heldIn = eqb (stateIn state .number) 0
-
-  -- what the record does in the state that the bytes are
-  abbrev pub didIn : Did Session
-  didIn = didOf (stateIn state .session) (length room) (recOf bytes)
-
-  pub record StateStepped (r : StateStep) (after last : List ℕ) : Type 0 where
-    pub number : r .number ≡ stateIn state .number
-    pub answered : r .answer ≡ pick heldIn (didIn .answer) 0
-    pub counted : r .replied ≡ pick heldIn (length (didIn .reply)) 0
-    pub kept : after ≡ pick heldIn (put state 0 (stateBytes (didIn .state))) state
-    pub written : last ≡ pick heldIn (put room 0 (didIn .reply)) room
-    -- the room can be stepped again: it follows, and is said for a caller that goes on
-    pub again : r .number ≡ 0 → stateIn after ≡ record { number = 0; session = didIn .state }

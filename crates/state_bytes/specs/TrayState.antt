@@ -2,7 +2,7 @@
 use mathlib.Core.Path.{_≡_}
 use mathlib.Core.Bool.{Bool, true}
 use mathlib.Core.List.{List, [], _∷_, map}
-use Prim.Native.Nat.{ℕ, zero, suc, _+_, _*_}
+use Prim.Native.Nat.{ℕ, _+_}
 use lib.Dec.{eqb, leb}
 use lib.ListN.{length, getD}
 use Rattle.numbers.specs.Choice.{pick, both}
@@ -10,13 +10,10 @@ use Rattle.slices.specs.Slices.{put}
 use Rattle.bus.specs.Ask.{sameBytes}
 use Rattle.state.specs.declared.Meter.{Meter}
 use Rattle.gauge.specs.declared.Gauge.{Gauge}
-use Rattle.runs.specs.Record.{recOf}
-use Rattle.runs.specs.Run.{Did}
 use Rattle.tray_record.specs.declared.Tray.{Tray}
-use Rattle.tray_record.specs.Tray.{emptyTray, packOf, trayDid}
-use Rattle.state_bytes.specs.declared.StateStep.{StateStep}
+use Rattle.tray_record.specs.Tray.{emptyTray, packOf}
 use Rattle.state_bytes.specs.declared.TrayStateIn.{TrayStateIn}
-use Rattle.state_bytes.specs.Layout.{Layout, number1, flag, plainAt, indexed, outEach, repeated, _then_, Fields, formed}
+use Rattle.state_bytes.specs.Layout.{Layout, number1, flag, indexed, outEach, repeated, _then_, Fields, formed}
 use Rattle.state_bytes.specs.State.{gaugeLayout, soundMeter}
 
 -- ---- the layout
@@ -68,14 +65,6 @@ trayStateBytes tray = trayVersion ∷ trayLayout .out tray
 unfoldable pub trayAt : List ℕ → Tray
 trayAt b = trayLayout .at b 1
 
--- the gauges at so many places from i on are well-formed, and their flags are 0 or 1: what the code tests
-abbrev pub soundPlace : List ℕ → ℕ → Bool
-soundPlace b at = both (soundMeter (gaugeLayout .at b at .meter)) (plainAt b (gaugeLayout .flagsFrom at))
-
-abbrev pub soundPlaces : List ℕ → ℕ → ℕ → Bool
-soundPlaces b i zero = true
-soundPlaces b i (suc n) = both (soundPlace b (3 + i * 170)) (soundPlaces b (i + 1) n)
-
 -- no tray: the number of the refusal, and the tray before the first record
 abbrev pub noTrayState : ℕ → TrayStateIn
 noTrayState number = record { number = number; tray = emptyTray }
@@ -95,22 +84,3 @@ trayStateIn b =
 pub record TrayStateOut (τ : Tray) (room : List ℕ) (done : Bool) (after : List ℕ) : Type 0 where
   pub fits : done ≡ leb trayStateSize (length room)
   pub written : after ≡ pick (leb trayStateSize (length room)) (put room 0 (trayStateBytes τ)) room
-
--- ---- a step by state bytes
-
-module _ (state bytes room : List ℕ) where
-  abbrev pub trayHeldIn : Bool
-  trayHeldIn = eqb (trayStateIn state .number) 0
-
-  -- what the record does in the tray that the bytes are
-  abbrev pub trayDidIn : Did Tray
-  trayDidIn = trayDid (trayStateIn state .tray) (length room) (recOf bytes)
-
-  pub record TrayStateStepped (r : StateStep) (after last : List ℕ) : Type 0 where
-    pub number : r .number ≡ trayStateIn state .number
-    pub answered : r .answer ≡ pick trayHeldIn (trayDidIn .answer) 0
-    pub counted : r .replied ≡ pick trayHeldIn (length (trayDidIn .reply)) 0
-    pub kept : after ≡ pick trayHeldIn (put state 0 (trayStateBytes (trayDidIn .state))) state
-    pub written : last ≡ pick trayHeldIn (put room 0 (trayDidIn .reply)) room
-    -- the room can be stepped again: it follows, and is said for a caller that goes on
-    pub again : r .number ≡ 0 → trayStateIn after ≡ record { number = 0; tray = trayDidIn .state }

@@ -1,4 +1,6 @@
-// The state as bytes, out and in, of a session and of a tray: `gaugeLayout` and those below it, in code.
+// The state as bytes, out and in, of a session and of a tray: `gaugeLayout` and those below it, in code. And a record, run in the state that a lent room
+// holds as bytes: what it asks is found out from a few of them, and of a gauge only the parts are read and written that such an event can change.
+use bus::Command;
 use bus::Transaction;
 use gauge::Gauge;
 use record::Change;
@@ -28,26 +30,30 @@ use state::Tick;
 use state::Trace;
 use tray_record::Tray;
 ghost use mathlib.Core.Path.{_≡_};
+ghost use mathlib.Core.Bool.{true};
 ghost use mathlib.Core.List.{_++_};
-ghost use Prim.Native.Nat.{_+_, _≤_, _<_};
+ghost use Prim.Native.Nat.{_+_, _*_, _≤_, _<_};
 ghost use lib.ListN.{length, getD, drop};
-ghost use Rattle.numbers.specs.Choice.{pick};
-ghost use Rattle.slices.specs.Slices.{put, Stored};
-ghost use Rattle.state.specs.State.{countsCycles};
-ghost use Rattle.gauge.specs.Gauge.{GaugeWF};
+ghost use Rattle.slices.specs.Slices.{Stored};
+ghost use Rattle.state.specs.State.{countsCycles, MeterWF, imageSizeOf};
+ghost use Rattle.replies.specs.Reply.{repliedOf};
+ghost use Rattle.gauge.specs.Gauge.{withParts, conversionOf, samplingOf, readingOf, powerOnOf, writtenOf, copiedOf, recalledOf, lockedOf};
 ghost use Rattle.gauge.specs.Change.{changedOf};
-ghost use Rattle.gauge.specs.Act.{canChange, actOf, replyOf};
+ghost use Rattle.gauge.specs.Act.{ranOf, actOf, replyOf};
+ghost use Rattle.gauge.specs.Image.{imageOf};
+ghost use Rattle.runs.specs.SessionRecord.{SessionWF, ofSession};
 ghost use Rattle.runs.specs.AnyRecord.{frontBy};
-ghost use Rattle.runs.specs.SessionRecord.{SessionWF, loadedWith, ofSession};
-ghost use Rattle.tray_record.specs.Tray.{TrayWF};
-ghost use Rattle.state_bytes.specs.Layout.{flagByte, flagIn, plainAt};
+ghost use Rattle.tray_record.specs.Tray.{TrayWF, packOf, storedOf, closedOf, packJoined, trayReach, trayActed, trayReply, changingOf, namedSlot, ofTray};
+ghost use Rattle.tray_record.specs.Tray.{lineHigh, onLine};
+ghost use Rattle.tray_record.specs.Wire.{andBytes};
+ghost use Rattle.state_bytes.specs.Layout.{flagByte, flagIn};
 ghost use Rattle.state_bytes.specs.State.{profileIn, cellsLayout, chargeLayout, cyclesLayout, flowLayout, shownLayout, traceLayout, averageLayout};
-ghost use Rattle.state_bytes.specs.State.{resultsLayout, flagsLayout, meterLayout, gaugeLayout, labelLayout, commonLayout, headBytes};
-ghost use Rattle.state_bytes.specs.State.{fromCycles, fromFlow, fromCharge};
-ghost use Rattle.state_bytes.specs.State.{sessionAt, stateBytes, noState, stateIn, StateStepped};
-ghost use Rattle.state_bytes.specs.State.{Became, soundCharge, soundAverage, soundShown, uncountedBy, soundMeter, StateOut};
-ghost use Rattle.state_bytes.specs.TrayState.{packsOut, trayAt, trayStateBytes, soundPlaces, noTrayState, trayStateIn};
-ghost use Rattle.state_bytes.specs.TrayState.{TrayStateOut, TrayStateStepped};
+ghost use Rattle.state_bytes.specs.State.{tickLayout, resultsLayout, flagsLayout, meterLayout, gaugeLayout, labelLayout, commonLayout, headBytes};
+ghost use Rattle.state_bytes.specs.State.{fromCycles, fromFlow, fromCharge, sessionAt, stateBytes, noState, stateIn, uncountedBy, StateOut};
+ghost use Rattle.state_bytes.specs.Tested.{octetAt, clearOf, clearOctets, soundNumbers, soundPlace, soundPlaces};
+ghost use Rattle.state_bytes.specs.TrayState.{packsOut, trayAt, trayStateBytes, noTrayState, trayStateIn, TrayStateOut};
+ghost use Rattle.state_bytes.specs.Places.{gaugeAt, withCommon, Placed, Became, TrayBecame, answerBy, knownIn};
+ghost use Rattle.state_bytes.specs.Steps.{StateStepped, TrayStateStepped};
 
 // ---- in
 
@@ -133,6 +139,16 @@ fn average_at(bytes: &[u8], at: usize) -> Average
     }
 }
 
+fn tick_at(bytes: &[u8], at: usize) -> Tick
+    requires { ⌜ at + 3 ≤ length (now bytes) ⌝ }
+    ensures { λ r. ⌜ r ≡ tickLayout .at (now (bytes .entry)) at ⌝ }
+{
+    Tick {
+        any: flag_at(bytes, at),
+        last: slices::pair(bytes, at + 1),
+    }
+}
+
 fn flow_at(bytes: &[u8], at: usize) -> Flow
     requires { ⌜ at + 21 ≤ length (now bytes) ⌝ }
     ensures { λ r. ⌜ r ≡ flowLayout .at (now (bytes .entry)) at ⌝ }
@@ -144,10 +160,7 @@ fn flow_at(bytes: &[u8], at: usize) -> Flow
             lowest: slices::pair(bytes, at + 6 + 1),
         },
         average: average_at(bytes, at + 6 + 3),
-        tick: Tick {
-            any: flag_at(bytes, at + 6 + 3 + 9),
-            last: slices::pair(bytes, at + 6 + 3 + 9 + 1),
-        },
+        tick: tick_at(bytes, at + 6 + 3 + 9),
     }
 }
 
@@ -215,25 +228,41 @@ fn meter_at(bytes: &[u8], at: usize) -> Meter
     }
 }
 
+fn label_at(bytes: &[u8], at: usize) -> Label
+    requires { ⌜ at + 32 ≤ length (now bytes) ⌝ }
+    ensures { λ r. ⌜ r ≡ labelLayout .at (now (bytes .entry)) at ⌝ }
+{
+    let shadow = slices::sixteen(bytes, at);
+    let eeprom = slices::sixteen(bytes, at + 16);
+    Label {
+        shadow: shadow,
+        eeprom: eeprom,
+    }
+}
+
+fn common_at(bytes: &[u8], at: usize) -> Common
+    requires { ⌜ at + 9 ≤ length (now bytes) ⌝ }
+    ensures { λ r. ⌜ r ≡ commonLayout .at (now (bytes .entry)) at ⌝ }
+{
+    let address = slices::eight(bytes, at);
+    let bl0 = flag_at(bytes, at + 8);
+    Common {
+        address: address,
+        bl0: bl0,
+    }
+}
+
 // The gauge that stands from an index on.
 fn gauge_at(bytes: &[u8], at: usize) -> Gauge
     requires { ⌜ at + 170 ≤ length (now bytes) ⌝ }
     ensures { λ r. ⌜ r ≡ gaugeLayout .at (now (bytes .entry)) at ⌝ }
 {
-    let shadow = slices::sixteen(bytes, at);
-    let eeprom = slices::sixteen(bytes, at + 16);
-    let address = slices::eight(bytes, at + 32);
-    let bl0 = flag_at(bytes, at + 32 + 8);
+    let label = label_at(bytes, at);
+    let common = common_at(bytes, at + 32);
     let meter = meter_at(bytes, at + 32 + 9);
     Gauge {
-        label: Label {
-            shadow: shadow,
-            eeprom: eeprom,
-        },
-        common: Common {
-            address: address,
-            bl0: bl0,
-        },
+        label: label,
+        common: common,
         meter: meter,
     }
 }
@@ -475,34 +504,6 @@ pub fn state_out(session: Session, room: &mut [u8]) -> bool
 
 // ---- which bytes are a state
 
-fn sound_charge(charge: Charge) -> bool
-    ensures { λ r. ⌜ r ≡ soundCharge charge ⌝ }
-{
-    numbers::and(
-        charge.count < 268435456,
-        numbers::and(
-            charge.age < 2097120,
-            numbers::and(63 <= charge.aging, charge.aging <= 128),
-        ),
-    )
-}
-
-fn sound_average(average: Average) -> bool
-    ensures { λ r. ⌜ r ≡ soundAverage average ⌝ }
-{
-    let most = 65535 * ((average.made % 8) as u32);
-    numbers::and(average.made < 1024, average.sum <= most)
-}
-
-fn sound_shown(shown: Shown) -> bool
-    ensures { λ r. ⌜ r ≡ soundShown shown ⌝ }
-{
-    numbers::and(
-        shown.model.full <= 16384,
-        numbers::and(shown.reading.volt <= 1023, shown.reading.temp < 2048),
-    )
-}
-
 fn uncounted(profile: Profile, cycles: Cycles, saved: u8) -> bool
     ensures { λ r. ⌜ r ≡ uncountedBy profile cycles saved ⌝ }
 {
@@ -515,98 +516,95 @@ fn uncounted(profile: Profile, cycles: Cycles, saved: u8) -> bool
     )
 }
 
-// Whether the meter that stands from an index on is well-formed: of its bytes only those are read that are tested.
-fn sound_at(bytes: &[u8], at: usize) -> bool
-    requires { ⌜ at + 129 ≤ length (now bytes) ⌝ }
-    ensures { λ r. ⌜ r ≡ soundMeter (meterLayout .at (now (bytes .entry)) at) ⌝ }
+// Eight bytes as one number, the low byte first.
+fn octet(bytes: &[u8], at: usize) -> u64
+    requires { ⌜ at + 8 ≤ length (now bytes) ⌝ }
+    ensures { λ r. ⌜ r ≡ octetAt (now (bytes .entry)) at ⌝ }
 {
-    let profile = profile_at(bytes, at + 4);
-    let rest = slices::quad(bytes, at + 71 + 11 + 21 + 1);
-    let cycles = Cycles {
-        count: bytes[at + 71 + 11 + 21],
-        rest: rest,
-    };
-    let counted = uncounted(profile, cycles, bytes[at + 2 + 1]);
-    let charge = sound_charge(charge_at(bytes, at + 71));
-    let average = sound_average(average_at(bytes, at + 71 + 11 + 6 + 3));
-    let shown = sound_shown(shown_at(bytes, at + 71 + 11 + 21 + 5));
-    numbers::and(charge, numbers::and(average, numbers::and(shown, counted)))
+    slices::quad(bytes, at) as u64 + 4294967296 * (slices::quad(bytes, at + 4) as u64)
 }
 
-// Whether each flag from an index on is 0 or 1: of the profile and the locks, of the charge, of the flow, of what is shown, of a meter and of a gauge.
-fn plain_cells(bytes: &[u8], at: usize) -> bool
-    requires { ⌜ at + 71 ≤ length (now bytes) ⌝ }
-    ensures { λ r. ⌜ r ≡ plainAt (now (bytes .entry)) (cellsLayout .flagsFrom at) ⌝ }
+fn clear(word: u64, mask: u64) -> bool
+    ensures { λ r. ⌜ r ≡ clearOf word mask ⌝ }
 {
-    numbers::and(
-        bytes[at + 4] < 2,
-        numbers::and(
-            bytes[at + 4 + 1] < 2,
-            numbers::and(bytes[at + 4 + 1 + 1] < 2, true),
-        ),
-    )
+    word & mask == 0
 }
 
-fn plain_charge(bytes: &[u8], at: usize) -> bool
-    requires { ⌜ at + 11 ≤ length (now bytes) ⌝ }
-    ensures { λ r. ⌜ r ≡ plainAt (now (bytes .entry)) (chargeLayout .flagsFrom at) ⌝ }
-{
-    numbers::and(
-        bytes[at + 1 + 4] < 2,
-        numbers::and(bytes[at + 1 + 4 + 1] < 2, true),
-    )
-}
-
-fn plain_flow(bytes: &[u8], at: usize) -> bool
-    requires { ⌜ at + 21 ≤ length (now bytes) ⌝ }
-    ensures { λ r. ⌜ r ≡ plainAt (now (bytes .entry)) (flowLayout .flagsFrom at) ⌝ }
-{
-    let average = numbers::and(
-        bytes[at + 6 + 3 + 4 + 2] < 2,
-        numbers::and(bytes[at + 6 + 3 + 9] < 2, true),
-    );
-    numbers::and(
-        bytes[at] < 2,
-        numbers::and(
-            bytes[at + 1 + 2 + 2] < 2,
-            numbers::and(bytes[at + 6] < 2, average),
-        ),
-    )
-}
-
-fn plain_shown(bytes: &[u8], at: usize) -> bool
-    requires { ⌜ at + 21 ≤ length (now bytes) ⌝ }
-    ensures { λ r. ⌜ r ≡ plainAt (now (bytes .entry)) (shownLayout .flagsFrom at) ⌝ }
-{
-    let last = numbers::and(
-        bytes[at + 6 + 6 + 5 + 1 + 1] < 2,
-        numbers::and(bytes[at + 6 + 6 + 5 + 1 + 1 + 1] < 2, true),
-    );
-    numbers::and(
-        bytes[at + 6 + 6 + 2 + 2] < 2,
-        numbers::and(
-            bytes[at + 6 + 6 + 5] < 2,
-            numbers::and(bytes[at + 6 + 6 + 5 + 1] < 2, last),
-        ),
-    )
-}
-
-fn plain_meter(bytes: &[u8], at: usize) -> bool
-    requires { ⌜ at + 129 ≤ length (now bytes) ⌝ }
-    ensures { λ r. ⌜ r ≡ plainAt (now (bytes .entry)) (meterLayout .flagsFrom at) ⌝ }
-{
-    let cells = plain_cells(bytes, at);
-    let charge = plain_charge(bytes, at + 71);
-    let flow = plain_flow(bytes, at + 71 + 11);
-    let shown = plain_shown(bytes, at + 71 + 11 + 21 + 5);
-    numbers::and(cells, numbers::and(charge, numbers::and(flow, shown)))
-}
-
-fn plain_gauge(bytes: &[u8], at: usize) -> bool
+// Of the gauge that stands from an index on, the bytes that have to be below a power of two: eight at once, by the bits that are then 0. BL0, the profile,
+// LOCK and BL1; the count, LEARNF and the mark; the flags of the currents and of the lowest voltage; how many conversions were made, the flags of the
+// average and of the tick; the voltage, the temperature and the flags that are shown.
+fn clear_octets(bytes: &[u8], at: usize) -> bool
     requires { ⌜ at + 170 ≤ length (now bytes) ⌝ }
-    ensures { λ r. ⌜ r ≡ plainAt (now (bytes .entry)) (gaugeLayout .flagsFrom at) ⌝ }
+    ensures { λ r. ⌜ r ≡ clearOctets (now (bytes .entry)) at ⌝ }
 {
-    numbers::and(bytes[at + 32 + 8] < 2, plain_meter(bytes, at + 32 + 9))
+    if !clear(octet(bytes, at + 40), 0xFEFE_FE00_0000_00FE) {
+        return false;
+    }
+    if !clear(octet(bytes, at + 112), 0x00FE_FEF0_0000_0000) {
+        return false;
+    }
+    if !clear(octet(bytes, at + 123), 0x00FE_FE00_0000_00FE) {
+        return false;
+    }
+    if !clear(octet(bytes, at + 134), 0xFE00_00FE_FC00_0000) {
+        return false;
+    }
+    clear(octet(bytes, at + 162), 0xFEFE_FEFE_FEF8_00FC)
+}
+
+// And its numbers that have another bound: FULL, the age counter, AS, the sum of the currents; and that a profile without a cycle counter counts none.
+fn sound_numbers(bytes: &[u8], at: usize) -> bool
+    requires { ⌜ at + 170 ≤ length (now bytes) ⌝ }
+    ensures { λ r. ⌜ r ≡ soundNumbers (now (bytes .entry)) at ⌝ }
+{
+    if 16384 < slices::pair(bytes, at + 149) {
+        return false;
+    }
+    if 2097120 <= slices::quad(bytes, at + 119) {
+        return false;
+    }
+    if bytes[at + 112] < 63 {
+        return false;
+    }
+    if 128 < bytes[at + 112] {
+        return false;
+    }
+    let run = (bytes[at + 136] % 8) as u32;
+    if 65535 * run < slices::quad(bytes, at + 132) {
+        return false;
+    }
+    let profile = profile_at(bytes, at + 45);
+    let cycles = Cycles {
+        count: bytes[at + 144],
+        rest: slices::quad(bytes, at + 145),
+    };
+    uncounted(profile, cycles, bytes[at + 44])
+}
+
+fn sound_gauge(bytes: &[u8], at: usize) -> bool
+    requires { ⌜ at + 170 ≤ length (now bytes) ⌝ }
+    ensures { λ r. ⌜ r ≡ soundPlace (now (bytes .entry)) at ⌝ }
+{
+    if clear_octets(bytes, at) {
+        return sound_numbers(bytes, at);
+    }
+    false
+}
+
+// Whether each of so many gauges, which stand one behind the other, is well-formed and each of its flags 0 or 1.
+fn sound_places(bytes: &[u8], from: usize, n: usize) -> bool
+    requires { ⌜ (n ≤ 8) × (from + n * 170 ≤ length (now bytes)) ⌝ }
+    ensures { λ r. ⌜ r ≡ soundPlaces (now (bytes .entry)) from 0 n ⌝ }
+{
+    let mut i = 0;
+    while i < n {
+        if sound_gauge(bytes, from + i * 170) {
+            i += 1;
+        } else {
+            return false;
+        }
+    }
+    true
 }
 
 // What was read: the state, or the number of the refusal and the state before the first record.
@@ -636,8 +634,8 @@ fn state_number(bytes: &[u8]) -> u8
     if bytes[0] != 1 {
         return 51;
     }
-    let plain = numbers::and(bytes[1] < 2, plain_gauge(bytes, 2));
-    numbers::choose8(numbers::and(sound_at(bytes, 43), plain), 0, 52)
+    let gauge = sound_places(bytes, 2, 1);
+    numbers::choose8(numbers::and(bytes[1] < 2, gauge), 0, 52)
 }
 
 // The state that the bytes are.
@@ -654,131 +652,6 @@ pub fn state_in(bytes: &[u8]) -> StateIn
         };
     }
     no_state(number)
-}
-
-// What a step by state bytes says: 0, its answer and how many bytes it replied; or the number of bytes that are no state.
-pub struct StateStep {
-    pub number: u8,
-    pub answer: u8,
-    pub replied: usize,
-}
-
-fn stepped(answer: u8, replied: u16) -> StateStep
-    ensures { λ r. ⌜ r ≡ record { number = 0; answer = answer; replied = replied } ⌝ }
-{
-    StateStep {
-        number: 0,
-        answer: answer,
-        replied: replied as usize,
-    }
-}
-
-// What the record at the front asks of the state that the bytes are, with so many bytes of reply room.
-fn asked_in(state: &[u8], bytes: &[u8], room: usize) -> Record
-    requires { ⌜ length (now state) ≡ 172 ⌝ }
-    ensures { λ r. ⌜ r ≡ frontBy (ofSession .told (sessionAt (now (state .entry)))) room (now (bytes .entry)) ⌝ }
-{
-    let loaded = flag_at(state, 1);
-    let tick = Tick {
-        any: flag_at(state, 143),
-        last: slices::pair(state, 144),
-    };
-    runs::front(bytes, loaded, tick, room)
-}
-
-// Writes the state of a gauge whose image was accepted.
-fn put_loaded(gauge: Gauge, state: &mut [u8])
-    requires { ⌜ 172 ≤ length (now state) ⌝ }
-    ensures { λ _. ⌜ now (state .exit) ≡ put (now (state .entry)) 0 (stateBytes (loadedWith gauge)) ⌝ }
-{
-    let session = Session {
-        loaded: true,
-        gauge: gauge,
-    };
-    put_state(session, state);
-}
-
-// A reading, conversion, sample or power-on. Each writes the state by itself: where one does so for all, its fields are moved once more.
-fn changed_in(state: &mut [u8], change: Change)
-    requires { ⌜ (length (now state) ≡ 172) × GaugeWF (sessionAt (now state) .gauge) ⌝ }
-    ensures { λ _. ⌜ Became (now (state .entry)) (changedOf (sessionAt (now (state .entry)) .gauge) change) (now (state .exit)) ⌝ }
-{
-    let gauge = gauge_at(state, 2);
-    match change {
-        Change::Reading(volt, temp) => {
-            let after = gauge.read(volt, temp);
-            put_loaded(after, state);
-        }
-        Change::Conversion(raw) => {
-            let after = gauge.convert(raw);
-            put_loaded(after, state);
-        }
-        Change::Sample(raw, tick) => {
-            let after = gauge.sample(raw, tick);
-            put_loaded(after, state);
-        }
-        Change::PowerOn => {
-            let after = gauge.power_on();
-            put_loaded(after, state);
-        }
-    }
-}
-
-// A transaction: the state is written where its command can change it.
-fn transacted_in(state: &mut [u8], transaction: Transaction, master: &[u8], room: &mut [u8])
-    requires { ⌜ (length (now state) ≡ 172) × GaugeWF (sessionAt (now state) .gauge) ⌝ }
-    requires { ⌜ transaction .count ≤ length (now room) ⌝ }
-    ensures { λ _. ⌜ now (state .exit) ≡ pick (canChange (transaction .command))
-        (put (now (state .entry)) 0 (stateBytes (loadedWith (actOf (sessionAt (now (state .entry)) .gauge) transaction (now (master .entry))))))
-        (now (state .entry)) ⌝ }
-    ensures kept { λ _. ⌜ GaugeWF (actOf (sessionAt (now (state .entry)) .gauge) transaction (now (master .entry))) ⌝ }
-    ensures replied { λ _. ⌜ now (room .exit)
-        ≡ replyOf (sessionAt (now (state .entry)) .gauge) transaction (now (master .entry)) ++ drop (transaction .count) (now (room .entry)) ⌝ }
-{
-    let gauge = gauge_at(state, 2);
-    let after = gauge.transact(transaction, master, room);
-    let command = transaction.command;
-    if gauge::can_change(command) {
-        put_loaded(after, state);
-    }
-}
-
-// The record at the front of some bytes, run in the state that a lent room holds. Bytes that are no state stay, and nothing is run. Where the record
-// changes nothing, nothing is written.
-pub fn state_step(state: &mut [u8], bytes: &[u8], room: &mut [u8]) -> StateStep
-    ensures { λ r. ⌜ StateStepped (now (state .entry)) (now (bytes .entry)) (now (room .entry)) r (now (state .exit)) (now (room .exit)) ⌝ }
-{
-    let number = state_number(state);
-    if number != 0 {
-        return StateStep {
-            number: number,
-            answer: 0,
-            replied: 0,
-        };
-    }
-    let first = asked_in(state, bytes, room.len());
-    let end = first.used;
-    let answer = first.answer;
-    let asked = first.event;
-    match asked {
-        Asked::Nothing => stepped(answer, 0),
-        Asked::Run(event) => match event {
-            Event::Image(profile) => {
-                let gauge = gauge::image_in(profile, &bytes[4..end]);
-                put_loaded(gauge, state);
-                stepped(answer, 0)
-            }
-            Event::Change(change) => {
-                changed_in(state, change);
-                stepped(answer, 0)
-            }
-            Event::Transact(transaction) => {
-                let from = 4 + transaction.start as usize;
-                transacted_in(state, transaction, &bytes[from..end], room);
-                stepped(answer, transaction.count)
-            }
-        },
-    }
 }
 
 // ---- the state of a tray
@@ -854,23 +727,6 @@ pub fn tray_state_out(tray: Tray, room: &mut [u8]) -> bool
     true
 }
 
-// Whether the gauge of each place is well-formed, and each of its flags 0 or 1.
-fn sound_places(bytes: &[u8]) -> bool
-    requires { ⌜ length (now bytes) ≡ 1363 ⌝ }
-    ensures { λ r. ⌜ r ≡ soundPlaces (now (bytes .entry)) 0 8 ⌝ }
-{
-    let mut i = 0;
-    while i < 8 {
-        let at = 3 + i * 170;
-        if numbers::and(sound_at(bytes, at + 32 + 9), plain_gauge(bytes, at)) {
-            i += 1;
-        } else {
-            return false;
-        }
-    }
-    true
-}
-
 // What was read: the tray, or the number of the refusal and the tray before the first record.
 pub struct TrayStateIn {
     pub number: u8,
@@ -897,7 +753,7 @@ fn tray_state_number(bytes: &[u8]) -> u8
     if bytes[0] != 129 {
         return 51;
     }
-    let places = sound_places(bytes);
+    let places = sound_places(bytes, 3, 8);
     let tested = numbers::and(bytes[1] <= 8, numbers::and(bytes[2] < 2, places));
     numbers::choose8(tested, 0, 52)
 }
@@ -918,25 +774,436 @@ pub fn tray_state_in(bytes: &[u8]) -> TrayStateIn
     no_tray_state(number)
 }
 
+// ---- an event of the gauge that stands from an index on
+
+// A reading of a signed 32-bit voltage and temperature, which come as z + 2^31.
+fn read_at(state: &mut [u8], at: usize, volt: u32, temp: u32)
+    requires { ⌜ Placed (now state) at ⌝ }
+    ensures { λ _. ⌜ Became (now (state .entry)) at (readingOf (gaugeAt (now (state .entry)) at) volt temp) (now (state .exit)) ⌝ }
+{
+    let meter = meter_at(state, at + 32 + 9);
+    let next = reading::read(meter, volt, temp);
+    meter_out(next, state, at + 32 + 9);
+}
+
+// A conversion of a signed 32-bit raw current.
+fn converted_at(state: &mut [u8], at: usize, raw: u32)
+    requires { ⌜ Placed (now state) at ⌝ }
+    ensures { λ _. ⌜ Became (now (state .entry)) at (conversionOf (gaugeAt (now (state .entry)) at) raw) (now (state .exit)) ⌝ }
+{
+    let meter = meter_at(state, at + 32 + 9);
+    let next = conversion::convert(meter, raw);
+    meter_out(next, state, at + 32 + 9);
+}
+
+// A sample of such a raw current, with its tick.
+fn sampled_at(state: &mut [u8], at: usize, raw: u32, tick: u16)
+    requires { ⌜ Placed (now state) at ⌝ }
+    ensures { λ _. ⌜ Became (now (state .entry)) at (samplingOf (gaugeAt (now (state .entry)) at) raw tick) (now (state .exit)) ⌝ }
+{
+    let meter = meter_at(state, at + 32 + 9);
+    let next = samples::sample(meter, raw, tick);
+    meter_out(next, state, at + 32 + 9);
+}
+
+// Another label and meter are written.
+fn parts_out(label: Label, meter: Meter, state: &mut [u8], at: usize)
+    requires { ⌜ Placed (now state) at × MeterWF meter ⌝ }
+    ensures { λ _. ⌜ Became (now (state .entry)) at (withParts (gaugeAt (now (state .entry)) at) label meter) (now (state .exit)) ⌝ }
+{
+    label_out(label, state, at);
+    meter_out(meter, state, at + 32 + 9);
+}
+
+fn powered_at(state: &mut [u8], at: usize)
+    requires { ⌜ Placed (now state) at ⌝ }
+    ensures { λ _. ⌜ Became (now (state .entry)) at (powerOnOf (gaugeAt (now (state .entry)) at)) (now (state .exit)) ⌝ }
+{
+    let old_label = label_at(state, at);
+    let old_meter = meter_at(state, at + 32 + 9);
+    let label = label::powered(old_label);
+    let meter = old_meter.restarted();
+    parts_out(label, meter, state, at);
+}
+
+// Each reads and writes by itself: where one does so for all, the fields are moved once more.
+fn changed_at(state: &mut [u8], at: usize, change: Change)
+    requires { ⌜ Placed (now state) at ⌝ }
+    ensures { λ _. ⌜ Became (now (state .entry)) at (changedOf (gaugeAt (now (state .entry)) at) change) (now (state .exit)) ⌝ }
+{
+    match change {
+        Change::Reading(volt, temp) => read_at(state, at, volt, temp),
+        Change::Conversion(raw) => converted_at(state, at, raw),
+        Change::Sample(raw, tick) => sampled_at(state, at, raw, tick),
+        Change::PowerOn => powered_at(state, at),
+    }
+}
+
+// 6Ch: bytes written from the address a upward.
+fn written_at(state: &mut [u8], at: usize, a: usize, bytes: &[u8])
+    requires { ⌜ Placed (now state) at ⌝ }
+    requires { ⌜ a < 256 ⌝ }
+    ensures { λ _. ⌜ Became (now (state .entry)) at (writtenOf (gaugeAt (now (state .entry)) at) a (now (bytes .entry))) (now (state .exit)) ⌝ }
+{
+    let bl0 = flag_at(state, at + 32 + 8);
+    let old_label = label_at(state, at);
+    let old_meter = meter_at(state, at + 32 + 9);
+    let label = label::written(old_label, bl0, a, bytes);
+    let meter = block1::meter_written(old_meter, a, bytes);
+    parts_out(label, meter, state, at);
+}
+
+// 48h at the address a.
+fn copied_at(state: &mut [u8], at: usize, a: usize)
+    requires { ⌜ Placed (now state) at ⌝ }
+    ensures { λ _. ⌜ Became (now (state .entry)) at (copiedOf (gaugeAt (now (state .entry)) at) a) (now (state .exit)) ⌝ }
+{
+    let bl0 = flag_at(state, at + 32 + 8);
+    let old_label = label_at(state, at);
+    let old_meter = meter_at(state, at + 32 + 9);
+    let label = label::copied(old_label, bl0, a);
+    let meter = block1::meter_copied(old_meter, a);
+    parts_out(label, meter, state, at);
+}
+
+// B8h at the address a.
+fn recalled_at(state: &mut [u8], at: usize, a: usize)
+    requires { ⌜ Placed (now state) at ⌝ }
+    ensures { λ _. ⌜ Became (now (state .entry)) at (recalledOf (gaugeAt (now (state .entry)) at) a) (now (state .exit)) ⌝ }
+{
+    let old_label = label_at(state, at);
+    let old_meter = meter_at(state, at + 32 + 9);
+    let label = label::recalled(old_label, a);
+    let meter = block1::meter_recalled(old_meter, a);
+    parts_out(label, meter, state, at);
+}
+
+// Another common part and meter are written.
+fn locks_out(common: Common, meter: Meter, state: &mut [u8], at: usize)
+    requires { ⌜ Placed (now state) at × MeterWF meter ⌝ }
+    ensures { λ _. ⌜ Became (now (state .entry)) at (withCommon (gaugeAt (now (state .entry)) at) common meter) (now (state .exit)) ⌝ }
+{
+    common_out(common, state, at + 32);
+    meter_out(meter, state, at + 32 + 9);
+}
+
+// 6Ah at the address a.
+fn locked_at(state: &mut [u8], at: usize, a: usize)
+    requires { ⌜ Placed (now state) at ⌝ }
+    ensures { λ _. ⌜ Became (now (state .entry)) at (lockedOf (gaugeAt (now (state .entry)) at) a) (now (state .exit)) ⌝ }
+{
+    let old_common = common_at(state, at + 32);
+    let old_meter = meter_at(state, at + 32 + 9);
+    let common = label::locked(old_common, old_meter.cells.locks.lock, a);
+    let meter = block1::meter_locked(old_meter, a);
+    locks_out(common, meter, state, at);
+}
+
+// The function command of a transaction that is selected.
+fn ran_at(state: &mut [u8], at: usize, transaction: Transaction, master: &[u8])
+    requires { ⌜ Placed (now state) at ⌝ }
+    ensures { λ _. ⌜ Became (now (state .entry)) at (ranOf (gaugeAt (now (state .entry)) at) transaction (now (master .entry))) (now (state .exit)) ⌝ }
+{
+    let a = slices::wide(transaction.address);
+    let command = transaction.command;
+    match command {
+        Command::Read => {}
+        Command::Write => {
+            let from = slices::lesser(slices::wide(transaction.from), master.len());
+            written_at(state, at, a, &master[from..]);
+        }
+        Command::Copy => copied_at(state, at, a),
+        Command::Recall => recalled_at(state, at, a),
+        Command::Lock => locked_at(state, at, a),
+        Command::Nothing => {}
+    }
+}
+
+// The reply of the gauge, chosen or not, goes to the front of the room. (Its parts are read here, so that the compiler reads only what a reply needs.)
+fn replied_at(state: &[u8], at: usize, transaction: Transaction, chosen: bool, room: &mut [u8])
+    requires { ⌜ Placed (now state) at ⌝ }
+    requires { ⌜ transaction .count ≤ length (now room) ⌝ }
+    ensures { λ _. ⌜ now (room .exit) ≡ (let gauge = gaugeAt (now (state .entry)) at in
+        repliedOf chosen (gauge .common) (gauge .label) (gauge .meter) transaction ++ drop (transaction .count) (now (room .entry))) ⌝ }
+{
+    let common = common_at(state, at + 32);
+    let label = label_at(state, at);
+    let meter = meter_at(state, at + 32 + 9);
+    replies::replied(common, label, meter, transaction, chosen, room);
+}
+
+// ---- a step of a session
+
+// What a step says: 0, its answer and how many bytes it replied; or the number of bytes that are no state.
+pub struct StateStep {
+    pub number: u8,
+    pub answer: u8,
+    pub replied: usize,
+}
+
+fn stepped(answer: u8, replied: u16) -> StateStep
+    ensures { λ r. ⌜ r ≡ record { number = 0; answer = answer; replied = replied } ⌝ }
+{
+    StateStep {
+        number: 0,
+        answer: answer,
+        replied: replied as usize,
+    }
+}
+
+// What the record at the front asks of the state that the bytes are, with so many bytes of reply room.
+fn asked_in(state: &[u8], bytes: &[u8], room: usize) -> Record
+    requires { ⌜ length (now state) ≡ 172 ⌝ }
+    ensures { λ r. ⌜ r ≡ frontBy (ofSession .told (sessionAt (now (state .entry)))) room (now (bytes .entry)) ⌝ }
+{
+    let loaded = state[1] == 1;
+    let tick = tick_at(state, 143);
+    runs::front(bytes, loaded, tick, room)
+}
+
+// A transaction: the gauge is written where it is selected and its command can change it.
+fn transacted_in(state: &mut [u8], transaction: Transaction, master: &[u8], room: &mut [u8])
+    requires { ⌜ Placed (now state) 2 ⌝ }
+    requires { ⌜ transaction .count ≤ length (now room) ⌝ }
+    ensures { λ _. ⌜ Became (now (state .entry)) 2 (actOf (gaugeAt (now (state .entry)) 2) transaction (now (master .entry))) (now (state .exit)) ⌝ }
+    ensures replied { λ _. ⌜ now (room .exit)
+        ≡ replyOf (gaugeAt (now (state .entry)) 2) transaction (now (master .entry)) ++ drop (transaction .count) (now (room .entry)) ⌝ }
+{
+    let address = slices::eight(state, 34);
+    let chosen = replies::selected(address, transaction, master);
+    replied_at(state, 2, transaction, chosen, room);
+    let command = transaction.command;
+    if numbers::and(chosen, gauge::can_change(command)) {
+        ran_at(state, 2, transaction, master);
+    }
+}
+
+// The record at the front of some bytes, run in the state that a lent room holds. Bytes that are no state stay, and nothing is run. Where the record
+// changes nothing, nothing is written.
+pub fn state_step(state: &mut [u8], bytes: &[u8], room: &mut [u8]) -> StateStep
+    ensures { λ r. ⌜ StateStepped (now (state .entry)) (now (bytes .entry)) (now (room .entry)) r (now (state .exit)) (now (room .exit)) ⌝ }
+{
+    let number = state_number(state);
+    if number != 0 {
+        return StateStep {
+            number: number,
+            answer: 0,
+            replied: 0,
+        };
+    }
+    let first = asked_in(state, bytes, room.len());
+    let end = first.used;
+    let answer = first.answer;
+    let asked = first.event;
+    match asked {
+        Asked::Nothing => stepped(answer, 0),
+        Asked::Run(event) => match event {
+            Event::Image(profile) => {
+                let gauge = gauge::image_in(profile, &bytes[4..end]);
+                let session = Session {
+                    loaded: true,
+                    gauge: gauge,
+                };
+                state_out(session, state);
+                stepped(answer, 0)
+            }
+            Event::Change(change) => {
+                changed_at(state, 2, change);
+                stepped(answer, 0)
+            }
+            Event::Transact(transaction) => {
+                let from = 4 + transaction.start as usize;
+                transacted_in(state, transaction, &bytes[from..end], room);
+                stepped(answer, transaction.count)
+            }
+        },
+    }
+}
+
+// ---- a step of a tray
+
+// The common parts of the eight places.
+fn commons_in(state: &[u8]) -> [Common; 8]
+    requires { ⌜ length (now state) ≡ 1363 ⌝ }
+    ensures { λ r. ⌜ r ≡ trayAt (now (state .entry)) .commons ⌝ }
+{
+    let first = common_at(state, 35);
+    let mut commons = [first; 8];
+    let mut i = 1;
+    while i < 8 {
+        let common = common_at(state, 35 + i * 170);
+        commons[i] = common;
+        i += 1;
+    }
+    commons
+}
+
+// Whether an accepted pack has the address of the image at the front; false where there is no image.
+fn again_in(state: &[u8], bytes: &[u8]) -> bool
+    requires { ⌜ trayStateIn (now state) .number ≡ 0 ⌝ }
+    ensures { λ r. ⌜ r ≡ knownIn (trayAt (now (state .entry))) (now (bytes .entry)) ⌝ }
+{
+    if tray_record::image_at(bytes) {
+        let commons = commons_in(state);
+        return tray_record::known(commons, state[1], &bytes[4..12]);
+    }
+    false
+}
+
+// What the record at the front asks of the tray that the bytes are.
+fn tray_asked_in(state: &[u8], slot: usize, bytes: &[u8], room: usize) -> Record
+    requires { ⌜ trayStateIn (now state) .number ≡ 0 ⌝ }
+    requires { ⌜ (slot ≡ namedSlot (now bytes)) × (slot < 8) ⌝ }
+    ensures { λ r. ⌜ r ≡ frontBy (ofTray .told (trayAt (now (state .entry)))) room (now (bytes .entry)) ⌝ }
+{
+    let again = again_in(state, bytes);
+    let last = tick_at(state, 3 + slot * 170 + 141);
+    let closed = state[2] == 1;
+    tray_record::front(bytes, state[1], closed, again, last, room)
+}
+
+// The pack of an image joins it.
+fn joined_in(state: &mut [u8], profile: Profile, image: &[u8])
+    requires { ⌜ trayStateIn (now state) .number ≡ 0 ⌝ }
+    requires { ⌜ (trayAt (now state) .count < 8) × (length (now image) ≡ imageSizeOf profile) ⌝ }
+    ensures { λ _. ⌜ TrayBecame (packJoined (trayAt (now (state .entry))) (imageOf profile (now (image .entry)))) (now (state .exit)) ⌝ }
+{
+    let n = slices::wide(state[1]);
+    let gauge = gauge::image_in(profile, image);
+    gauge_out(gauge, state, 3 + n * 170);
+    state[1] = state[1] + 1;
+}
+
+// An event of a slot, which closes the opening.
+fn slot_changed_in(state: &mut [u8], slot: usize, change: Change)
+    requires { ⌜ trayStateIn (now state) .number ≡ 0 ⌝ }
+    requires { ⌜ slot < 8 ⌝ }
+    ensures { λ _. ⌜ (let tray = trayAt (now (state .entry)) in
+        TrayBecame (closedOf (storedOf tray slot (changedOf (packOf tray slot) change))) (now (state .exit))) ⌝ }
+{
+    changed_at(state, 3 + slot * 170, change);
+    state[2] = 1;
+}
+
+// The packs that a transaction reaches change one after the other.
+fn packs_changed_in(state: &mut [u8], transaction: Transaction, master: &[u8])
+    requires { ⌜ trayStateIn (now state) .number ≡ 0 ⌝ }
+    requires { ⌜ changingOf transaction ≡ true ⌝ }
+    ensures { λ _. ⌜ (let tray = trayAt (now (state .entry)) in
+        TrayBecame (trayActed transaction (now (master .entry)) (trayReach tray transaction (now (master .entry))) tray) (now (state .exit))) ⌝ }
+{
+    let commons = commons_in(state);
+    let span = tray_record::reached(transaction, commons, state[1], master);
+    let stop = slices::wide(span.stop);
+    let mut i = slices::wide(span.first);
+    while i < stop {
+        ran_at(state, 3 + i * 170, transaction, master);
+        i += 1;
+    }
+}
+
+// One of the packs that it reaches replies: the first in the room itself, each further one by way of a scratch room.
+fn heard_at(
+    state: &[u8],
+    at: usize,
+    transaction: Transaction,
+    first: bool,
+    scratch: &mut [u8],
+    room: &mut [u8],
+)
+    requires { ⌜ Placed (now state) at ⌝ }
+    requires { ⌜ transaction .count ≤ length (now scratch) ⌝ }
+    requires { ⌜ transaction .count ≤ length (now room) ⌝ }
+    ensures { λ _. ⌜ now (room .exit) ≡ onLine transaction first (answerBy transaction (gaugeAt (now (state .entry)) at)) (now (room .entry)) ⌝ }
+    ensures bytes { λ _. ⌜ andBytes (lineHigh transaction) (answerBy transaction (gaugeAt (now (state .entry)) at))
+        ≡ answerBy transaction (gaugeAt (now (state .entry)) at) ⌝ }
+{
+    let rom = transaction.rom;
+    let chosen = tray_record::selecting(rom);
+    if first {
+        replied_at(state, at, transaction, chosen, room);
+    } else {
+        let n = transaction.count as usize;
+        replied_at(state, at, transaction, chosen, scratch);
+        tray_record::wire(&scratch[..n], room);
+    }
+}
+
+// The packs that a transaction reaches reply on one line, and none changes.
+fn packs_heard_in(state: &[u8], transaction: Transaction, master: &[u8], room: &mut [u8])
+    requires { ⌜ trayStateIn (now state) .number ≡ 0 ⌝ }
+    requires { ⌜ transaction .count ≤ 256 ⌝ }
+    requires { ⌜ transaction .count ≤ length (now room) ⌝ }
+    ensures { λ _. ⌜ now (room .exit) ≡ (let tray = trayAt (now (state .entry)) in
+        trayReply transaction (now (master .entry)) (trayReach tray transaction (now (master .entry))) tray
+        ++ drop (transaction .count) (now (room .entry))) ⌝ }
+{
+    let mut scratch = [0u8; 256];
+    let commons = commons_in(state);
+    let span = tray_record::reached(transaction, commons, state[1], master);
+    let stop = slices::wide(span.stop);
+    let mut i = slices::wide(span.first);
+    while i < stop {
+        let fresh = i == slices::wide(span.first);
+        heard_at(state, 3 + i * 170, transaction, fresh, &mut scratch, room);
+        i += 1;
+    }
+    tray_record::unheard(stop, transaction, room);
+}
+
+// A transaction: the packs that it reaches change, and every byte of the reply is FFh, or they reply. It closes the opening.
+fn tray_transacted_in(state: &mut [u8], transaction: Transaction, master: &[u8], room: &mut [u8])
+    requires { ⌜ trayStateIn (now state) .number ≡ 0 ⌝ }
+    requires { ⌜ transaction .count ≤ 256 ⌝ }
+    requires { ⌜ transaction .count ≤ length (now room) ⌝ }
+    ensures { λ _. ⌜ (let tray = trayAt (now (state .entry)) in
+        TrayBecame (closedOf (trayActed transaction (now (master .entry)) (trayReach tray transaction (now (master .entry))) tray)) (now (state .exit))) ⌝ }
+    ensures replied { λ _. ⌜ now (room .exit) ≡ (let tray = trayAt (now (state .entry)) in
+        trayReply transaction (now (master .entry)) (trayReach tray transaction (now (master .entry))) tray
+        ++ drop (transaction .count) (now (room .entry))) ⌝ }
+{
+    if tray_record::changing(transaction) {
+        packs_changed_in(state, transaction, master);
+        tray_record::unheard(0, transaction, room);
+    } else {
+        packs_heard_in(state, transaction, master, room);
+    }
+    state[2] = 1;
+}
+
 // The record at the front of some bytes, run in the tray that a lent room holds. Bytes that are no tray stay, and nothing is run.
 pub fn tray_state_step(state: &mut [u8], bytes: &[u8], room: &mut [u8]) -> StateStep
     ensures { λ r. ⌜ TrayStateStepped (now (state .entry)) (now (bytes .entry)) (now (room .entry)) r (now (state .exit)) (now (room .exit)) ⌝ }
 {
     let number = tray_state_number(state);
-    if number == 0 {
-        let tray = tray_at(state);
-        let done = tray_run::step(tray, bytes, room);
-        let after = done.tray;
-        put_tray_state(after, state);
+    if number != 0 {
         return StateStep {
-            number: 0,
-            answer: done.answer,
-            replied: done.replied,
+            number: number,
+            answer: 0,
+            replied: 0,
         };
     }
-    StateStep {
-        number: number,
-        answer: 0,
-        replied: 0,
+    let slot = tray_record::slot(bytes);
+    let first = tray_asked_in(state, slot, bytes, room.len());
+    let end = first.used;
+    let answer = first.answer;
+    let asked = first.event;
+    match asked {
+        Asked::Nothing => stepped(answer, 0),
+        Asked::Run(event) => match event {
+            Event::Image(profile) => {
+                joined_in(state, profile, &bytes[4..end]);
+                stepped(answer, 0)
+            }
+            Event::Change(change) => {
+                slot_changed_in(state, slot, change);
+                stepped(answer, 0)
+            }
+            Event::Transact(transaction) => {
+                let from = 4 + transaction.start as usize;
+                tray_transacted_in(state, transaction, &bytes[from..end], room);
+                stepped(answer, transaction.count)
+            }
+        },
     }
 }

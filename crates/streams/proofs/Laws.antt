@@ -1,13 +1,15 @@
 -- What follows of what was read, and of what is said.
 use mathlib.Core.Path.{_≡_, refl, sym, ap, _∙_}
 use mathlib.Core.Bool.{Bool, true, false}
-use mathlib.Core.List.{List}
+use mathlib.Core.List.{List, _++_}
 use Prim.Native.Nat.{ℕ, _+_, _-_, _≤_, _<_}
 use native.Mathlib.Omega.{arith}
 use borrow.Author.Tests.{ltb-true, ltb-false, leb-true, leb-false}
 use lib.Dec.{ltb, leb}
-use lib.ListN.{length, take, length-take}
+use lib.ListN.{length, take, drop, length-take}
 use lib.Seq.{take-all}
+use Rattle.slices.specs.Slices.{put}
+use Rattle.slices.proofs.Laws.{put-front, put-length}
 use Rattle.streams.specs.declared.Said.{Said}
 use Rattle.streams.specs.Streams.{Front, CountWithin, Speech, Saying}
 
@@ -53,3 +55,13 @@ module _ {what : Speech} {before : List ℕ} {x y : Said} {after after′ : List
 
   pub same-room : after ≡ after′
   same-room = h .written ∙ sym (h′ .written)
+
+-- ---- what stands in the room
+
+-- so many bytes at its front, and what stood behind them
+pub front-put : (room text : List ℕ) {n : ℕ} → length text ≡ n → n ≤ length room → put room 0 text ≡ text ++ drop n room
+front-put room text long fits = put-front room text (omega (arith, long)) ∙ ap (λ (k : ℕ). text ++ drop k room) long
+
+-- what is said leaves the room its length
+pub said-sized : {what : Speech} {room after : List ℕ} {r : Said} → Saying what room r after → length room ≡ length after
+said-sized {what} {room} w = sym (ap length (w .written) ∙ put-length room 0 (what .text))

@@ -4,18 +4,16 @@ use mathlib.Core.Bool.{Bool, true, false}
 use mathlib.Core.List.{List}
 use Prim.Native.Nat.{ℕ, zero, suc, _+_, _-_, _≤_, _<_}
 use native.Mathlib.Omega.{arith}
-use lib.ListN.{getD, drop}
+use lib.ListN.{getD}
 use Rattle.numbers.specs.Choice.{pick, both}
-use Rattle.bus.specs.declared.Command.{Command}
-use Rattle.bus.specs.declared.Command.the-variants as command
 use Rattle.bus.specs.declared.Transaction.{Transaction}
 use Rattle.state.specs.declared.Common.{Common}
 use Rattle.state.specs.declared.Label.{Label}
 use Rattle.state.specs.declared.Meter.{Meter}
-use Rattle.replies.specs.Reply.{selectedOf}
 use Rattle.gauge.specs.declared.Gauge.{Gauge}
 use Rattle.gauge.specs.Gauge.{GaugeWF}
-use Rattle.gauge.specs.Act.{ranBy, canChange, ranOf, actOf}
+use Rattle.gauge.specs.Act.{canChange, ranOf, actOf}
+use Rattle.gauge.proofs.Acting.{act-idle}
 use Rattle.tray_record.specs.declared.Tray.{Tray}
 use Rattle.tray_record.specs.declared.Span.{Span}
 use Rattle.tray_record.specs.Tray.{noGauge, packOf, storedOf, Reach, one, every, nobody, trayReach, actedAt, actedFirst, trayActed, reachSpan, changingOf}
@@ -28,27 +26,6 @@ never e = let z : _≡_ {A = ℕ} 0 1 = cc in omega arith
 
 module _ (t : Transaction) (master : List ℕ) where
   -- ---- none does
-
-  act-idle : (g : Gauge) → both (selectedOf (g .common .address) t master) (canChange (t .command)) ≡ false → actOf g t master ≡ g
-  unfolding actOf ranOf
-  act-idle g = by (selectedOf (g .common .address) t master) (t .command)
-    where
-      by : (chosen : Bool) (x : Command) → both chosen (canChange x) ≡ false → pick chosen (ranBy x g (t .address) (drop (t .from) master)) g ≡ g
-      by false x e = refl
-      by true command.Read e = refl
-      by true command.Write e = absurd (never e)
-      by true command.Copy e = absurd (never e)
-      by true command.Recall e = absurd (never e)
-      by true command.Lock e = absurd (never e)
-      by true command.Nothing e = refl
-
-  -- a command that cannot change a gauge leaves it as it is, selected or not
-  pub act-none : (g : Gauge) → canChange (t .command) ≡ false → actOf g t master ≡ g
-  act-none g none = act-idle g (by (selectedOf (g .common .address) t master))
-    where
-      by : (chosen : Bool) → both chosen (canChange (t .command)) ≡ false
-      by true = none
-      by false = refl
 
   stored-itself : (τ : Tray) (i : ℕ) → TrayWF τ → i < 8 → storedOf τ i (packOf τ i) ≡ τ
   stored-itself τ i w h =
@@ -69,7 +46,7 @@ module _ (t : Transaction) (master : List ℕ) where
   pub reach-idle : (τ : Tray) → TrayWF τ → changingOf t ≡ false → τ ≡ trayActed t master (trayReach τ t master) τ
   reach-idle τ w none =
       sym (by (trayReach τ t master) (omega (arith, span-inside t master τ, w .few))
-      (λ i low high. act-idle (packOf τ i) (ap (λ (b : Bool). both b (canChange (t .command))) (reach-selects t master τ i low high) ∙ none)))
+      (λ i low high. act-idle (packOf τ i) t master (ap (λ (b : Bool). both b (canChange (t .command))) (reach-selects t master τ i low high) ∙ none)))
     where
       by : (reach : Reach) → reachSpan (τ .count) reach .stop ≤ 8 → Idle τ (reachSpan (τ .count) reach) → trayActed t master reach τ ≡ τ
       by (one j) h idle = ap (storedOf τ j) (idle j (omega arith) (omega arith)) ∙ stored-itself τ j w (omega arith)

@@ -22,7 +22,7 @@ use Rattle.replies.specs.Reply.{listed, readSourceOf, sourceByte, repliedOf}
 use Rattle.replies.proofs.Listed.{listed-length}
 use Rattle.gauge.specs.declared.Gauge.{Gauge}
 use Rattle.gauge.specs.Act.{canChange, replyOf}
-use Rattle.runs.proofs.AnyRecord.{reply-length}
+use Rattle.gauge.proofs.Acting.{reply-length}
 use Rattle.tray_record.specs.declared.Tray.{Tray}
 use Rattle.tray_record.specs.declared.Span.{Span}
 use Rattle.tray_record.specs.Wire.{andBytes}

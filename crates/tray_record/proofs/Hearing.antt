@@ -9,7 +9,8 @@ use Rattle.gauge.specs.Act.{replyOf}
 use Rattle.record.specs.declared.Event.{Event}
 use Rattle.record.specs.declared.Event.the-variants.{Image, Change, Transact}
 use Rattle.record.specs.Record.{masterOf, asksOf}
-use Rattle.runs.proofs.AnyRecord.{Replying, reply-length}
+use Rattle.gauge.proofs.Acting.{reply-length}
+use Rattle.runs.proofs.AnyRecord.{Replying}
 use Rattle.tray_record.specs.declared.Tray.{Tray}
 use Rattle.tray_record.specs.Tray.{packOf, wiredFirst, Reach, one, every, nobody, trayReach, trayReply, trayEvent, ofTray}
 use Rattle.tray_record.proofs.Anded.{and-length}

@@ -28,7 +28,7 @@ use Rattle.record.specs.Record.{takenBy, timedOf, fittedOf}
 use Rattle.tray_record.specs.declared.Tray.{Tray}
 use Rattle.tray_record.specs.declared.Found.{Found}
 use Rattle.tray_record.specs.declared.Found.the-variants.{At, Nowhere}
-use Rattle.tray_record.specs.Tray.{searchFrom, searchOf, matchedOf, aimedBy, noGauge, emptyTray, packOf, storedOf}
+use Rattle.tray_record.specs.Tray.{searchFrom, searchOf, matchedOf, aimedBy, noGauge, emptyTray, packOf, storedOf, packJoined}
 use Rattle.tray_record.specs.Tray.{TrayWF, trayKindOf, aheadOf, acceptedFor, trayAskedAt}
 
 -- ---- before the first record every place has the same
@@ -72,6 +72,18 @@ stored-wf τ i g w v = record {
     length-set (τ .meters) i (g .meter) ∙ w .sizes .2,
   );
   packs = λ j. record { meter = set-each MeterWF (noGauge .meter) (τ .meters) i (g .meter) (v .meter) (λ k. w .packs k .meter) j };
+}
+
+-- a pack joins
+pub join-wf : (τ : Tray) (g : Gauge) → TrayWF τ → τ .count < 8 → GaugeWF g → TrayWF (packJoined τ g)
+join-wf τ g w h v = record {
+  few = omega arith;
+  sizes = (
+    length-set (τ .commons) (τ .count) (g .common) ∙ w .sizes .0,
+    length-set (τ .labels) (τ .count) (g .label) ∙ w .sizes .1,
+    length-set (τ .meters) (τ .count) (g .meter) ∙ w .sizes .2,
+  );
+  packs = λ j. record { meter = set-each MeterWF (noGauge .meter) (τ .meters) (τ .count) (g .meter) (v .meter) (λ k. w .packs k .meter) j };
 }
 
 -- a pack as it was read

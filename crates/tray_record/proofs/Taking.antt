@@ -2,7 +2,7 @@
 use mathlib.Core.Path.{_≡_, refl, sym, subst, _∙_}
 use mathlib.Core.Bool.{Bool, true, false}
 use mathlib.Core.List.{List}
-use Prim.Native.Nat.{ℕ, _≤_, _<_}
+use Prim.Native.Nat.{ℕ, _-_, _≤_, _<_}
 use native.Mathlib.Omega.{arith}
 use borrow.Author.Tests.{leb-true, leb-false, ltb-true}
 use lib.Dec.{ltb, leb}
@@ -12,14 +12,21 @@ use Rattle.numbers.proofs.Bounds.{picked}
 use Rattle.state.specs.declared.Tick.{Tick}
 use Rattle.record.specs.declared.Kind.{Kind}
 use Rattle.record.specs.declared.Kind.the-variants as kind
+use Rattle.record.specs.declared.Change.{Change as Changing}
+use Rattle.record.specs.declared.Event.{Event}
 use Rattle.record.specs.declared.Event.the-variants.{Image, Change, Transact}
 use Rattle.record.specs.declared.Taken.{Taken}
 use Rattle.record.specs.declared.Taken.the-variants.{Run, Refused}
 use Rattle.state.specs.State.{imageSizeOf}
 use Rattle.record.specs.Record.{judgedBy, takenBy, timedOf, Mastered}
 use Rattle.record.proofs.Fits.{Taking, timed-by, kindSort, Sorted, sorted-by, judged-alone}
+use Rattle.slices.specs.Slices.{pairAt}
+use Rattle.runs.specs.Record.{Rec}
+use Rattle.runs.specs.AnyRecord.{recordBy}
+use Rattle.runs.proofs.Fronts.{payloadOf, Ran}
 use Rattle.tray_record.specs.declared.Tray.{Tray}
-use Rattle.tray_record.specs.Tray.{trayKindOf, aheadOf, slotIn, acceptedFor, trayAskedBy, againOf, slotTick, trayTold}
+use Rattle.tray_record.specs.Tray.{trayKindOf, aheadOf, slotIn, acceptedFor, trayAskedBy, againOf, slotTick, trayTold, namedSlot, ofTray, trayDid, TrayWF}
+use Rattle.tray_record.proofs.Fronts.{named-slot}
 
 module _ (count : ℕ) (closed : Bool) (p : List ℕ) where
   abbrev pub TrayTaking : Bool → Taken → Type 0
@@ -90,3 +97,24 @@ module _ (count : ℕ) (closed : Bool) (p : List ℕ) where
 
 pub tray-taking : (τ : Tray) (n : ℕ) (p : List ℕ) → TrayTaking (τ .count) (τ .closed) p (againOf τ p) (trayTold τ n p)
 tray-taking τ n p = asked-taking (τ .count) (τ .closed) p (againOf τ p) (slotTick τ p) (trayKindOf n)
+
+-- ---- of a record that was read
+
+pub did-same : (τ : Tray) (room : ℕ) (r : Rec) → trayDid τ room r ≡ recordBy ofTray τ room r
+unfolding trayDid
+did-same τ room r = refl
+
+-- what is taken has what it asks for
+pub ran-taking : {τ : Tray} {room : ℕ} {l : List ℕ} {used : ℕ} {e : Event} → Ran ofTray τ room l used e
+    → TrayTaking (τ .count) (τ .closed) (payloadOf used l) (againOf τ (payloadOf used l)) (Run e)
+ran-taking {τ} {l = l} {used} x =
+    subst (TrayTaking (τ .count) (τ .closed) (payloadOf used l) (againOf τ (payloadOf used l))) (x .told) (tray-taking τ (pairAt l 2) (payloadOf used l))
+
+-- the slot of a slot's event is one of eight, and the one that was named
+pub slot-inside : {τ : Tray} {room : ℕ} {l : List ℕ} {used : ℕ} {c : Changing} → TrayWF τ → Ran ofTray τ room l used (Change c) →
+    slotIn (payloadOf used l) < 8
+slot-inside w x = omega (arith, ran-taking x .1, w .few)
+
+pub slot-named : {τ : Tray} {room : ℕ} {l : List ℕ} {used : ℕ} {c : Changing} {i : ℕ} → TrayWF τ → Ran ofTray τ room l used (Change c) →
+    i ≡ namedSlot l → i ≡ slotIn (payloadOf used l)
+slot-named {l = l} {used} w x e = e ∙ named-slot (used - 4) l (ran-taking x .0) (slot-inside w x)

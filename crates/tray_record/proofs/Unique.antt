@@ -6,7 +6,9 @@ use Rattle.tray_record.proofs.slot
 use Rattle.tray_record.proofs.«image_at»
 use Rattle.tray_record.proofs.front
 use Rattle.tray_record.proofs.known
+use Rattle.tray_record.proofs.wire
 use Rattle.tray_record.proofs.reached
+use Rattle.tray_record.proofs.selecting
 use Rattle.tray_record.proofs.heard
 use Rattle.tray_record.proofs.unheard
 use Rattle.tray_record.proofs.changing
@@ -27,8 +29,14 @@ front-once κs a r r′ w w′ p h h′ = (h ∙ sym h′, refl)
 pub known-once : Once known.ended known.Reads.Pre known.Reads.Learnt
 known-once κs a r r′ w w′ p h h′ = (h ∙ sym h′, refl)
 
+pub wire-once : Once wire.ended wire.Reads.Pre wire.Reads.Learnt
+wire-once κs a r r′ w w′ p h h′ = (refl, λ i. (tt, ((h ∙ sym h′) i, tt)))
+
 pub reached-once : Once reached.ended reached.Reads.Pre reached.Reads.Learnt
 reached-once κs a r r′ w w′ p h h′ = (h .0 ∙ sym (h′ .0), refl)
+
+pub selecting-once : Once selecting.ended selecting.Reads.Pre selecting.Reads.Learnt
+selecting-once κs a r r′ w w′ p h h′ = (h ∙ sym h′, refl)
 
 pub heard-once : Once heard.ended heard.Reads.Pre heard.Reads.Learnt
 heard-once κs a r r′ w w′ p h h′ =

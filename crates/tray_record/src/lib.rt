@@ -232,7 +232,7 @@ fn matched(commons: [Common; 8], count: u8, master: &[u8]) -> Found
 // ---- replies on one line
 
 // Another reply on the same line.
-fn wire(reply: &[u8], room: &mut [u8])
+pub fn wire(reply: &[u8], room: &mut [u8])
     requires { ⌜ length (now reply) ≤ length (now room) ⌝ }
     ensures { λ _. ⌜ now (room .exit) ≡ andBytes (now (room .entry)) (now (reply .entry)) ⌝ }
 {
@@ -294,7 +294,7 @@ pub fn reached(transaction: Transaction, commons: [Common; 8], count: u8, master
 }
 
 // Whether these are selected: all but by a net address read.
-fn selecting(rom: Rom) -> bool
+pub fn selecting(rom: Rom) -> bool
     ensures { λ r. ⌜ r ≡ selectingOf rom ⌝ }
 {
     match rom {

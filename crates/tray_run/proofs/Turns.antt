@@ -5,7 +5,7 @@ use mathlib.Core.List.{List, _++_}
 use Prim.Native.Nat.{ℕ, _+_, _-_, _≤_, _<_}
 use native.Mathlib.Omega.{arith}
 use lib.ListN.{length, getD, set, take, drop, length-set}
-use Rattle.slices.specs.Slices.{part, pairAt}
+use Rattle.slices.specs.Slices.{part}
 use Rattle.bus.specs.declared.Transaction.{Transaction}
 use Rattle.state.specs.declared.Label.{Label}
 use Rattle.label.specs.Label.{labelPoweredOf}
@@ -15,21 +15,17 @@ use Rattle.gauge.specs.declared.Gauge.{Gauge}
 use Rattle.conversion.specs.Conversion.{convertOf}
 use Rattle.reading.specs.Reading.{readOf}
 use Rattle.samples.specs.Samples.{sampleOf}
-use Rattle.gauge.specs.Gauge.{GaugeWF, withMeter, conversionOf, samplingOf, readingOf, powerOnOf}
+use Rattle.gauge.specs.Gauge.{withMeter, conversionOf, samplingOf, readingOf, powerOnOf}
 use Rattle.gauge.specs.Change.{changedOf}
 use Rattle.state.specs.declared.Profile.{Profile}
 use Rattle.gauge.specs.Image.{imageOf}
 use Rattle.record.specs.declared.Change.{Change as Changes}
 use Rattle.record.specs.declared.Change.the-variants.{Reading, Conversion, Sample, PowerOn}
-use Rattle.record.specs.declared.Event.{Event}
 use Rattle.record.specs.declared.Event.the-variants.{Image, Change, Transact}
-use Rattle.record.specs.declared.Taken.the-variants as taken
 use Rattle.record.specs.Record.{masterOf}
-use Rattle.runs.specs.Record.{Rec}
 use Rattle.runs.specs.Run.{silently, codeOf}
 use Rattle.runs.specs.declared.Asked.the-variants as asked
 use Rattle.runs.specs.declared.Record.{Record}
-use Rattle.runs.specs.AnyRecord.{recordBy}
 use Rattle.runs.proofs.Lines.{Fits}
 use Rattle.runs.proofs.AnyRecord.{record-fits}
 use Rattle.runs.proofs.Fronts.{payloadOf, Ran, Front}
@@ -37,18 +33,13 @@ use Rattle.runs.proofs.Turns as every
 use Rattle.runs.proofs.Turns.{master-part}
 use Rattle.tray_record.specs.declared.Tray.{Tray}
 use Rattle.tray_record.specs.declared.Span.{Span}
-use Rattle.tray_record.specs.Tray.{noGauge, packOf, storedOf, closedOf, packJoined, slotIn, againOf, namedSlot}
+use Rattle.tray_record.specs.Tray.{noGauge, packOf, storedOf, closedOf, packJoined, slotIn, namedSlot}
 use Rattle.tray_record.specs.Tray.{trayReach, trayActed, trayReply, reachSpan, changingOf, unheardOf, ofTray, trayDid, TrayWF}
 use Rattle.tray_record.proofs.Laws.{within, set-itself, set-each}
 use Rattle.tray_record.proofs.Hearing.{tray-replying}
 use Rattle.tray_record.proofs.Acting.{reach-idle}
 use Rattle.tray_record.proofs.Answering.{Answering, answering-end, changing-high}
-use Rattle.tray_record.proofs.Fronts.{named-slot}
-use Rattle.tray_record.proofs.Taking.{TrayTaking, tray-taking}
-
-pub did-same : (τ : Tray) (room : ℕ) (r : Rec) → trayDid τ room r ≡ recordBy ofTray τ room r
-unfolding trayDid
-did-same τ room r = refl
+use Rattle.tray_record.proofs.Taking.{did-same, slot-inside, slot-named}
 
 pub did-fits : Fits trayDid
 unfolding trayDid
@@ -59,21 +50,6 @@ Turn = every.Turn ofTray trayDid did-same TrayWF
 
 abbrev pub Stands : Tray → List ℕ → List ℕ → List ℕ → Tray → ℕ → ℕ → ℕ → List ℕ → List ℕ → Type 0
 Stands = every.Stands ofTray trayDid did-same TrayWF
-
--- what is taken has what it asks for
-pub ran-taking : {τ : Tray} {room : ℕ} {l : List ℕ} {used : ℕ} {e : Event} → Ran ofTray τ room l used e
-    → TrayTaking (τ .count) (τ .closed) (payloadOf used l) (againOf τ (payloadOf used l)) (taken.Run e)
-ran-taking {τ} {l = l} {used} x =
-    subst (TrayTaking (τ .count) (τ .closed) (payloadOf used l) (againOf τ (payloadOf used l))) (x .told) (tray-taking τ (pairAt l 2) (payloadOf used l))
-
--- the slot of a slot's event is one of eight, and the one that was named
-slot-inside : {τ : Tray} {room : ℕ} {l : List ℕ} {used : ℕ} {c : Changes} → TrayWF τ → Ran ofTray τ room l used (Change c) →
-    slotIn (payloadOf used l) < 8
-slot-inside w x = omega (arith, ran-taking x .1, w .few)
-
-slot-named : {τ : Tray} {room : ℕ} {l : List ℕ} {used : ℕ} {c : Changes} {i : ℕ} → TrayWF τ → Ran ofTray τ room l used (Change c) →
-    i ≡ namedSlot l → i ≡ slotIn (payloadOf used l)
-slot-named {l = l} {used} w x e = e ∙ named-slot (used - 4) l (ran-taking x .0) (slot-inside w x)
 
 -- ---- what a slot's event leaves
 
@@ -138,17 +114,6 @@ pub joined-at : (τ : Tray) {i : ℕ} {g h : Gauge} → i ≡ τ .count → g �
     })
     (packJoined τ h)
 joined-at τ ei eg = rw (ei, eg) refl
-
-pub join-wf : (τ : Tray) (g : Gauge) → TrayWF τ → τ .count < 8 → GaugeWF g → TrayWF (packJoined τ g)
-join-wf τ g w h v = record {
-  few = omega arith;
-  sizes = (
-    length-set (τ .commons) (τ .count) (g .common) ∙ w .sizes .0,
-    length-set (τ .labels) (τ .count) (g .label) ∙ w .sizes .1,
-    length-set (τ .meters) (τ .count) (g .meter) ∙ w .sizes .2,
-  );
-  packs = λ j. record { meter = set-each MeterWF (noGauge .meter) (τ .meters) (τ .count) (g .meter) (v .meter) (λ k. w .packs k .meter) j };
-}
 
 -- ---- what changes the meter alone
 

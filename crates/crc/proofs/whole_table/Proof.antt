@@ -6,7 +6,7 @@ use Prim.Native.Nat.{ℕ, _<_}
 use lib.Dec.{T, eqb, eqb→eq}
 use lib.ListN.{length, getD}
 use Rattle.crc.specs.Crc.{bitOf, eightOf}
-use Rattle.crc.proofs.Table.{every, at}
+use Rattle.numbers.proofs.Table.{every, at}
 use Rattle.crc.proofs.whole_table.Statement.{statement}
 use Rattle.crc.proofs.whole_table.Tie as tie
 

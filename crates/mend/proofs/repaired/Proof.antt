@@ -3,7 +3,8 @@ use mathlib.Core.Path.{_≡_, _∙_}
 use native.Mathlib.Omega.{arith}
 use lib.ListN.{length}
 use denote.Ref.{now}
-use Rattle.mend.proofs.Laws.{said-sized, read-seen}
+use Rattle.streams.proofs.Laws.{said-sized}
+use Rattle.mend.proofs.Laws.{read-seen}
 use borrow.Author.Needs.{needs}
 use Rattle.mend.proofs.repaired.Statement.{statement}
 use Rattle.mend.proofs.repaired.Tie as tie

@@ -1,15 +1,10 @@
-use mathlib.Core.Path.{refl}
-use Rattle.state_bytes.proofs.Laws.{stored-then, stored-as}
+use Rattle.state_bytes.proofs.Laws.{stored-both, stored-as}
 use borrow.Author.Needs.{needs}
 use Rattle.state_bytes.proofs.charge_on.Statement.{statement}
 use Rattle.state_bytes.proofs.charge_on.Tie as tie
 
 returns : tie.Need-returns
-returns c =
-    let second = c .before .before in
-    let first = second .before .before .before .before in
-    let charge = first .before .before .before in
-    stored-then (stored-as (charge .charge-bytes .ensures) refl (first .store .ensures)) (second .flow-on .ensures)
+returns c = search (stored-both, stored-as)
 
 pub charge-on-spec : {M : Type 1} → statement M
 charge-on-spec =

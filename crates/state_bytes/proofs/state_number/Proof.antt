@@ -1,11 +1,10 @@
-use mathlib.Core.Path.{_≡_, sym, ap, _∙_}
+use mathlib.Core.Path.{ap, _∙_}
 use lib.Dec.{ltb}
 use lib.ListN.{getD}
 use denote.Ref.{now}
 use Rattle.numbers.specs.Choice.{both}
 use Rattle.state_bytes.specs.declared.StateIn.{StateIn}
-use Rattle.state_bytes.specs.State.{sessionAt}
-use Rattle.state_bytes.proofs.Plain.{written-plain}
+use Rattle.state_bytes.proofs.Plain.{state-tested}
 use Rattle.state_bytes.proofs.Undoing.{in-length, in-version, number-by}
 use borrow.Author.Needs.{needs}
 use Rattle.state_bytes.proofs.state_number.Statement.{statement}
@@ -24,19 +23,16 @@ returns-2 c =
     ap (λ (x : StateIn). x .number) (in-version _ (long .if1 .left) (c .if2 .taken))
 
 returns-3 : tie.Need-returns-3
-unfolding sessionAt
 returns-3 c =
     let tests = c .before in
-    let sound = tests .before in
-    let plain = sound .before in
-    let gauge = plain .before in
-    let second = gauge .before .before in
+    let place = tests .before .before in
+    let second = place .before in
     let first = else2→else1 second in
     let known = first .before in
     let b = now (known .before .args .bytes) in
-    let written = written-plain b (first .if1 .left) (second .if2 .left) (λ i. known .shared-slice-known .given i .fits) in
-    let flags = plain .and .ensures ∙ (λ i. both (ltb (getD b 1 0) 2) (gauge .plain-gauge .ensures i)) ∙ sym written in
-    let told = tests .and2 .ensures ∙ (λ i. both (sound .sound-at .ensures i) (flags i)) in
+    let told = tests .and .ensures
+    ∙ (λ i. both (ltb (getD b 1 0) 2) (place .sound-places .ensures i))
+    ∙ state-tested b (first .if1 .left) (second .if2 .left) (λ i. known .shared-slice-known .given i .fits) in
     c .choose8 .ensures ∙ number-by b (first .if1 .left) (second .if2 .left) told
 
 pub state-number-spec : {M : Type 1} → statement M
@@ -46,10 +42,8 @@ state-number-spec =
     returns
     (λ c. search needs)
     returns-2
+    (λ c κs. search needs)
     (λ c. search needs)
-    (λ c κs. search needs)
-    (λ c κs. search needs)
-    (λ c κs. search needs)
     (λ c κs. search needs)
     (λ c κs. search needs)
     returns-3)

@@ -1,19 +1,20 @@
 use mathlib.Core.Path.{_≡_, refl, sym, ap, _∙_}
-use mathlib.Core.List.{List}
-use Prim.Native.Nat.{ℕ, _≤_}
+use Prim.Native.Nat.{_≤_}
 use native.Mathlib.Omega.{arith}
 use lib.ListN.{length}
 use denote.Ref.{now}
-use Rattle.record.specs.declared.Event.the-variants.{Image, Change, Transact}
+use Rattle.gauge.specs.declared.Gauge.{Gauge}
 use Rattle.runs.specs.declared.Asked.the-variants.{Run}
-use Rattle.runs.specs.SessionRecord.{ofSession}
+use Rattle.runs.specs.Run.{silently}
+use Rattle.runs.specs.SessionRecord.{loadedWith, ofSession}
 use Rattle.runs.proofs.AnyRecord.{session-replying}
 use Rattle.runs.proofs.Fronts.{Front, front, ran}
 use Rattle.runs.proofs.Turns.{master-starts}
 use Rattle.session_run.proofs.Turns.{ran-taking}
 use Rattle.state_bytes.specs.State.{sessionAt, stateIn}
+use Rattle.state_bytes.specs.Places.{gaugeAt}
 use Rattle.state_bytes.proofs.Undoing.{in-size}
-use Rattle.state_bytes.proofs.Stepping.{stepped-number, size-fits, became, held-wf, step-idle, step-silent, step-reply}
+use Rattle.state_bytes.proofs.Stepping.{stepped-number, size-fits, out-whole, pack-placed, loaded-became, step-idle, step-silent, step-reply}
 use borrow.Author.Needs.{needs}
 use Rattle.state_bytes.proofs.state_step.Statement.{statement}
 use Rattle.state_bytes.proofs.state_step.Tie as tie
@@ -70,10 +71,10 @@ part→image c = known→image (c .before)
 abbrev made→image : tie.After-image-in → tie.After-event
 made→image c = part→image (c .before)
 
-abbrev out→made : tie.After-put-loaded-arg → tie.After-image-in
+abbrev out→made : tie.After-state-out-arg → tie.After-image-in
 out→made c = c .before
 
-abbrev lent→change : tie.After-changed-in-arg → tie.After-event2
+abbrev lent→change : tie.After-changed-at-arg → tie.After-event2
 lent→change c = c .before .before
 
 abbrev struct→transaction : tie.After-struct-known → tie.After-event3
@@ -121,13 +122,9 @@ image-in-requires c κs =
     let event = part→image c in
     ran-taking (ran ofSession (at-front (image→front event)) (image→asked event .asked .given .1 ∙ ap Run (event .event .given .1))) .2
 
-put-loaded-requires : tie.Need-put-loaded-requires
-put-loaded-requires c κs = omega (arith, size (image→front (made→image (out→made c))))
-
-changed-in-requires : tie.Need-changed-in-requires
-changed-in-requires c κs =
-    let found = change→front (lent→change c) in
-    (size found, held-wf _ (is-state (front→else found)))
+changed-at-requires : tie.Need-changed-at-requires
+changed-at-requires c κs =
+    pack-placed _ (is-state (front→else (change→front (lent→change c))))
 
 add-from : tie.Need-add-from
 add-from c =
@@ -155,7 +152,7 @@ transacted-in-requires c κs =
     let event = lent→transaction c in
     let found = transaction→front event in
     let x = ran ofSession (at-front found) (transaction→asked event .asked .given .1 ∙ ap Run (event .event3 .given .1)) in
-    ((size found, held-wf _ (is-state (front→else found))), x .held)
+    (pack-placed _ (is-state (front→else found)), x .held)
 
 returns : tie.Need-returns
 returns c = stepped-number (c .before .state-number .ensures) (c .if1 .taken)
@@ -174,18 +171,23 @@ returns-3 c =
     let found = image→front event in
     let x = ran ofSession (at-front found) (image→asked event .asked .given .1 ∙ ap Run (event .event .given .1)) in
     rw (c .stepped2 .ensures)
-    (step-silent _ (is-state (front→else found)) _ _ (at-front found) x refl
-    (became (out .put-loaded .ensures) (image .image-in .ensures .0) (image .image-in .ensures .1) refl))
+    (step-silent _ (is-state (front→else found)) _ _ (at-front found) x
+    (ap (λ (g : Gauge). silently (loadedWith g) 0) (sym (image .image-in .ensures .0))) (image .image-in .ensures .1)
+    (out-whole (size found) (out .state-out .ensures)))
 
 returns-4 : tie.Need-returns-4
+unfolding gaugeAt sessionAt
 returns-4 c =
     let changed = c .before .before .before in
     let event = lent→change (changed .before) in
     let found = change→front event in
     let x = ran ofSession (at-front found) (change→asked event .asked .given .1 ∙ ap Run (event .event2 .given .1)) in
-    rw (c .stepped3 .ensures) (step-silent _ (is-state (front→else found)) _ _ (at-front found) x refl (changed .changed-in .ensures))
+    let now-is = changed .changed-at .ensures in
+    rw (c .stepped3 .ensures)
+    (step-silent _ (is-state (front→else found)) _ _ (at-front found) x refl (now-is .wf) (loaded-became _ (is-state (front→else found)) (ran-taking x) now-is))
 
 returns-5 : tie.Need-returns-5
+unfolding gaugeAt sessionAt
 returns-5 c =
     let back = c .before .before .before in
     let done = back .before .before in
@@ -193,7 +195,7 @@ returns-5 c =
     let found = transaction→front event in
     let x = ran ofSession (at-front found) (transaction→asked event .asked .given .1 ∙ ap Run (event .event3 .given .1)) in
     let told = done .transacted-in .ensures in
-    rw (c .stepped4 .ensures) (step-reply _ (is-state (front→else found)) _ _ (at-front found) x (told .1 .0) (told .0) (told .1 .1))
+    rw (c .stepped4 .ensures) (step-reply _ (is-state (front→else found)) _ _ (at-front found) x (told .0) (told .1))
 
 pub state-step-spec : {M : Type 1} → statement M
 state-step-spec =
@@ -211,10 +213,10 @@ state-step-spec =
     part-image-in-start
     part-image-in-end
     image-in-requires
-    put-loaded-requires
+    (λ c κs. search needs)
     (λ c κs. search needs)
     (λ c. search needs)
-    changed-in-requires
+    changed-at-requires
     (λ c κs. search needs)
     (λ c. search needs)
     (λ c. search needs)

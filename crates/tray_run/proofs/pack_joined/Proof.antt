@@ -3,7 +3,8 @@ use Prim.Native.Nat.{_<_}
 use native.Mathlib.Omega.{arith}
 use Rattle.gauge.specs.Gauge.{GaugeWF}
 use Rattle.tray_record.specs.Tray.{TrayWF}
-use Rattle.tray_run.proofs.Turns.{joined-at, join-wf}
+use Rattle.tray_record.proofs.Laws.{join-wf}
+use Rattle.tray_run.proofs.Turns.{joined-at}
 use borrow.Author.Needs.{needs}
 use Rattle.tray_run.proofs.pack_joined.Statement.{statement}
 use Rattle.tray_run.proofs.pack_joined.Tie as tie

@@ -19,7 +19,8 @@ use Rattle.tray_record.proofs.Laws.{pack-is, pack-wf}
 use Rattle.tray_record.proofs.Answering.{Answering, answering-start, answering-more}
 use Rattle.tray_record.proofs.Hearing.{tray-replying}
 use Rattle.tray_record.proofs.Fronts.{againAt, again-known, again-none, tick-read, front-read, image-long}
-use Rattle.tray_run.proofs.Turns.{did-same, did-fits, Turn, Stands, ran-taking, reading-by, conversion-by, sample-by}
+use Rattle.tray_record.proofs.Taking.{did-same, ran-taking}
+use Rattle.tray_run.proofs.Turns.{did-fits, Turn, Stands, reading-by, conversion-by, sample-by}
 use Rattle.tray_run.proofs.Turns.{turn-idle, turn-image, turn-meter, turn-powered, transacted-changed, transacted-read, turn-transact}
 use borrow.Author.Needs.{needs}
 use Rattle.tray_run.proofs.run_on.Statement.{statement}

@@ -1,16 +1,9 @@
-use mathlib.Core.Path.{_≡_, refl, ap, _∙_}
-use mathlib.Core.List.{List}
-use Prim.Native.Nat.{ℕ, _-_, min}
-use lib.ListN.{length, drop}
+use mathlib.Core.Path.{refl, ap, _∙_}
 use denote.Ref.{now}
-use Rattle.slices.specs.Slices.{part}
-use Rattle.slices.proofs.Laws.{part-rest, drop-lower}
-use Rattle.bus.specs.declared.Command.{Command}
 use Rattle.bus.specs.declared.Command.the-variants.{Write, Copy, Recall, Lock}
-use Rattle.bus.specs.declared.Transaction.{Transaction}
-use Rattle.gauge.specs.declared.Gauge.{Gauge}
 use Rattle.gauge.specs.Gauge.{writtenOf}
-use Rattle.gauge.specs.Act.{ranBy, ranOf}
+use Rattle.gauge.specs.Act.{ranOf}
+use Rattle.gauge.proofs.Acting.{ran-by, bytes-after}
 use borrow.Author.Needs.{needs}
 use Rattle.gauge.proofs.Gauge.ran.Statement.{statement}
 use Rattle.gauge.proofs.Gauge.ran.Tie as tie
@@ -24,16 +17,6 @@ enum-told→start c = wide→start (c .before .before)
 
 abbrev enum-told6→start : tie.After-enum-told6 → tie.Start
 enum-told6→start c = wide→start (c .before .before)
-
--- a command that did its work at the address and with the bytes of the transaction
-ran-by : (x : Command) (g r : Gauge) (t : Transaction) (master : List ℕ) (a : ℕ) →
-    t .command ≡ x → a ≡ t .address → r ≡ ranBy x g a (drop (t .from) master) → r ≡ ranOf g t master
-unfolding ranOf
-ran-by x g r t master a e f k = rw (e, ← f) k
-
--- the bytes that are to be written
-bytes-after : (master : List ℕ) (i from n : ℕ) → i ≡ from → n ≡ min i (length master) → part (length master - n) master n ≡ drop from master
-bytes-after master i from n e f = part-rest master n ∙ rw (f, e) (drop-lower from master)
 
 returns : tie.Need-returns
 unfolding ranOf
