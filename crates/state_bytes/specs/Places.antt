@@ -1,4 +1,4 @@
--- A gauge that stands among bytes, and what is asked of it there.
+-- A gauge that stands among bytes, the bytes of a tray, and what a step asks of them.
 use mathlib.Core.Path.{_≡_}
 use mathlib.Core.Bool.{Bool, false}
 use mathlib.Core.List.{List}

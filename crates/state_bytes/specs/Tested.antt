@@ -14,7 +14,7 @@ use Rattle.state_bytes.specs.State.{profileIn, uncountedBy, soundMeter, 
 abbrev pub soundPlace : List ℕ → ℕ → Bool
 soundPlace b at = both (soundMeter (gaugeLayout .at b at .meter)) (plainAt b (gaugeLayout .flagsFrom at))
 
--- and so are those at so many places from i on, which stand one behind the other
+-- and so is each of n gauges that stand one behind the other from an index on, the first i left out
 abbrev pub soundPlaces : List ℕ → ℕ → ℕ → ℕ → Bool
 soundPlaces b from i zero = true
 soundPlaces b from i (suc n) = both (soundPlace b (from + i * 170)) (soundPlaces b from (i + 1) n)
@@ -40,7 +40,7 @@ clearOctets s at =
 
 -- ---- numbers that have another bound
 
--- FULL, the age counter, AS, the sum of the currents; and a profile without a cycle counter counts none
+-- FULL; the age counter, below 32 × 65,535; AS; the sum of the currents; and a profile without a cycle counter counts none
 unfoldable pub soundNumbers : List ℕ → ℕ → Bool
 soundNumbers s at =
     both (leb (pairAt s (at + 149)) 16384)

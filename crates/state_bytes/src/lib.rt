@@ -581,6 +581,7 @@ fn sound_numbers(bytes: &[u8], at: usize) -> bool
     uncounted(profile, cycles, bytes[at + 44])
 }
 
+// Whether the gauge that stands from an index on is well-formed, and each of its flags 0 or 1.
 fn sound_gauge(bytes: &[u8], at: usize) -> bool
     requires { ⌜ at + 170 ≤ length (now bytes) ⌝ }
     ensures { λ r. ⌜ r ≡ soundPlace (now (bytes .entry)) at ⌝ }
@@ -786,7 +787,7 @@ fn read_at(state: &mut [u8], at: usize, volt: u32, temp: u32)
     meter_out(next, state, at + 32 + 9);
 }
 
-// A conversion of a signed 32-bit raw current.
+// A conversion of a signed 32-bit raw current, which comes as z + 2^31.
 fn converted_at(state: &mut [u8], at: usize, raw: u32)
     requires { ⌜ Placed (now state) at ⌝ }
     ensures { λ _. ⌜ Became (now (state .entry)) at (conversionOf (gaugeAt (now (state .entry)) at) raw) (now (state .exit)) ⌝ }
@@ -826,7 +827,7 @@ fn powered_at(state: &mut [u8], at: usize)
     parts_out(label, meter, state, at);
 }
 
-// Each reads and writes by itself: where one does so for all, the fields are moved once more.
+// Each reads and writes by itself: a meter that is read ahead of the match costs a conversion 98 instructions more (docs/SPEED.md).
 fn changed_at(state: &mut [u8], at: usize, change: Change)
     requires { ⌜ Placed (now state) at ⌝ }
     ensures { λ _. ⌜ Became (now (state .entry)) at (changedOf (gaugeAt (now (state .entry)) at) change) (now (state .exit)) ⌝ }
@@ -899,7 +900,7 @@ fn locked_at(state: &mut [u8], at: usize, a: usize)
     locks_out(common, meter, state, at);
 }
 
-// The function command of a transaction that is selected.
+// The function command of a transaction, of a gauge that is selected.
 fn ran_at(state: &mut [u8], at: usize, transaction: Transaction, master: &[u8])
     requires { ⌜ Placed (now state) at ⌝ }
     ensures { λ _. ⌜ Became (now (state .entry)) at (ranOf (gaugeAt (now (state .entry)) at) transaction (now (master .entry))) (now (state .exit)) ⌝ }
@@ -978,8 +979,8 @@ fn transacted_in(state: &mut [u8], transaction: Transaction, master: &[u8], room
     }
 }
 
-// The record at the front of some bytes, run in the state that a lent room holds. Bytes that are no state stay, and nothing is run. Where the record
-// changes nothing, nothing is written.
+// The record at the front of some bytes, run in the session that `state` holds. Bytes that are no state stay, and nothing is run. A record that can change
+// nothing does not write the state.
 pub fn state_step(state: &mut [u8], bytes: &[u8], room: &mut [u8]) -> StateStep
     ensures { λ r. ⌜ StateStepped (now (state .entry)) (now (bytes .entry)) (now (room .entry)) r (now (state .exit)) (now (room .exit)) ⌝ }
 {
@@ -1050,7 +1051,7 @@ fn again_in(state: &[u8], bytes: &[u8]) -> bool
     false
 }
 
-// What the record at the front asks of the tray that the bytes are.
+// What the record at the front, which names this slot, asks of the tray that the bytes are.
 fn tray_asked_in(state: &[u8], slot: usize, bytes: &[u8], room: usize) -> Record
     requires { ⌜ trayStateIn (now state) .number ≡ 0 ⌝ }
     requires { ⌜ (slot ≡ namedSlot (now bytes)) × (slot < 8) ⌝ }
@@ -1062,7 +1063,7 @@ fn tray_asked_in(state: &[u8], slot: usize, bytes: &[u8], room: usize) -> Record
     tray_record::front(bytes, state[1], closed, again, last, room)
 }
 
-// The pack of an image joins it.
+// The pack of an image joins the tray.
 fn joined_in(state: &mut [u8], profile: Profile, image: &[u8])
     requires { ⌜ trayStateIn (now state) .number ≡ 0 ⌝ }
     requires { ⌜ (trayAt (now state) .count < 8) × (length (now image) ≡ imageSizeOf profile) ⌝ }
@@ -1102,7 +1103,7 @@ fn packs_changed_in(state: &mut [u8], transaction: Transaction, master: &[u8])
     }
 }
 
-// One of the packs that it reaches replies: the first in the room itself, each further one by way of a scratch room.
+// One of the packs that a transaction reaches replies: the first in the room itself, each further one by way of a scratch room.
 fn heard_at(
     state: &[u8],
     at: usize,
@@ -1171,7 +1172,7 @@ fn tray_transacted_in(state: &mut [u8], transaction: Transaction, master: &[u8],
     state[2] = 1;
 }
 
-// The record at the front of some bytes, run in the tray that a lent room holds. Bytes that are no tray stay, and nothing is run.
+// The record at the front of some bytes, run in the tray that `state` holds. Bytes that are no tray stay, and nothing is run.
 pub fn tray_state_step(state: &mut [u8], bytes: &[u8], room: &mut [u8]) -> StateStep
     ensures { λ r. ⌜ TrayStateStepped (now (state .entry)) (now (bytes .entry)) (now (room .entry)) r (now (state .exit)) (now (room .exit)) ⌝ }
 {
