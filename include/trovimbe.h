@@ -13,13 +13,14 @@
  * Answers      Each call answers a number of `enum trovimbe_answer`. 0 is done. Anything else is a refusal, and then every byte that you lent is as
  *              it was: the state, the room for the reply, all of it.
  * Lifetimes    Nothing is kept between calls but what stands in your state: no memory is taken, no file is opened, no pointer is held. A state may be
- *              copied, moved, written to a file and read again, also by another process; there is nothing to free. Bytes that are no state, such
- *              as a damaged file, are refused (50 to 52).
+ *              copied, moved, written to a file and read again, also by another process; there is nothing to free. Bytes that are no
+ *              well-formed state are refused (50 to 52). A state has no checksum: one that is damaged and still well-formed is taken for what it says,
+ *              so keep it where damage is seen.
  * Threads      There are no variables behind your back. Any number of threads may call at once, each with buffers of its own; of calls on one
  *              state at most one may run at a time.
  * Buffers      A pointer and the number of bytes that you lend there. No byte outside is read or written, whatever stands in them. A pointer whose
  *              number is 0 may be null. The buffers of one call must not overlap.
- * Stack        Some 5 KB for a pack and some 15 KB for a tray.
+ * Stack        Some 4 KB, for a pack and for a tray.
  * Units        A count of current is 1.5625 uV across the sense resistor, above 0 while the pack is charged; a conversion is due each 3600/1024 s.
  *              A count of temperature is 1/8 degree, of ACR 6.25 uVh across the sense resistor. A count of voltage is 9.76 mV of the whole stack in a
  *              DS2781. In a DS2775 it is 4.8828 mV of one cell: that chip measures both of its cells and holds their average against VCHG and VAE. A
