@@ -53,7 +53,7 @@ package() { # DIR
 }
 
 filled() {
-    tools=$kit/on/$(uname -m)/toolchain
+    tools=$kit/toolchain
     cp -- "$tools/lib/ld-linux-x86-64.so.2" "$tools/lib/libc.so.6" "$folder/lib" || return
     for program in "${programs[@]}"; do cp -- "$top/target/bin/${second[$program]-$program}" "$folder/bin" || return; done
     find_desk # by name, and not the whole folder: what Python left there would change with the next run, and its sum would be wrong

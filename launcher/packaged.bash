@@ -6,7 +6,7 @@ for file in "$top"/bin/*; do add_program "${file##*/}"; done
 # Leaves the program in `bin` and what starts it in `runner`.
 ready() { # NAME
     if [ "$(uname -m)" != x86_64 ]; then
-        say "the programs of this package are for x86-64, and this machine is $(uname -m): in a checkout, with the kit, they run on Arm too"
+        say "the programs of this package are for x86-64, and this machine is $(uname -m): use them on one of x86-64"
         exit 2
     fi
     bin=$top/bin/${second[$1]-$1}

@@ -3,14 +3,14 @@
 end=$'\n'
 [ -z "$over" ] || end=''
 
-# crates.txt has a line `NAME: DEP DEP ..` for each crate; a program is a crate with src/main.rt.
+# crates.txt has a line `NAME: DEP DEP ..` for each crate, with `staticlib` behind the name of a static library; a program is a crate with
+# src/main.rt.
 declare -A below=()
 programs=()
 while IFS= read -r line || [ -n "$line" ]; do
     line=${line%%#*}
     [[ $line == *:* ]] || continue
-    crate=${line%%:*}
-    crate=${crate//[[:space:]]/}
+    read -r crate _ <<<"${line%%:*}"
     below[$crate]=${line#*:}
     [ ! -f "$top/crates/$crate/src/main.rt" ] || add_program "$crate"
 done <"$top/crates.txt"
@@ -19,16 +19,16 @@ done <"$top/crates.txt"
 find_kit() {
     rt=$(command -v rt) || return
     kit=$(readlink -f "$rt")
-    kit=${RATTLE_HOME:-${kit%/bin/*}}
+    kit=${kit%/bin/*}
     identity=$(<"$kit/KIT-ID")
 }
 
-# Leaves the crate of a program in `made`, its files in `bin`, `stamp` and `log`, and the folders of its crate and of each crate of ours below it in
-# `folders`; a name that crates.txt does not list is a library of the kit. `proves` is what rt is told, `wrought` what is done with that which it made.
+# Leaves the crate of a program in `made`, its files in `bin`, `stamp` and `log`, and the folders of each crate of ours below it and of its own, the
+# lowest first, in `folders`; a name that crates.txt does not list is a library of the kit. `verb` is what rt is told, `built` what it makes.
 aim() { # NAME
     name=$1
     made=${second[$1]-$1}
-    proves=(check "$made") wrought=true ending='so it is not run'
+    verb=run built=$top/crates/$made/out/$made wrought=taken ending='so it is not run'
     bin=$top/target/bin/$made
     stamp=$bin.stamp
     log=$top/target/trovimbe-$made.log
@@ -36,27 +36,44 @@ aim() { # NAME
     reach "$made"
 }
 
+# In the order in which rt proves them: each crate after those that it uses.
 reach() { # CRATE
     local crate
     [ -n "${below[$1]+listed}" ] && [[ $seen != *" $1 "* ]] || return
     seen+="$1 "
-    folders+=("$top/crates/$1")
     for crate in ${below[$1]}; do reach "$crate"; done
+    folders+=("$top/crates/$1")
+}
+
+# Leaves the folders of the sources in `parts`, and in `state` what the stamp of a build of them says: the kit, and which folders there are.
+look() {
+    local folder part
+    parts=() state=$identity
+    for folder in "${folders[@]}"; do
+        for part in "$folder"/{src,specs,proofs}; do
+            [ ! -d "$part" ] || parts+=("$part") state+=" ${part#"$top/crates/"}"
+        done
+    done
 }
 
 # Whether the build is of the sources as they are: none changed since the stamp, which is as old as the start of the proof.
-# The time of change is looked at, which also moves where a file comes back with an older date.
+# The time of change is looked at, which also moves where a file comes back with an older date. What rt keeps in out/ is no source.
 fresh() {
+    look
+    [ -x "$bin" ] && [ -f "$stamp" ] && [ "$(<"$stamp")" = "$state" ] && unchanged_since "$stamp"
+}
+
+unchanged_since() { # FILE
     local changed
-    [ -x "$bin" ] && [ -f "$stamp" ] && [ "$(<"$stamp")" = "$identity" ] &&
-        changed=$(find "$top/crates.txt" "${folders[@]}" -cnewer "$stamp" -print -quit 2>/dev/null) && [ -z "$changed" ]
+    changed=$(find "$top/crates.txt" "${parts[@]}" -cnewer "$1" -print -quit 2>/dev/null) && [ -z "$changed" ]
 }
 
 # Reads what rt prints and writes it to standard output, which is the log. Shows how far the proof is, on a terminal in one line
-# and else in a line for each crate that is proved now. Leaves in `wrong` what rt said of that which is not proved.
+# and else in a line for each crate that is proved now. Leaves in `wrong` what rt said of that which is not proved, without its lines of what is,
+# and in `started` whether rt started the program, which it does once that is proved and linked.
 follow() {
-    local line part='' code=0 count=0 shown crate='' block=''
-    wrong='' SECONDS=0
+    local line part='' code=0 count=0 shown crate='' now='' block=''
+    wrong='' started='' SECONDS=0
     progress
     while [ "$code" -ne 1 ]; do
         IFS= read -r ${over:+-t 1} line
@@ -68,20 +85,29 @@ follow() {
         fi
         [ -n "$part" ] || [ "$code" -eq 0 ] || break
         printf '%s\n' "$part"
-        block+=$part$'\n'
         case $part in
-        'rt: '*' proved ('*)
-            crate=${part#rt: }
-            crate=${crate%% *} count=$((count + 1)) block=''
-            [[ -z $over && $part == *'(unchanged '* ]] || progress
+        'rt: chose --jobs '*' for '*) now=${part##* } block='' ;;
+        'logic=proved '*)
+            [ -z "$now" ] || proved "$now"
+            now='' block=''
             ;;
-        'rt: '*' NOT PROVED'*) wrong+=$block block='' ;;
+        "rt: running out/$made;"*) started=1 && proved "$made" ;;
+        *': proved' | 'statements '* | 'logic '* | 'crate '* | 'library '* | 'axioms '* | 'checked '* | 'only='*) ;;
+        *) block+=$part$'\n' ;;
         esac
         part=''
     done
-    wrong+=$block
+    wrong=$block
     [ "$shown" -eq "$count" ] || progress
     [ -z "$over" ] || echo >&2
+}
+
+# A crate is proved, and so are those that rt comes to before it.
+proved() { # CRATE
+    local at
+    for at in "${!folders[@]}"; do
+        [ "${folders[at]}" != "$top/crates/$1" ] || [ "$count" -gt "$at" ] || { crate=$1 count=$((at + 1)) && progress; }
+    done
 }
 
 progress() {
@@ -90,26 +116,47 @@ progress() {
         "$over" "$name" "$count" "${#folders[@]}" "${crate:+, $crate}" "$SECONDS" "$end" >&2
 }
 
-# Takes the place where a build goes, with its lock file as descriptor 9; says so where this user may not write there.
+# Takes the place where a build goes, with its lock file as descriptor 9; says so where this user may not write there, or where rt keeps its work.
 take_place() {
-    mkdir -p "$top/target/bin" 2>/dev/null && [ -w "$top/target" ] && [ -w "$top/target/bin" ] && { exec 9>"$top/target/trovimbe.lock"; } 2>/dev/null && return
-    say "$name is not proved, $ending: the first run writes $top/target, in which this user may not write (work in a copy of your own)"
+    local folder place=$top/target
+    if mkdir -p "$top/target/bin" 2>/dev/null && [ -w "$top/target" ] && [ -w "$top/target/bin" ] && { exec 9>"$top/target/trovimbe.lock"; } 2>/dev/null; then
+        place=''
+        for folder in "${folders[@]}"; do
+            { [ -d "$folder/out" ] || mkdir "$folder/out" 2>/dev/null; } && [ -w "$folder/out" ] || place=$folder/out
+        done
+    fi
+    [ -n "$place" ] || return 0
+    say "$name is not proved, $ending: the first run writes $place, in which this user may not write (work in a copy of your own)"
     return 1
+}
+
+# What rt made becomes ours whole, or not at all: a proof that fails later, or is broken off, leaves it as it is.
+taken() {
+    cp -- "$built" "$bin.new" && mv -- "$bin.new" "$bin"
+}
+
+# rt in a crate's folder. Of a program it also starts what it built: with no word and nothing to read, and what that writes is let go.
+told_to_rt() {
+    cd "$top/crates/$made" || return
+    unset RT_BACKEND
+    if [ "$verb" = run ]; then exec "$rt" run 2>&1 >/dev/null; fi
+    exec "$rt" "$verb" 2>&1
 }
 
 # Proves and builds under a lock, so that two programs of one pipe do not build in the same folder at once. Says why where it fails.
 build() {
+    local ended
     take_place || return
     if ! flock -n 9; then
         say "$name: waiting for another proof to end"
         flock 9
     fi
     fresh && return
-    [ -x "$bin" ] || rm -f "$top/target/stamp/$made"
     rm -f "$stamp"
-    if { echo "$identity" >"$stamp.begun" && : >"$log"; } then
-        (cd "$top" && exec "$rt" "${proves[@]}") </dev/null 2>&1 9>&- | follow >"$log"
-        [ "${PIPESTATUS[0]}" -ne 0 ] || { "$wrought" && mv "$stamp.begun" "$stamp" && return; }
+    if { echo "$state" >"$stamp.begun" && : >"$log"; } then
+        (told_to_rt) </dev/null 9>&- | follow >"$log"
+        ended=${PIPESTATUS[0]}
+        if [ "$verb" = run ]; then [ -n "$started" ]; else [ "$ended" -eq 0 ]; fi && "$wrought" && mv "$stamp.begun" "$stamp" && return
         printf '%s' "$wrong" >&2
         say "the whole log is $log"
     fi
@@ -117,19 +164,16 @@ build() {
     return 1
 }
 
-# Proves and builds the program where that is due, or ends. Leaves what it is started by in `runner`: as rt runs a program, under the kit's loader
-# and C library, and off x86-64 under the kit's emulator.
+# Proves and builds the program where that is due, or ends. Leaves what it is started by in `runner`: the loader and the C library that it is
+# linked with, as the kit has them.
 ready() { # NAME
-    local tools
     find_kit || { say "rt is not on PATH: install the Rattle kit and put its bin/ there"; exit 2; }
     aim "$1"
     if ! fresh; then
         build || exit 1
         exec 9>&-
     fi
-    tools=$kit/on/$(uname -m)/toolchain
-    runner=("$tools/lib/ld-linux-x86-64.so.2" --library-path "$tools/lib")
-    [ ! -x "$tools/bin/qemu-x86_64" ] || runner=("$tools/bin/qemu-x86_64" "${runner[@]}")
+    runner=("$kit/toolchain/lib/ld-linux-x86-64.so.2" --library-path "$kit/toolchain/lib")
 }
 
 version() {

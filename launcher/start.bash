@@ -1,22 +1,33 @@
-# Starts a program. `runner` is what it is started by: the loader and C library that it was linked with, and off x86-64 an emulator before them.
+# Starts a program. `runner` is what it is started by: the loader and C library that it was linked with.
 
 # Passes on to standard error what comes, as it comes, and answers 1 where anything came: a Rattle program has no status of its own.
-pass() {
-    local first LC_ALL=C
-    IFS= read -r -d '' -n 1 first || return 0
-    { printf %b "${first:-\\0}" && cat; } >&2 || cat >/dev/null
+# Where a pipe cannot be written its reader went away. A program that says so, and nothing else, is let go without a word, and the answer is 141, as
+# of a program that the system ends then.
+pass() { # [what a program says of a pipe without a reader]
+    local letter held='' gone=${1-} LC_ALL=C
+    [ -z "$gone" ] || gone+=$'\n'
+    while IFS= read -r -d '' -n 1 letter; do
+        if [ -z "$letter" ] || [[ $gone != "$held$letter"* ]]; then
+            { printf '%s%b' "$held" "${letter:-\\0}" && cat; } >&2 || cat >/dev/null
+            return 1
+        fi
+        held+=$letter
+    done
+    [ -n "$held" ] || return 0
+    [ "$held" != "$gone" ] || return 141
+    printf '%s' "$held" >&2
     return 1
 }
 
-# Runs the program. The status is the system's where it was ended by it, else 1 where it said something on standard error.
+# Runs the program. The status is the system's where it was ended by it, else that of `pass`.
 told() { # WORD..
-    local out ended
+    local out ended gone=''
     { exec {out}>&1; } 2>/dev/null || exec {out}</dev/null # where it is closed, writes are to fail as they would
-    unset "${!QEMU_@}"
-    "${runner[@]}" "$bin" "$@" 2>&1 >&"$out" {out}>&- | (exec {out}>&- && pass)
+    if [ -p "/dev/fd/$out" ] || [ -S "/dev/fd/$out" ]; then gone="$name: cannot write standard output"; fi
+    "${runner[@]}" "$bin" "$@" 2>&1 >&"$out" {out}>&- | (exec {out}>&- && pass "$gone")
     ended=("${PIPESTATUS[@]}")
     exec {out}>&-
-    [ "${ended[0]}" -le 128 ] && [ "${ended[1]}" -ne 0 ] && return 1
+    [ "${ended[0]}" -le 128 ] && [ "${ended[1]}" -ne 0 ] && return "${ended[1]}"
     return "${ended[0]}"
 }
 

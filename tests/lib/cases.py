@@ -38,11 +38,9 @@ def attempt(name, tried):
 @functools.cache
 def loader(name):
     """Our program NAME as `./trovimbe` starts it."""
-    kit = os.environ.get("RATTLE_HOME") or os.path.dirname(os.path.dirname(os.path.realpath(shutil.which("rt"))))
-    tools = os.path.join(kit, "on", os.uname().machine, "toolchain")
-    emulator = os.path.join(tools, "bin", "qemu-x86_64")
-    return [*([emulator] if os.access(emulator, os.X_OK) else []), os.path.join(tools, "lib", "ld-linux-x86-64.so.2"), "--library-path",
-            os.path.join(tools, "lib"), os.path.join(TOP, "target", "bin", SECOND_NAMES.get(name, name))]
+    libraries = os.path.join(os.path.dirname(os.path.dirname(os.path.realpath(shutil.which("rt")))), "toolchain", "lib")
+    return [os.path.join(libraries, "ld-linux-x86-64.so.2"), "--library-path", libraries,
+            os.path.join(TOP, "target", "bin", SECOND_NAMES.get(name, name))]
 
 
 def called(programs):
@@ -50,7 +48,6 @@ def called(programs):
     return [name for program in programs for name in [program, *(second for second, first in SECOND_NAMES.items() if first == program)]]
 
 
-PLAIN = {name: value for name, value in os.environ.items() if not name.startswith("QEMU_")}  # as the script's
 ASKED = set()  # (name, how many words) of each program of ours that `./trovimbe` has run: it is proved, built and takes so many
 
 
@@ -67,7 +64,7 @@ def ran(command, **how):
     does so, and hands on what it should, tests/cases/command sees. A source that changes while a case runs is not looked at again."""
     ours = (command[1], len(command)) if command[0] == COMMAND and len(command) > 1 and len(command) - 2 == own_words(command[1]) else None
     if ours in ASKED:
-        ended = subprocess.run([*loader(command[1]), *command[2:]], stderr=subprocess.PIPE, env=PLAIN, check=False, **how)
+        ended = subprocess.run([*loader(command[1]), *command[2:]], stderr=subprocess.PIPE, check=False, **how)
         ended.returncode = ended.returncode or int(ended.stderr != b"")
         return ended
     ended = subprocess.run(command, stderr=subprocess.PIPE, check=False, **how)

@@ -22,7 +22,8 @@ use Rattle.block1.specs.Block1.{reaches_of, acr_written_of, block_written_of, me
 use Rattle.block1.specs.OffsetConversion.{shown_in, made_in, offset_figures, sets_acr, leaves_acr, SameOffset, OffsetSteps, OffsetRules}
 
 pub offset_figures_hold : Hold offset_figures
-unfolding laid_of reaches_of acr_written_of block_written_of meter_written_of powered_of counted_of averaged_of found_of settled_of flowed_of convert_of emptied_of seen_of
+unfolding laid_of reaches_of acr_written_of block_written_of meter_written_of powered_of counted_of averaged_of found_of settled_of flowed_of convert_of
+    emptied_of seen_of
     drained_of results_shown read_of
 offset_figures_hold = (refl, (refl, (refl, (refl, (refl, (refl, (refl, (refl, (refl, (refl, (refl, (refl, tt))))))))))))
 

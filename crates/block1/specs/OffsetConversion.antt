@@ -10,7 +10,8 @@ use Rattle.params.specs.Params.{nben_of, counting_of, capacity_of}
 use Rattle.state.specs.declared.Cells.{Cells}
 use Rattle.state.specs.declared.Meter.{Meter}
 use Rattle.state.specs.State.{no_flow, powered_of}
-use Rattle.conversion.specs.Conversion.{current_of, traced_of, blanked_of, grown_of, aged_of, cycled_of, filled_of, averaged_of, next_made, with_charge, with_flow}
+use Rattle.conversion.specs.Conversion.{current_of, traced_of, blanked_of, grown_of, aged_of, cycled_of, filled_of, averaged_of, next_made, with_charge}
+use Rattle.conversion.specs.Conversion.{with_flow}
 use Rattle.conversion.specs.Conversion.{convert_of, charge_in, corrects_full}
 use Rattle.reading.specs.Reading.{read_of}
 use Rattle.reading.specs.Figures.{M, with_byte, plus_count, powered, read_at, Figure, ◌is◌}

@@ -1,4 +1,6 @@
 // What a write, a copy, a recall and a lock do to the meter.
+#![tactic(auto)]
+
 ghost use Rattle.std.specs.Prelude.{◌≡◌, true, ◌<◌};
 ghost use Rattle.state.specs.State.{ChargeWf, MeterWf};
 ghost use Rattle.block1.specs.Block1.{reaches_of, byte_for, porf_written_of, acr_written_of, lock_written_of, cycles_written_of};

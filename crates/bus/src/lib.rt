@@ -1,9 +1,11 @@
 // What the master's bytes ask of a gauge.
+#![tactic(auto)]
+
 ghost use Rattle.std.specs.Prelude.{◌≡◌, ◌<◌, length};
 ghost use Rattle.bus.specs.Ask.{rom_by, rom_of, command_of, plain_of, asked_at, asked_of, AsNumber, own_of};
 
 // What the first master byte says: a net address read by 33h or 39h, Skip, Match, or nothing.
-#[derive(Drop)]
+#[derive(Clone, Copy)]
 pub enum Rom {
     Net33,
     Net39,
@@ -13,7 +15,7 @@ pub enum Rom {
 }
 
 // The five function commands, or none.
-#[derive(Drop)]
+#[derive(Clone, Copy)]
 pub enum Command {
     Read,
     Write,
@@ -26,7 +28,7 @@ pub enum Command {
 // A transaction, taken apart: where in its record's payload the master bytes start, where in these those to be written start, whom it
 // selects, what it asks there, and how many bytes are read. (With a `start` of one byte it would have just eight, which the compiler packs into
 // one number wherever it is passed.)
-#[derive(Drop)]
+#[derive(Clone, Copy)]
 pub struct Transaction {
     pub start: u32,
     pub from: u8,

@@ -1,4 +1,6 @@
 // checksum: prints the 1-Wire CRC of each message on standard input (a length byte, then the bytes)
+#![tactic(auto)]
+
 ghost use Rattle.std.specs.Prelude.{◌≡◌, List, ℕ, ◌*◌, ◌<◌, ◌≤◌, length};
 ghost use Rattle.digits.specs.Digits.{Writing};
 ghost use Rattle.streams.specs.Streams.{Front, Saying};
@@ -7,7 +9,7 @@ ghost use Rattle.checksum.specs.Sums.{crc_line, there_of, sums_text, checked_tex
 use streams::{Input, Said, Stream};
 
 // A line of the answer, and where the next message starts: at the end where this one is not there whole.
-#[derive(Drop)]
+#[derive(Clone, Copy)]
 struct Message {
     line: [u8; 3],
     next: usize,
@@ -95,10 +97,10 @@ fn summed(input: &[u8; 65537], got: Input, room: &mut [u8; 196608]) -> Said
     }
 }
 
-fn main() {
+fn main(rt: HostRuntime) {
     let mut input = [0u8; 65537];
-    let got = streams::read_input(&mut input);
+    let got = streams::read_input(&rt, &mut input);
     let mut room = [0u8; 196608];
     let said = summed(&input, got, &mut room);
-    streams::say(b"checksum", said, &room);
+    streams::say(&rt, b"checksum", said, &room);
 }

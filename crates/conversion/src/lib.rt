@@ -1,4 +1,6 @@
 // A conversion, in the six steps of document 01: the count, ageing, the cycle counter, full detection.
+#![tactic(auto)]
+
 ghost use Rattle.std.specs.Prelude.{◌≡◌, ◌*◌, ◌≤◌, ◌+◌};
 ghost use Rattle.state.specs.State.{ChargeWf, AverageWf, MeterWf};
 ghost use Rattle.conversion.specs.Conversion.{current_of, traced_of, blanked_of, grown_of, added_of, fall_of, aged_of, learning_of, counted_of};
@@ -10,7 +12,7 @@ use params::{Capacity, Counting, Limits};
 use state::{Average, Charge, Cycles, Flow, Meter, Profile, Since, Trace};
 
 // The age counter and AS.
-#[derive(Drop)]
+#[derive(Clone, Copy)]
 struct Age {
     age: u32,
     aging: u8,
@@ -119,7 +121,7 @@ fn learning(mut learnf: bool, last: u16, c: u16, count: u32) -> bool
 }
 
 // What steps 1 to 5 leave: the charge, and how far ACR fell, which ageing and the cycle counter count.
-#[derive(Drop)]
+#[derive(Clone, Copy)]
 pub struct Stepped {
     pub charge: Charge,
     pub fall: u32,

@@ -106,20 +106,26 @@ call_within rs short = called_within did_of empty_of (packed (earlier ++ rs)) []
 -- -997 + 5, ten times -2, and -997 + 5
 sums : sum_over (left_by of_gauge (first later)) (heard_since of_gauge did_of 7 (first later) (call later)) ≡ minus 2004
 unfolding rec_of size_of whole_of did_of taken_of kind_of judged_among addressed_of ordered_of crc.bit_of crc.eight_of crc.next_of
-    image_of powered_of reading_of read_of results_shown drained_of emptied_of seen_of point_of draining_of model_lines slopes_over share_of conversion_of convert_of
+    image_of powered_of reading_of read_of results_shown drained_of emptied_of seen_of point_of draining_of model_lines slopes_over share_of conversion_of
+    convert_of
     flowed_of sampling_of sample_of sampled_of timely_of counted_of averaged_of found_of settled_of
-    asked_of asked_at rom_by command_of selected_of act_of ran_of written_of label_written_of laid_of meter_written_of block_written_of acr_written_of lock_written_of reaches_of
-    copied_of label_copied_of meter_copied_of block_copied_of recalled_of label_recalled_of meter_recalled_of block_recalled_of locked_of meter_locked_of common_locked_of
+    asked_of asked_at rom_by command_of selected_of act_of ran_of written_of label_written_of laid_of meter_written_of block_written_of acr_written_of
+    lock_written_of reaches_of
+    copied_of label_copied_of meter_copied_of block_copied_of recalled_of label_recalled_of meter_recalled_of block_recalled_of locked_of meter_locked_of
+    common_locked_of
     reply_of in_label in_block
 sums = refl
 
 -- THE HYPOTHESES CAN BE MET IN A SESSION
 pub books_met : BooksMet did_of empty_of of_gauge
 unfolding rec_of size_of whole_of did_of taken_of kind_of judged_among addressed_of ordered_of crc.bit_of crc.eight_of crc.next_of
-    image_of powered_of reading_of read_of results_shown drained_of emptied_of seen_of point_of draining_of model_lines slopes_over share_of conversion_of convert_of
+    image_of powered_of reading_of read_of results_shown drained_of emptied_of seen_of point_of draining_of model_lines slopes_over share_of conversion_of
+    convert_of
     flowed_of sampling_of sample_of sampled_of timely_of counted_of averaged_of found_of settled_of
-    asked_of asked_at rom_by command_of selected_of act_of ran_of written_of label_written_of laid_of meter_written_of block_written_of acr_written_of lock_written_of reaches_of
-    copied_of label_copied_of meter_copied_of block_copied_of recalled_of label_recalled_of meter_recalled_of block_recalled_of locked_of meter_locked_of common_locked_of
+    asked_of asked_at rom_by command_of selected_of act_of ran_of written_of label_written_of laid_of meter_written_of block_written_of acr_written_of
+    lock_written_of reaches_of
+    copied_of label_copied_of meter_copied_of block_copied_of recalled_of label_recalled_of meter_recalled_of block_recalled_of locked_of meter_locked_of
+    common_locked_of
     reply_of in_label in_block
 books_met = record {
   taken = 7;
@@ -134,7 +140,8 @@ books_met = record {
 pub eeprom_met : EepromMet did_of empty_of of_gauge
 unfolding rec_of size_of whole_of did_of taken_of kind_of judged_among addressed_of ordered_of crc.bit_of crc.eight_of crc.next_of
     image_of powered_of conversion_of timely_of
-    asked_of asked_at rom_by command_of selected_of act_of ran_of written_of label_written_of laid_of meter_written_of block_written_of acr_written_of lock_written_of reaches_of
+    asked_of asked_at rom_by command_of selected_of act_of ran_of written_of label_written_of laid_of meter_written_of block_written_of acr_written_of
+    lock_written_of reaches_of
     copied_of label_copied_of meter_copied_of block_copied_of locked_of meter_locked_of common_locked_of reply_of in_label in_block
 eeprom_met =
     let again = transaction copying ∷ [] in
@@ -200,10 +207,12 @@ tray_call_within : (rs : List Rec) → length (packed (tray_earlier ++ rs)) ≤ 
 tray_call_within rs short = called_within tray_did empty_tray (packed (tray_earlier ++ rs)) [] (replicate 96 0) (omega arith) (omega arith)
 
 -- 5, and -997 + 5
-slot_sums : sum_over (left_by (of_slot 1) (tray_first tray_later)) (heard_since (of_slot 1) tray_did 7 (tray_first tray_later) (tray_call tray_later)) ≡ minus 987
+slot_sums : sum_over (left_by (of_slot 1) (tray_first tray_later)) (heard_since (of_slot 1) tray_did 7 (tray_first tray_later) (tray_call tray_later)) ≡
+    minus 987
 unfolding rec_of size_of whole_of tray_did tray_kind_of search_of matched_of judged_among addressed_of ordered_of crc.bit_of crc.eight_of crc.next_of
     image_of powered_of conversion_of convert_of flowed_of power_on_of timely_of
-    asked_of asked_at rom_by command_of selected_of own_of act_of ran_of written_of laid_of meter_written_of block_written_of acr_written_of lock_written_of reaches_of
+    asked_of asked_at rom_by command_of selected_of own_of act_of ran_of written_of laid_of meter_written_of block_written_of acr_written_of lock_written_of
+    reaches_of
     copied_of label_copied_of meter_copied_of block_copied_of locked_of meter_locked_of common_locked_of reply_of in_label in_block
 slot_sums = refl
 
@@ -211,7 +220,8 @@ slot_sums = refl
 pub slot_books_met : BooksMet tray_did empty_tray (of_slot 1)
 unfolding rec_of size_of whole_of tray_did tray_kind_of search_of matched_of judged_among addressed_of ordered_of crc.bit_of crc.eight_of crc.next_of
     image_of powered_of conversion_of convert_of flowed_of counted_of averaged_of settled_of power_on_of timely_of
-    asked_of asked_at rom_by command_of selected_of own_of act_of ran_of written_of laid_of meter_written_of block_written_of acr_written_of lock_written_of reaches_of
+    asked_of asked_at rom_by command_of selected_of own_of act_of ran_of written_of laid_of meter_written_of block_written_of acr_written_of lock_written_of
+    reaches_of
     copied_of label_copied_of meter_copied_of block_copied_of locked_of meter_locked_of common_locked_of reply_of in_label in_block
 slot_books_met = record {
   taken = 7;
@@ -226,7 +236,8 @@ slot_books_met = record {
 pub slot_eeprom_met : EepromMet tray_did empty_tray (of_slot 1)
 unfolding rec_of size_of whole_of tray_did tray_kind_of search_of matched_of judged_among addressed_of ordered_of crc.bit_of crc.eight_of crc.next_of
     image_of powered_of conversion_of convert_of flowed_of power_on_of timely_of
-    asked_of asked_at rom_by command_of selected_of own_of act_of ran_of written_of laid_of meter_written_of block_written_of acr_written_of lock_written_of reaches_of
+    asked_of asked_at rom_by command_of selected_of own_of act_of ran_of written_of laid_of meter_written_of block_written_of acr_written_of lock_written_of
+    reaches_of
     copied_of label_copied_of meter_copied_of block_copied_of locked_of meter_locked_of common_locked_of reply_of in_label in_block
 slot_eeprom_met =
     let copying = matched (0x48 ∷ 0x7f ∷ []) in

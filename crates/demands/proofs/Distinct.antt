@@ -28,7 +28,8 @@ use Rattle.runs.specs.Run.{end_after}
 use Rattle.tray_record.specs.declared.Tray.{Tray}
 use Rattle.tray_record.specs.declared.Found.{Found}
 use Rattle.tray_record.specs.declared.Found.TheVariants.{At, Nowhere}
-use Rattle.tray_record.specs.Tray.{empty_tray, no_gauge, pack_of, search_of, is_found, again_of, Reach, one, every, nobody, reach_found, matched_of, reach_by, tray_reach}
+use Rattle.tray_record.specs.Tray.{empty_tray, no_gauge, pack_of, search_of, is_found, again_of, Reach, one, every, nobody, reach_found, matched_of, reach_by}
+use Rattle.tray_record.specs.Tray.{tray_reach}
 use Rattle.tray_record.specs.Tray.{tray_event, tray_did}
 use Rattle.demands.proofs.Choice.{contrary}
 use Rattle.demands.proofs.Packs.{Eight, search_none}

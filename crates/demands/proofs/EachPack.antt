@@ -35,7 +35,7 @@ use Rattle.tray_record.proofs.Hearing.{wired_length, tray_reply_length}
 use Rattle.tray_record.specs.declared.Tray.{Tray}
 use Rattle.tray_record.specs.Wire.{and_bytes}
 use Rattle.tray_record.specs.Tray.{empty_tray, pack_of, wired_first, Reach, one, every, tray_reach, tray_acted, tray_reply, tray_told, of_tray, tray_did}
-use Rattle.hex.specs.Theorems.{Bytes}
+use Rattle.intel_hex.specs.Theorems.{Bytes}
 use Rattle.demands.specs.Longer.{form_kind}
 use Rattle.demands.specs.Slots.{and_over, EachAsPlain, TransactionsAsPlain}
 use Rattle.demands.proofs.Choice.{contrary, either_true}

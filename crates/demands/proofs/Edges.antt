@@ -45,12 +45,12 @@ use Rattle.mending.specs.declared.Listed.{Listed}
 use Rattle.mending.specs.Mending.{mended_of, Mending, Listing}
 use Rattle.mending.specs.Worth.{Accepted, SoundImage, StaysByCalls}
 use Rattle.mending.proofs.Worth as worth
-use Rattle.hex.specs.declared.Answer.{Answer}
-use Rattle.hex.specs.declared.Answer.TheVariants.{Done}
-use Rattle.hex.specs.Export.{Exporting}
-use Rattle.hex.specs.Import.{Importing}
-use Rattle.hex.specs.Theorems.{InSomeOrder, Reordered, Returned}
-use Rattle.hex.proofs.RoundTrip.{round_trip}
+use Rattle.intel_hex.specs.declared.Answer.{Answer}
+use Rattle.intel_hex.specs.declared.Answer.TheVariants.{Done}
+use Rattle.intel_hex.specs.Export.{Exporting}
+use Rattle.intel_hex.specs.Import.{Importing}
+use Rattle.intel_hex.specs.Theorems.{InSomeOrder, Reordered, Returned}
+use Rattle.intel_hex.proofs.RoundTrip.{round_trip}
 use Rattle.demands.specs.Call.{Call, Allowed, Within, lines_in, got_of, first_of, Stopped, SessionRun, Taking}
 use Rattle.demands.specs.Demand1.{Unchanged}
 use Rattle.demands.specs.Numbers.{OnlyWhen, session_cases, front_cases}
@@ -364,7 +364,8 @@ unsaved_over_others g raw tick t master = (refl, (refl, (refl, (refl, tt))))
 
 module _ (n : ℕ) (a b : Call Session) (w : Within did_of empty_of b) (stopped : Stopped did_of empty_of n b a) where
   pub as_left_in_session : (volt temp : ℕ) (t : Transaction) (master : List ℕ)
-      → heard_since of_gauge did_of n a b ≡ changed (Reading volt temp) ∷ transacted t master ∷ [] → aging_of (left_by of_gauge b) ≡ aging_of (left_by of_gauge a)
+      → heard_since of_gauge did_of n a b ≡ changed (Reading volt temp) ∷ transacted t master ∷ [] → aging_of (left_by of_gauge b) ≡
+      aging_of (left_by of_gauge a)
   as_left_in_session volt temp t master heard =
       own_as_holds.session.left n a b w stopped (subst (AsLeft (left_by of_gauge a)) (sym heard) (as_left_over_others (left_by of_gauge a) volt temp t master))
 

@@ -182,7 +182,8 @@ pub answers : session_of (call ones).bytes 4
     ∷ line 4 0 (0xfc ∷ 0x18 ∷ []) ∷ []
 unfolding session_of rec_of size_of whole_of did_of taken_of kind_of judged_among addressed_of ordered_of crc.bit_of crc.eight_of crc.next_of
     image_of powered_of conversion_of convert_of flowed_of power_on_of
-    asked_of asked_at rom_by command_of selected_of act_of ran_of written_of label_written_of laid_of meter_written_of block_written_of copied_of label_copied_of
+    asked_of asked_at rom_by command_of selected_of act_of ran_of written_of label_written_of laid_of meter_written_of block_written_of copied_of
+    label_copied_of
     meter_copied_of block_copied_of
     reply_of source_byte read_byte in_label in_block label_byte meter_byte registers_of
 answers = refl
@@ -208,13 +209,15 @@ crossing = whole 4 (0 ∷ 0xcc ∷ 0x6c ∷ 0x7c ∷ 0xff ∷ []) ∷ whole 4 (0
 pub in_order : ordered_of (eeprom_breaks (call ones).ran.state.gauge) ≡ true
 unfolding rec_of size_of whole_of did_of taken_of kind_of judged_among addressed_of ordered_of crc.bit_of crc.eight_of crc.next_of
     image_of powered_of conversion_of convert_of flowed_of power_on_of
-    asked_of asked_at rom_by command_of selected_of act_of ran_of written_of meter_written_of block_written_of laid_of copied_of meter_copied_of block_copied_of reply_of
+    asked_of asked_at rom_by command_of selected_of act_of ran_of written_of meter_written_of block_written_of laid_of copied_of meter_copied_of
+    block_copied_of reply_of
     in_label in_block
 in_order = refl
 
 pub crosses : ((call crossing).ran.state.loaded ≡ true) × Crossed (call crossing).ran.state.gauge
 unfolding rec_of size_of whole_of did_of taken_of kind_of judged_among addressed_of ordered_of crc.bit_of crc.eight_of crc.next_of
-    image_of powered_of asked_of asked_at rom_by command_of selected_of act_of ran_of written_of meter_written_of block_written_of laid_of copied_of meter_copied_of
+    image_of powered_of asked_of asked_at rom_by command_of selected_of act_of ran_of written_of meter_written_of block_written_of laid_of copied_of
+    meter_copied_of
     block_copied_of reply_of in_label in_block
 crosses = (refl, refl)
 

@@ -66,7 +66,7 @@ pub record Form {A B : Type 0} (make : A → B → Gauge) (x : A) (f : Gauge →
   pub reply : List ℕ
   pub form : (y : B) → f (make x y) ≡ after (make part y) answer reply
 
--- how a part is read, at the addresses a with inLabel a ≡ side
+-- how a part is read, at the addresses a with in_label a ≡ side
 record Part {A B : Type 0} (make : A → B → Gauge) : Type 0 where
   side : Bool
   byte : A → ℕ → ℕ

@@ -13,9 +13,9 @@ use Rattle.numbers.proofs.Table.{at}
 use Rattle.digits.specs.Digits.{hex_of}
 use Rattle.record.specs.Image.{image_block}
 use Rattle.record.specs.Record.{addressed_of, ordered_of, judged_among}
-use Rattle.hex.specs.Export.{both_accepted, export_label, export_answer, label_line, low_line, high_line, end_line, export_text}
-use Rattle.hex.specs.Import.{import_answer, import_room, text_lines}
-use Rattle.hex.specs.Theorems.{Bytes, joined_text}
+use Rattle.intel_hex.specs.Export.{both_accepted, export_label, export_answer, label_line, low_line, high_line, end_line, export_text}
+use Rattle.intel_hex.specs.Import.{import_answer, import_room, text_lines}
+use Rattle.intel_hex.specs.Theorems.{Bytes, joined_text}
 use Rattle.demands.specs.RoundTrip.{RoundTripMet}
 
 -- an address, a label of one letter, parameters with the breakpoints 40, 0 and -12, saved ACR and AS, and a lock byte

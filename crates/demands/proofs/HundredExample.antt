@@ -60,7 +60,8 @@ reads = changed (Reading (count_at measured 0) (count_at measured 4))
 pub hundred_met : HundredMet did_of empty_of of_gauge
 unfolding rec_of size_of whole_of did_of taken_of kind_of judged_among addressed_of ordered_of crc.bit_of crc.eight_of crc.next_of
     image_of powered_of reading_of read_of results_shown drained_of emptied_of seen_of point_of draining_of model_lines slopes_over share_of convert_of
-    flowed_of sampling_of sample_of sampled_of timely_of counted_of averaged_of found_of settled_of filled_of aged_full_of share_up_of cycled_of usable_of renewed_of
+    flowed_of sampling_of sample_of sampled_of timely_of counted_of averaged_of found_of settled_of filled_of aged_full_of share_up_of cycled_of usable_of
+    renewed_of
     lowered_of kept_of flagged_of
 hundred_met = record {
   taken = 4;

@@ -21,9 +21,9 @@ use Rattle.record.specs.Image.{image_breaks}
 use Rattle.record.specs.Record.{count_at, ordered_of, ordered_z}
 use Rattle.record.proofs.Meaning.{record_means}
 use Rattle.gauge.specs.Image.{size_for}
-use Rattle.hex.specs.declared.CheckedLine.TheVariants.{Good}
-use Rattle.hex.specs.Line.{hex_line_text, data_record, placed_of, checked_line_of}
-use Rattle.hex.proofs.RoundTrip.{good_lines}
+use Rattle.intel_hex.specs.declared.CheckedLine.TheVariants.{Good}
+use Rattle.intel_hex.specs.Line.{hex_line_text, data_record, placed_of, checked_line_of}
+use Rattle.intel_hex.proofs.RoundTrip.{good_lines}
 use Rattle.runs.specs.declared.Session.{Session}
 use Rattle.session_run.specs.SessionRun.{TakenOut}
 use Rattle.tray_record.specs.declared.Tray.{Tray}

@@ -5,7 +5,7 @@ use Rattle.tray_run.proofs.Unique as tray
 use Rattle.samples.proofs.Unique as samples
 use Rattle.preset_session.proofs.Unique as programmer
 use Rattle.mending.proofs.Unique as mending
-use Rattle.hex.proofs.Unique as hex
+use Rattle.intel_hex.proofs.Unique as hex
 use Rattle.demands.specs.NoSlack.{NoSlack}
 
 pub no_slack : NoSlack

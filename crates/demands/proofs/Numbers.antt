@@ -33,7 +33,8 @@ use Rattle.record.specs.declared.Change.TheVariants.{Reading, Conversion, Sample
 use Rattle.record.specs.declared.Taken.{Taken}
 use Rattle.record.specs.declared.Taken.TheVariants.{Run, Refused}
 use Rattle.record.specs.Image.{image_address, image_breaks}
-use Rattle.record.specs.Record.{refusal_number, taken_number, kind_of, head_of, limit_of, read_count, addressed_of, lockable_of, ordered_of, judged_among, count_at}
+use Rattle.record.specs.Record.{refusal_number, taken_number, kind_of, head_of, limit_of, read_count, addressed_of, lockable_of, ordered_of, judged_among}
+use Rattle.record.specs.Record.{count_at}
 use Rattle.record.specs.Record.{transaction_in, transaction_of, sized_of, taken_of, change_timely, event_timely, timed_of, asks_of, fitted_of}
 use Rattle.runs.specs.Record.{Rec, whole, cut, whole_of, rec_of}
 use Rattle.runs.specs.Run.{Did, Line, outcome_number, Running}
@@ -45,7 +46,8 @@ use Rattle.runs.proofs.AnyRecord.{Replying, session_replying}
 use Rattle.session_run.specs.SessionRun.{empty_of}
 use Rattle.tray_record.specs.declared.Tray.{Tray}
 use Rattle.tray_record.specs.declared.Found.TheVariants.{At}
-use Rattle.tray_record.specs.Tray.{empty_tray, pack_of, search_from, search_of, is_found, no_gauge, tray_kind_of, slot_in, again_of, slot_tick, tray_told, of_tray, tray_did}
+use Rattle.tray_record.specs.Tray.{empty_tray, pack_of, search_from, search_of, is_found, no_gauge, tray_kind_of, slot_in, again_of, slot_tick, tray_told}
+use Rattle.tray_record.specs.Tray.{of_tray, tray_did}
 use Rattle.tray_record.proofs.Hearing.{tray_replying}
 use Rattle.demands.specs.Call.{Call, Allowed}
 use Rattle.demands.specs.Images.{image_kind}
@@ -164,7 +166,8 @@ module _ (p : List ℕ) where
 
   address_is : (family : ℕ) → both (eqb (get_or (part 8 p 0) 0 0) family) (eqb (get_or (part 8 p 0) 7 0) (crc_of (part 7 (part 8 p 0) 0)))
       ≡ both (eqb (get_or p 0 0) family) (eqb (get_or p 7 0) (crc_of (take 7 p)))
-  address_is family = λ i. both (eqb (first_byte_lem 0 (omega arith) i) family) (eqb (first_byte_lem 7 (omega arith) i) (crc_of (take-take 7 8 p (omega arith) i)))
+  address_is family = λ i. both (eqb (first_byte_lem 0 (omega arith) i) family)
+      (eqb (first_byte_lem 7 (omega arith) i) (crc_of (take-take 7 8 p (omega arith) i)))
 
   misaddressed_is : (f : Profile) → not (addressed_of f (image_address p)) ≡ misaddressed (image_kind f) p
   unfolding addressed_of
@@ -198,7 +201,8 @@ module _ (room : ℕ) (last : Tick) (p : List ℕ) where
       let kind = image_kind f in
       pick (misaddressed kind p) 6 (pick (locked_above3 kind p) 7 (pick again 12 (pick (breaks_cross kind p) 10 0)))
 
-  judged_number_lem : (f : Profile) (again : Bool) → eqb (length p) (image_size_of f) ≡ true → number_in room last (judged_among f again p) ≡ image_number f again
+  judged_number_lem : (f : Profile) (again : Bool) → eqb (length p) (image_size_of f) ≡ true → number_in room last (judged_among f again p) ≡
+      image_number f again
   unfolding judged_among
   judged_number_lem f again sized =
       let done = quiet_event room last (Image f) refl refl in
@@ -213,7 +217,8 @@ module _ (room : ℕ) (last : Tick) (p : List ℕ) where
   turn_number sized accepted n = pick (either (not sized) false) 4 (pick accepted 5 n)
 
   image_number_lem : (f : Profile) (again accepted : Bool)
-      → number_in room last (pick (eqb (length p) (image_size_of f)) (pick (not accepted) (judged_among f again p) (Refused refusal.Order)) (Refused refusal.Size))
+      → number_in room last (pick (eqb (length p) (image_size_of f)) (pick (not accepted) (judged_among f again p) (Refused refusal.Order))
+      (Refused refusal.Size))
       ≡ turn_number (eqb (length p) (image_size_of f)) accepted (image_number f again)
   image_number_lem f again accepted = by (eqb (length p) (image_size_of f)) refl
     where
@@ -221,7 +226,8 @@ module _ (room : ℕ) (last : Tick) (p : List ℕ) where
           → number_in room last (pick t (pick (not accepted) (judged_among f again p) (Refused refusal.Order)) (Refused refusal.Size))
           ≡ turn_number t accepted (image_number f again)
       by true sized =
-          tested room last (not accepted) _ refusal.Order _ (judged_number_lem f again sized) ∙ ap (λ (x : Bool). pick x 5 (image_number f again)) (not_not accepted)
+          tested room last (not accepted) _ refusal.Order _ (judged_number_lem f again sized) ∙
+          ap (λ (x : Bool). pick x 5 (image_number f again)) (not_not accepted)
       by false sized = refl
 
   -- 4 and 5 of any other kind
@@ -254,7 +260,8 @@ module _ (room : ℕ) (last : Tick) (p : List ℕ) where
       tested room last (leb (read_count f p) (limit_of f)) _ refusal.Count _ fits
       ∙ ap (λ (x : Bool). pick x 8 (pick (ltb room (read_count f p)) 9 0)) (not_leb (read_count f p) (limit_of f))
 
-  short_number : number_in room last (transaction_of Short p) ≡ pick (either (ltb 64 (get_or p 0 0)) false) 8 (pick (either (ltb room (get_or p 0 0)) false) 9 0)
+  short_number : number_in room last (transaction_of Short p) ≡
+      pick (either (ltb 64 (get_or p 0 0)) false) 8 (pick (either (ltb room (get_or p 0 0)) false) 9 0)
   short_number =
       transaction_number Short
       ∙ (λ i. pick (sym (either_none (ltb 64 (get_or p 0 0))) i) 8 (pick (sym (either_none (ltb room (get_or p 0 0))) i) 9 0))

@@ -28,7 +28,8 @@ use Rattle.record.proofs.Fits.{refusal_range}
 use Rattle.runs.specs.Record.{Rec, whole, cut}
 use Rattle.runs.specs.Run.{Did, silently, line_of}
 use Rattle.tray_record.specs.declared.Tray.{Tray}
-use Rattle.tray_record.specs.Tray.{no_gauge, pack_of, search_of, tray_kind_of, ahead_of, slot_in, again_of, tray_told, matched_of, tray_reach, tray_event, tray_did}
+use Rattle.tray_record.specs.Tray.{no_gauge, pack_of, search_of, tray_kind_of, ahead_of, slot_in, again_of, tray_told, matched_of, tray_reach, tray_event}
+use Rattle.tray_record.specs.Tray.{tray_did}
 use Rattle.demands.specs.Alone.{slot_event, slotted}
 use Rattle.demands.specs.Isolation.{images_after, Others}
 use Rattle.demands.proofs.Choice.{contrary, both_false}

@@ -77,7 +77,8 @@ bias_in g = get_or g.meter.cells.block.shadow 1 0
 pub read_back_met : (f : Profile) → ReadBackMet f
 unfolding rec_of size_of whole_of did_of taken_of kind_of judged_among addressed_of ordered_of crc.bit_of crc.eight_of crc.next_of
     image_of powered_of conversion_of convert_of flowed_of power_on_of bytes_of
-    asked_of asked_at rom_by command_of selected_of act_of ran_of written_of label_written_of laid_of meter_written_of block_written_of copied_of label_copied_of
+    asked_of asked_at rom_by command_of selected_of act_of ran_of written_of label_written_of laid_of meter_written_of block_written_of copied_of
+    label_copied_of
     meter_copied_of block_copied_of reply_of in_label in_block
 read_back_met Ds2781 = record {
   session = call_for Ds2781 [];
@@ -164,7 +165,8 @@ pub slot_read_back_met : SlotReadBackMet
 unfolding rec_of size_of whole_of did_of taken_of kind_of tray_did tray_kind_of search_of matched_of own_of judged_among addressed_of ordered_of
     crc.bit_of crc.eight_of crc.next_of
     image_of powered_of conversion_of convert_of flowed_of power_on_of bytes_of
-    asked_of asked_at rom_by command_of selected_of act_of ran_of written_of label_written_of laid_of meter_written_of block_written_of copied_of label_copied_of
+    asked_of asked_at rom_by command_of selected_of act_of ran_of written_of label_written_of laid_of meter_written_of block_written_of copied_of
+    label_copied_of
     meter_copied_of block_copied_of reply_of in_label in_block
 slot_read_back_met = record {
   tray = tray_call [];

@@ -27,7 +27,8 @@ use Rattle.runs.specs.Record.{Rec, whole, cut}
 use Rattle.runs.specs.Run.{Did, silently, Line, line_of, lines_after, end_after}
 use Rattle.runs.specs.AnyRecord.{Steps, answered_by}
 use Rattle.tray_record.specs.declared.Tray.{Tray}
-use Rattle.tray_record.specs.Tray.{pack_of, tray_kind_of, ahead_of, slot_in, accepted_for, tray_asked_by, again_of, slot_tick, tray_told, tray_event, of_tray, tray_did}
+use Rattle.tray_record.specs.Tray.{pack_of, tray_kind_of, ahead_of, slot_in, accepted_for, tray_asked_by, again_of, slot_tick, tray_told, tray_event, of_tray}
+use Rattle.tray_record.specs.Tray.{tray_did}
 use Rattle.demands.specs.Sections.{fence}
 use Rattle.demands.specs.Class.{Selects, taken_class, tray_asked}
 use Rattle.demands.specs.Demand3.{taken_asks, rec_asks, asks_all}

@@ -40,7 +40,7 @@ use Rattle.session_run.specs.SessionRun.{empty_of}
 use Rattle.tray_record.specs.declared.Tray.{Tray}
 use Rattle.tray_record.specs.Tray.{empty_tray, pack_of, search_of, is_found, tray_kind_of, ahead_of}
 use Rattle.tray_record.specs.Tray.{tray_asked_by, again_of, slot_tick, tray_told, tray_reach, tray_event, of_tray, tray_did}
-use Rattle.hex.specs.Theorems.{Bytes}
+use Rattle.intel_hex.specs.Theorems.{Bytes}
 use Rattle.demands.specs.Call.{Call, lines_in}
 use Rattle.demands.specs.Single.{tray_kind, has_slot, in_tray, line_in_tray, none_again, one_image, Translated, AnswersAlike, SingleAsPlain}
 use Rattle.demands.proofs.Choice.{contrary, by_number}
@@ -392,7 +392,8 @@ runs_more : (σ : Session) (τ : Tray) (room : ℕ) (r : Rec) (rs : List Rec) �
 runs_more σ τ room r rs b reply h = record {
   lines = rw (b.kind, b.does.answer, reply) (ap (λ (ls : List Line). line_in_tray (line_of r (did_of σ room r)) ∷ ls) h.lines);
   end =
-      subst (λ (x : List ℕ). Alike (end_after did_of σ room (r ∷ rs)) (end_after tray_did (tray_did τ room (in_tray r)).state (room - length x) (map in_tray rs)))
+      subst (λ (x : List ℕ). Alike (end_after did_of σ room (r ∷ rs)) (end_after tray_did (tray_did τ room (in_tray r)).state (room - length x)
+      (map in_tray rs)))
       (sym reply) h.end;
 }
 

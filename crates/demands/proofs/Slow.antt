@@ -332,7 +332,8 @@ module _ (g h : Gauge) (room : ℕ) (xs : List Slowly) where
   -- from two states that are the same but for the tick
   record Ends : Type 0 where
     state : unticked (end_after did_of (loaded_with g) room (map slow_record xs)) ≡ unticked (end_after did_of (loaded_with h) room (one_by_one last xs))
-    lines : lines_after did_of (loaded_with h) room (one_by_one last xs) ≡ one_by_one_lines last xs (lines_after did_of (loaded_with g) room (map slow_record xs))
+    lines : lines_after did_of (loaded_with h) room (one_by_one last xs) ≡
+        one_by_one_lines last xs (lines_after did_of (loaded_with g) room (map slow_record xs))
 
 module _ (g h : Gauge) (room : ℕ) (s : Sample) (xs : List Slowly) where
   abbrev raw : ℕ

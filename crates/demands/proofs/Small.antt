@@ -46,7 +46,7 @@ use Rattle.gauge.specs.Gauge.{conversion_of, sampling_of, reading_of, power_on_o
 use Rattle.gauge.specs.Change.{changed_of}
 use Rattle.gauge.specs.Act.{ran_by, ran_of, act_of, reply_of}
 use Rattle.gauge.specs.Image.{image_of}
-use Rattle.hex.specs.Theorems.{Bytes}
+use Rattle.intel_hex.specs.Theorems.{Bytes}
 
 -- Lists of bytes
 

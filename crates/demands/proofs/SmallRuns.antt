@@ -21,7 +21,7 @@ use Rattle.runs.specs.SessionRecord.{last_tick, told_of, of_session, did_of}
 use Rattle.session_run.specs.SessionRun.{empty_of}
 use Rattle.tray_record.specs.declared.Tray.{Tray}
 use Rattle.tray_record.specs.Tray.{empty_tray, pack_of, no_gauge, tray_did}
-use Rattle.hex.specs.Theorems.{Bytes}
+use Rattle.intel_hex.specs.Theorems.{Bytes}
 use Rattle.demands.specs.Call.{Call, Within}
 use Rattle.demands.specs.History.{Happening, imaged, changed, transacted, happened, lived, Pack, event_happens, heard_by, heard_in}
 use Rattle.demands.proofs.Moments.{running}

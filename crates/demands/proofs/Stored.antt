@@ -45,7 +45,8 @@ changed_eeprom block1 g c =
     (record { conversion = λ f raw p. p; tick = λ f tick p. p; reading = λ f volt temp p. p; power_on = λ f p. p }) g c refl
 
 -- a copy stores the shadow of the block that it names, unless it is locked
-copied_eeprom : (b : Memory) (g : Gauge) (a : ℕ) → eeprom_in b (copied_of g a) ≡ pick (but_not (has_address b a) (locked_in b g)) (shadow_in b g) (eeprom_in b g)
+copied_eeprom : (b : Memory) (g : Gauge) (a : ℕ) → eeprom_in b (copied_of g a) ≡
+    pick (but_not (has_address b a) (locked_in b g)) (shadow_in b g) (eeprom_in b g)
 unfolding copied_of label_copied_of meter_copied_of block_copied_of
 copied_eeprom block0 g a = through (λ (l : Label). l.eeprom) (but_not (in_label a) g.common.bl0) _ g.label
 copied_eeprom block1 g a = through (λ (k : Block). k.eeprom) (but_not (in_block a) g.meter.cells.locks.bl1) _ g.meter.cells.block

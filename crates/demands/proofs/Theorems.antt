@@ -17,7 +17,7 @@ use Rattle.runs.proofs.Divided.{divided}
 use Rattle.session_run.specs.SessionRun.{empty_of}
 use Rattle.tray_record.specs.Tray.{empty_tray, tray_did}
 use Rattle.mending.proofs.Worth as worth
-use Rattle.hex.proofs.RoundTrip as hex
+use Rattle.intel_hex.proofs.RoundTrip as hex
 use Rattle.demands.specs.Engines.{EnginesEqual}
 use Rattle.demands.specs.Theorems.{OfSessions, OfSigned, OfTrays, OfGauges, OfBench, OfBooks, OfSteps, Theorems}
 use Rattle.demands.proofs.Functions.{contracts}

@@ -123,7 +123,8 @@ module _ (ps : List (Profile × List ℕ)) (n m : ℕ) (a b : Call Tray) (x : Tr
   abbrev all : Call Tray → List (Rec × Line)
   all c = got_of tray_did empty_tray c
 
-  mixed : Apart tray_step tray_out (opened_class ps) (Owns (addresses_of ps)) (λ τ r u. step_owns (addresses_of ps) τ u r) (tray_swaps (addresses_of ps)) (start ps)
+  mixed : Apart tray_step tray_out (opened_class ps) (Owns (addresses_of ps)) (λ τ r u. step_owns (addresses_of ps) τ u r) (tray_swaps (addresses_of ps))
+      (start ps)
       (later ps n a x.one) (later ps m b x.other)
   mixed =
       apart tray_step tray_out (opened_class ps) (Owns (addresses_of ps)) (λ τ r u. step_owns (addresses_of ps) τ u r) (tray_swaps (addresses_of ps)) x.sections

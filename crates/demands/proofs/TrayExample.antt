@@ -11,7 +11,7 @@ use Rattle.state.specs.declared.Profile.{Profile}
 use Rattle.state.specs.declared.Profile.TheVariants.{Ds2781, Ds2775}
 use Rattle.crc.specs.Crc as crc
 use Rattle.numbers.proofs.Table.{at}
-use Rattle.hex.specs.Theorems.{Bytes}
+use Rattle.intel_hex.specs.Theorems.{Bytes}
 use Rattle.slices.specs.Slices.{laid_of}
 use Rattle.state.specs.State.{timely_of, powered_of}
 use Rattle.conversion.specs.Conversion.{flowed_of, convert_of}
@@ -110,7 +110,8 @@ reopened rs = whole 1 zeroth ∷ whole 1 zeroth ∷ whole 8 first ∷ rs
 
 -- THE HYPOTHESIS OF DEMAND 3 FOR TRAYS CAN BE MET
 pub tray_demand_3_met : TrayDemand3Met
-unfolding zip zip_with rec_of size_of whole_of tray_did tray_kind_of search_of matched_of judged_among addressed_of ordered_of crc.bit_of crc.eight_of crc.next_of image_of
+unfolding zip zip_with rec_of size_of whole_of tray_did tray_kind_of search_of matched_of judged_among addressed_of ordered_of crc.bit_of crc.eight_of
+    crc.next_of image_of
     asked_of asked_at rom_by command_of touched_class labels_of touched_of selected_of own_of in_label block_of timely_of
     act_of ran_of written_of power_on_of conversion_of reply_of
 tray_demand_3_met = record {
@@ -135,7 +136,8 @@ tray_demand_3_met = record {
 
 -- THE HYPOTHESIS OF DEMAND 3 FOR WHOLE TRAY SESSIONS CAN BE MET
 pub whole_tray_demand_3_met : WholeTrayDemand3Met
-unfolding zip zip_with rec_of size_of whole_of tray_did tray_kind_of search_of matched_of judged_among addressed_of ordered_of crc.bit_of crc.eight_of crc.next_of image_of
+unfolding zip zip_with rec_of size_of whole_of tray_did tray_kind_of search_of matched_of judged_among addressed_of ordered_of crc.bit_of crc.eight_of
+    crc.next_of image_of
     asked_of asked_at rom_by command_of touched_class labels_of touched_of selected_of own_of in_label block_of timely_of
     act_of ran_of written_of power_on_of conversion_of reply_of
 whole_tray_demand_3_met = record {
@@ -174,7 +176,8 @@ abbrev whole_others : List Rec
 whole_others = stranger ∷ writing ∷ reopened others
 
 pub whole_tray_refused_met : WholeTrayRefusedMet
-unfolding zip zip_with rec_of size_of whole_of tray_did tray_kind_of search_of matched_of judged_among addressed_of ordered_of crc.bit_of crc.eight_of crc.next_of image_of
+unfolding zip zip_with rec_of size_of whole_of tray_did tray_kind_of search_of matched_of judged_among addressed_of ordered_of crc.bit_of crc.eight_of
+    crc.next_of image_of
     asked_of asked_at rom_by command_of touched_class labels_of touched_of selected_of own_of in_label block_of timely_of
     act_of ran_of written_of power_on_of conversion_of reply_of
 whole_tray_refused_met = record {
@@ -222,7 +225,8 @@ stops rs short n c bytes room answers = record { allowed = (call_within rs short
 
 -- THE HYPOTHESES OF ISOLATION CAN BE MET
 pub isolation_met : IsolationMet
-unfolding zip zip_with rec_of size_of whole_of tray_did tray_kind_of search_of matched_of judged_among addressed_of ordered_of crc.bit_of crc.eight_of crc.next_of
+unfolding zip zip_with rec_of size_of whole_of tray_did tray_kind_of search_of matched_of judged_among addressed_of ordered_of crc.bit_of crc.eight_of
+    crc.next_of
     image_of powered_of conversion_of convert_of flowed_of
     asked_of asked_at rom_by command_of selected_of own_of act_of ran_of
     reply_of source_byte read_byte in_label meter_byte registers_of power_on_of
@@ -272,7 +276,8 @@ isolation_met = record {
 abbrev slot_room : List ℕ
 slot_room = replicate 61 0
 
-pub slot_carried : SlotCarried (call longer) 1 slot_room (slot_out_number (call longer).ran.state 1 slot_room) (slot_out_room (call longer).ran.state 1 slot_room)
+pub slot_carried : SlotCarried (call longer) 1 slot_room (slot_out_number (call longer).ran.state 1 slot_room)
+    (slot_out_room (call longer).ran.state 1 slot_room)
 unfolding rec_of size_of whole_of tray_did tray_kind_of search_of judged_among addressed_of ordered_of crc.bit_of crc.eight_of crc.next_of image_of powered_of
     conversion_of convert_of flowed_of
 slot_carried =

@@ -3,11 +3,11 @@
 -- call that reads it.
 use Rattle.std.specs.Prelude.{◌≡◌, true, List, ℕ, ◌≤◌, length, take}
 use Rattle.record.specs.Image.{image_label, image_bl0}
-use Rattle.hex.specs.declared.Answer.{Answer}
-use Rattle.hex.specs.declared.Answer.TheVariants.{Done}
-use Rattle.hex.specs.Export.{export_size, Exporting}
-use Rattle.hex.specs.Import.{import_size, Importing}
-use Rattle.hex.specs.Theorems.{Bytes, Reordered}
+use Rattle.intel_hex.specs.declared.Answer.{Answer}
+use Rattle.intel_hex.specs.declared.Answer.TheVariants.{Done}
+use Rattle.intel_hex.specs.Export.{export_size, Exporting}
+use Rattle.intel_hex.specs.Import.{import_size, Importing}
+use Rattle.intel_hex.specs.Theorems.{Bytes, Reordered}
 
 pub record RoundTripMet : Type 0 where
   pub pack : List ℕ

@@ -11,7 +11,7 @@ use Rattle.runs.specs.SessionRecord.{did_of}
 use Rattle.session_run.specs.SessionRun.{empty_of}
 use Rattle.tray_record.specs.declared.Tray.{Tray}
 use Rattle.tray_record.specs.Tray.{empty_tray, pack_of, tray_did}
-use Rattle.hex.specs.Theorems.{Bytes}
+use Rattle.intel_hex.specs.Theorems.{Bytes}
 use Rattle.demands.specs.Call.{Call, Within, lines_in, Told}
 
 -- ---- the same session for a tray with the pack in slot 0

@@ -12,7 +12,7 @@ use Rattle.runs.specs.declared.Session.{Session}
 use Rattle.runs.specs.SessionRecord.{loaded_with, did_of}
 use Rattle.tray_record.specs.declared.Tray.{Tray}
 use Rattle.tray_record.specs.Tray.{empty_tray, pack_of, one, tray_did}
-use Rattle.hex.specs.Theorems.{Bytes}
+use Rattle.intel_hex.specs.Theorems.{Bytes}
 use Rattle.demands.specs.Call.{Call, Within}
 use Rattle.demands.specs.Longer.{form_kind}
 use Rattle.demands.specs.Alone.{reach_in}

@@ -26,7 +26,7 @@ use Rattle.session_run.specs.SessionRun.{empty_of}
 use Rattle.tray_record.specs.Tray.{empty_tray, tray_did}
 use Rattle.mending.specs.Worth.{AcceptedTheorem, UnchangedTheorem, TwiceTheorem, ArrangedTheorem, CappedTheorem, KeptTheorem, ByCallTheorem}
 use Rattle.mending.specs.Worth.{ListingTheorem}
-use Rattle.hex.specs.Theorems.{GoodLines, RoundTrip, ExportedText}
+use Rattle.intel_hex.specs.Theorems.{GoodLines, RoundTrip, ExportedText}
 use Rattle.demands.specs.Contracts.{Contracts}
 use Rattle.demands.specs.NoSlack.{NoSlack}
 use Rattle.demands.specs.Crc.{CrcRule}

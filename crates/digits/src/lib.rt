@@ -1,4 +1,6 @@
 // Numbers as text: hexadecimal and decimal digits, as bytes in a lent buffer. Each writer puts its bytes at a place and says where the next ones go.
+#![tactic(auto)]
+
 ghost use Rattle.std.specs.Prelude.{◌≡◌, [], ◌∷◌, ◌+◌, ◌*◌, ◌≤◌, ◌<◌, length};
 ghost use Rattle.digits.specs.Digits.{hex_of, lower, upper, pair_text, hex_text, pairs_of, entry_text, hex_digit, hex_value, pair_value};
 ghost use Rattle.digits.specs.Digits.{hex_digits, places_of, packed_pair, packed_of, short_text, fives_text, decimal_text, width_of, Writing};
@@ -193,7 +195,7 @@ fn places(n: usize) -> [u8; 5]
 }
 
 // The last four digits of a number, packed by twos: of each two the first is the lower byte, so that the compiler stores both at once.
-#[derive(Drop)]
+#[derive(Clone, Copy)]
 pub struct Twos {
     pub high: u16,
     pub low: u16,

@@ -1,4 +1,6 @@
 // engines: runs the session on standard input behind 6 bytes, a raw current and n, and shows what both sampling engines make of its end
+#![tactic(auto)]
+
 ghost use Rattle.std.specs.Prelude.{◌≡◌, List, ℕ, ◌+◌, ◌≤◌, length};
 ghost use Rattle.state.specs.State.{MeterWf};
 ghost use Rattle.digits.specs.Digits.{Writing};
@@ -131,10 +133,10 @@ fn compared(input: &[u8; 32775], got: Input, room: &mut [u8; 258]) -> Said
     put_compared(&all[..n], room)
 }
 
-fn main() {
+fn main(rt: HostRuntime) {
     let mut input = [0u8; 32775];
-    let got = streams::read_input(&mut input);
+    let got = streams::read_input(&rt, &mut input);
     let mut room = [0u8; 258];
     let said = compared(&input, got, &mut room);
-    streams::say(b"engines", said, &room);
+    streams::say(&rt, b"engines", said, &room);
 }

@@ -110,7 +110,8 @@ none_saved s false g cycles now then = then
 
 -- without a cycle counter none is counted, and so none is saved
 pub uncounted_kept : Kept Uncounted
-unfolding conversion_of reading_of power_on_of convert_of flowed_of cycled_of read_of results_shown powered_of written_of copied_of recalled_of locked_of meter_written_of
+unfolding conversion_of reading_of power_on_of convert_of flowed_of cycled_of read_of results_shown powered_of written_of copied_of recalled_of locked_of
+    meter_written_of
     meter_copied_of meter_recalled_of meter_locked_of
 uncounted_kept = record {
   change = changed Uncounted (record {

@@ -1,4 +1,6 @@
 // The gauge: its events, what a transaction does, and its image, in and out.
+#![tactic(auto)]
+
 ghost use Rattle.std.specs.Prelude.{◌≡◌, ◌++◌, ◌≤◌, ◌<◌, length, drop};
 ghost use Rattle.gauge.specs.Gauge.{GaugeWf, conversion_of, sampling_of, reading_of, power_on_of, written_of, copied_of, recalled_of, locked_of};
 ghost use Rattle.gauge.specs.Act.{can_change, ran_of, act_of, reply_of};
@@ -12,7 +14,7 @@ use record::{ACR_AT, ADDRESS_AT, AGING_AT, BLOCK_AT, CYCLES_AT, LABEL_AT, LOCKS_
 use state::{Block, Cells, Common, Label, Locks, Meter, Profile, Saved};
 
 // (The order of fields: docs/SPEED.md.)
-#[derive(Drop)]
+#[derive(Clone, Copy)]
 pub struct Gauge {
     pub label: Label,
     pub common: Common,

@@ -9,12 +9,12 @@ use Rattle.streams.specs.declared.Said.{Said}
 use Rattle.streams.specs.declared.Stream.TheVariants.{Output}
 use Rattle.streams.specs.Streams.{Saying, error, refused_text}
 use Rattle.streams.proofs.Laws.{front_put}
-use Rattle.hex.specs.declared.HexRefusal.{HexRefusal}
-use Rattle.hex.specs.declared.Answer.{Answer}
-use Rattle.hex.specs.declared.Answer.TheVariants.{Done, Refused}
-use Rattle.hex.specs.Export.{hex_refusal_number}
-use Rattle.hex.specs.Import.{text_lines, data_at, imported_of, import_size, import_answer, Importing}
-use Rattle.hex.proofs.Lines.{import_sized}
+use Rattle.intel_hex.specs.declared.HexRefusal.{HexRefusal}
+use Rattle.intel_hex.specs.declared.Answer.{Answer}
+use Rattle.intel_hex.specs.declared.Answer.TheVariants.{Done, Refused}
+use Rattle.intel_hex.specs.Export.{hex_refusal_number}
+use Rattle.intel_hex.specs.Import.{text_lines, data_at, imported_of, import_size, import_answer, Importing}
+use Rattle.intel_hex.proofs.Lines.{import_sized}
 use Rattle.hex_in.specs.HexIn.{hex_in_refusal_words, hex_in_over_text, most_text, room_size, hex_in_speech}
 
 -- a refusal, by its number and its words

@@ -4,18 +4,18 @@ use Rattle.numbers.specs.Choice.{pick}
 use Rattle.digits.specs.Ascii.{ascii}
 use Rattle.digits.specs.Digits.{decimal_text}
 use Rattle.streams.specs.Streams.{Speech, output, error, unread_text, refused_text}
-use Rattle.hex.specs.declared.Cause.{Cause}
-use Rattle.hex.specs.declared.Cause.TheVariants as cause
-use Rattle.hex.specs.declared.Flaw.{Flaw}
-use Rattle.hex.specs.declared.Gap.{Gap}
-use Rattle.hex.specs.declared.Gap.TheVariants as gap
-use Rattle.hex.specs.declared.HexRefusal.{HexRefusal}
-use Rattle.hex.specs.declared.HexRefusal.TheVariants.{Line, Whole, Image, Room}
-use Rattle.hex.specs.declared.Answer.{Answer}
-use Rattle.hex.specs.declared.Answer.TheVariants.{Done, Refused}
-use Rattle.hex.specs.Export.{hex_refusal_number}
-use Rattle.hex.specs.Import.{text_lines, imported_of, import_answer}
-use Rattle.hex.specs.Flaw.{flaw_from, gap_of}
+use Rattle.intel_hex.specs.declared.Cause.{Cause}
+use Rattle.intel_hex.specs.declared.Cause.TheVariants as cause
+use Rattle.intel_hex.specs.declared.Flaw.{Flaw}
+use Rattle.intel_hex.specs.declared.Gap.{Gap}
+use Rattle.intel_hex.specs.declared.Gap.TheVariants as gap
+use Rattle.intel_hex.specs.declared.HexRefusal.{HexRefusal}
+use Rattle.intel_hex.specs.declared.HexRefusal.TheVariants.{Line, Whole, Image, Room}
+use Rattle.intel_hex.specs.declared.Answer.{Answer}
+use Rattle.intel_hex.specs.declared.Answer.TheVariants.{Done, Refused}
+use Rattle.intel_hex.specs.Export.{hex_refusal_number}
+use Rattle.intel_hex.specs.Import.{text_lines, imported_of, import_answer}
+use Rattle.intel_hex.specs.Flaw.{flaw_from, gap_of}
 
 abbrev pub hex_in_name : List ℕ
 hex_in_name = ascii "hex_in"

@@ -1,13 +1,15 @@
 // hex_in: reads Intel HEX on standard input and writes the 48 bytes that it has, a label and block 1
+#![tactic(auto)]
+
 ghost use Rattle.std.specs.Prelude.{◌≡◌, List, ℕ, ◌+◌, ◌≤◌, length};
 ghost use Rattle.streams.specs.Streams.{Front, Saying, error, refused_text};
 ghost use Rattle.digits.specs.Digits.{Writing};
-ghost use Rattle.hex.specs.Export.{hex_refusal_number};
-ghost use Rattle.hex.specs.Import.{text_lines};
-ghost use Rattle.hex.specs.Flaw.{flaw_from};
+ghost use Rattle.intel_hex.specs.Export.{hex_refusal_number};
+ghost use Rattle.intel_hex.specs.Import.{text_lines};
+ghost use Rattle.intel_hex.specs.Flaw.{flaw_from};
 ghost use Rattle.hex_in.specs.HexIn.{cause_words, flaw_words, gap_words, hex_in_refusal_words, most_text, room_size, hex_in_speech, hex_in_of};
 
-use hex::{Answer, Cause, Gap, HexRefusal};
+use intel_hex::{Answer, Cause, Gap, HexRefusal};
 use streams::{Input, Said, Stream};
 
 // What is wrong with a line, behind its number.
@@ -49,7 +51,7 @@ fn put_flaw(number: u8, text: &[u8], room: &mut [u8]) -> Said
     requires room_len { length room.old ≡ room_size }
     ensures { Saying (error (refused_text number (flaw_words (flaw_from 1 (text_lines text.now))))) room.old result room.new }
 {
-    let flaw = hex::first_bad(text);
+    let flaw = intel_hex::first_bad(text);
     let cause = flaw.cause;
     let a = digits::put_decimal(number as usize, room, 0);
     let b = digits::put_bytes(b": ", room, a);
@@ -96,10 +98,10 @@ fn put_why(why: HexRefusal, text: &[u8], room: &mut [u8]) -> Said
     ensures { Saying (error (refused_text (hex_refusal_number why) (hex_in_refusal_words why (text_lines text.now))))
         room.old result room.new }
 {
-    let number = hex::answer_number(Answer::Refused(why));
+    let number = intel_hex::answer_number(Answer::Refused(why));
     match why {
         HexRefusal::Line(_) => put_flaw(number, text, room),
-        HexRefusal::Whole => put_gap(number, hex::first_gap(text), room),
+        HexRefusal::Whole => put_gap(number, intel_hex::first_gap(text), room),
         HexRefusal::Image => streams::put_refused(number, b"the text is refused", room),
         HexRefusal::Room => streams::put_refused(
             number,
@@ -122,7 +124,7 @@ fn put_import(text: &[u8], room: &mut [u8]) -> Said
             count: count,
         };
     }
-    let answer = hex::read_text(text, room);
+    let answer = intel_hex::read_text(text, room);
     match answer {
         Answer::Done => {
             let to = Stream::Output;
@@ -149,10 +151,10 @@ fn imported(input: &[u8; 65537], got: Input, room: &mut [u8; 128]) -> Said
     put_import(&all[..n], room)
 }
 
-fn main() {
+fn main(rt: HostRuntime) {
     let mut input = [0u8; 65537];
-    let got = streams::read_input(&mut input);
+    let got = streams::read_input(&rt, &mut input);
     let mut room = [0u8; 128];
     let said = imported(&input, got, &mut room);
-    streams::say(b"hex_in", said, &room);
+    streams::say(&rt, b"hex_in", said, &room);
 }

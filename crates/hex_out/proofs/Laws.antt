@@ -16,12 +16,12 @@ use Rattle.record.specs.Image.{image_size, image_block}
 use Rattle.record.specs.declared.Refusal.TheVariants.{Size}
 use Rattle.record.specs.declared.Taken.TheVariants as taken
 use Rattle.record.specs.Record.{judged_among, judged_of}
-use Rattle.hex.specs.declared.HexRefusal.{HexRefusal}
-use Rattle.hex.specs.declared.HexRefusal.TheVariants.{Image}
-use Rattle.hex.specs.declared.Answer.{Answer}
-use Rattle.hex.specs.declared.Answer.TheVariants.{Done, Refused}
-use Rattle.hex.specs.Export.{hex_refusal_number, image_accepted, both_accepted, export_label, export_text, export_size, export_answer, Exporting}
-use Rattle.hex.proofs.Texts.{granted, label_sized, block_sized, text_length}
+use Rattle.intel_hex.specs.declared.HexRefusal.{HexRefusal}
+use Rattle.intel_hex.specs.declared.HexRefusal.TheVariants.{Image}
+use Rattle.intel_hex.specs.declared.Answer.{Answer}
+use Rattle.intel_hex.specs.declared.Answer.TheVariants.{Done, Refused}
+use Rattle.intel_hex.specs.Export.{hex_refusal_number, image_accepted, both_accepted, export_label, export_text, export_size, export_answer, Exporting}
+use Rattle.intel_hex.proofs.Texts.{granted, label_sized, block_sized, text_length}
 use Rattle.hex_out.specs.HexOut.{side_words, refused_side_words, hex_out_refusal_words, hex_out_by, hex_out_speech}
 
 -- a refusal, by its number and its words

@@ -3,28 +3,34 @@ use mathlib.Core.Path.{sym, ◌∙◌}
 use Rattle.numbers.specs.Once.{Once}
 use Rattle.streams.proofs.Laws.{own, same_said, same_room}
 use Rattle.hex_out.proofs.put_refusal
+use Rattle.hex_out.specs.contracts.put_refusal as put_refusal'
 use Rattle.hex_out.proofs.put_side
+use Rattle.hex_out.specs.contracts.put_side as put_side'
 use Rattle.hex_out.proofs.put_image_refused
+use Rattle.hex_out.specs.contracts.put_image_refused as put_image_refused'
 use Rattle.hex_out.proofs.put_why
+use Rattle.hex_out.specs.contracts.put_why as put_why'
 use Rattle.hex_out.proofs.put_export
+use Rattle.hex_out.specs.contracts.put_export as put_export'
 use Rattle.hex_out.proofs.exported
+use Rattle.hex_out.specs.contracts.exported as exported'
 
-pub put_refusal_once : Once put_refusal.ended put_refusal.Reads.Pre put_refusal.Reads.Learnt
+pub put_refusal_once : Once put_refusal'.ended put_refusal.Reads.Pre put_refusal.Reads.Learnt
 put_refusal_once κs a r r' w w' p h h' = (h.onward ∙ sym h'.onward, λ i. (tt, ((h.written ∙ sym h'.written) i, (tt, tt))))
 
-pub put_side_once : Once put_side.ended put_side.Reads.Pre put_side.Reads.Learnt
+pub put_side_once : Once put_side'.ended put_side.Reads.Pre put_side.Reads.Learnt
 put_side_once κs a r r' w w' p h h' = (same_said h h', λ i. (tt, (tt, (tt, (same_room h h' i, tt)))))
 
-pub put_image_refused_once : Once put_image_refused.ended put_image_refused.Reads.Pre put_image_refused.Reads.Learnt
+pub put_image_refused_once : Once put_image_refused'.ended put_image_refused.Reads.Pre put_image_refused.Reads.Learnt
 put_image_refused_once κs a r r' w w' p h h' = (same_said h h', λ i. (tt, (tt, (tt, (same_room h h' i, tt)))))
 
-pub put_why_once : Once put_why.ended put_why.Reads.Pre put_why.Reads.Learnt
+pub put_why_once : Once put_why'.ended put_why.Reads.Pre put_why.Reads.Learnt
 put_why_once κs a r r' w w' p h h' = (same_said h h', λ i. (tt, (tt, (tt, (same_room h h' i, tt)))))
 
-pub put_export_once : Once put_export.ended put_export.Reads.Pre put_export.Reads.Learnt
+pub put_export_once : Once put_export'.ended put_export.Reads.Pre put_export.Reads.Learnt
 put_export_once κs a r r' w w' p h h' = (same_said h h', λ i. (tt, (tt, (tt, (same_room h h' i, tt)))))
 
-pub exported_once : Once exported.ended exported.Reads.Pre exported.Reads.Learnt
+pub exported_once : Once exported'.ended exported.Reads.Pre exported.Reads.Learnt
 exported_once κs a r r' w w' p h h' =
     let one = own a.0.now a.1.0.count in
     let other = own a.1.1.0.now a.1.1.1.0.count in

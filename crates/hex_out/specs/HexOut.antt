@@ -7,11 +7,11 @@ use Rattle.streams.specs.Streams.{Speech, output, error, refused_text}
 use Rattle.record.specs.Image.{image_block}
 use Rattle.record.specs.Record.{taken_number, judged_of}
 use Rattle.text.specs.Text.{image_meaning}
-use Rattle.hex.specs.declared.HexRefusal.{HexRefusal}
-use Rattle.hex.specs.declared.HexRefusal.TheVariants.{Line, Whole, Image, Room}
-use Rattle.hex.specs.declared.Answer.{Answer}
-use Rattle.hex.specs.declared.Answer.TheVariants.{Done, Refused}
-use Rattle.hex.specs.Export.{hex_refusal_number, export_label, export_text, export_size, export_answer}
+use Rattle.intel_hex.specs.declared.HexRefusal.{HexRefusal}
+use Rattle.intel_hex.specs.declared.HexRefusal.TheVariants.{Line, Whole, Image, Room}
+use Rattle.intel_hex.specs.declared.Answer.{Answer}
+use Rattle.intel_hex.specs.declared.Answer.TheVariants.{Done, Refused}
+use Rattle.intel_hex.specs.Export.{hex_refusal_number, export_label, export_text, export_size, export_answer}
 
 -- ---- what the refusals mean
 

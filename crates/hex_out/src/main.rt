@@ -1,12 +1,14 @@
 // hex_out PACK FACTORY: writes the label and block 1 of a pack as Intel HEX, the label of the factory's image where the pack's block 0 is not locked
+#![tactic(auto)]
+
 ghost use Rattle.std.specs.Prelude.{◌≡◌, List, ℕ, ◌+◌, ◌≤◌, length};
 ghost use Rattle.numbers.specs.Choice.{either};
 ghost use Rattle.streams.specs.Streams.{Front, Saying, error, refused_text};
 ghost use Rattle.digits.specs.Digits.{Writing};
-ghost use Rattle.hex.specs.Export.{hex_refusal_number};
+ghost use Rattle.intel_hex.specs.Export.{hex_refusal_number};
 ghost use Rattle.hex_out.specs.HexOut.{refused_as_text, side_words, refused_side_words, hex_out_refusal_words, hex_out_of};
 
-use hex::{Answer, HexRefusal};
+use intel_hex::{Answer, HexRefusal};
 use streams::{Input, Said, Stream};
 
 // What a record of an image would be refused with.
@@ -58,7 +60,7 @@ fn put_why(why: HexRefusal, pack: &[u8], factory: &[u8], room: &mut [u8]) -> Sai
     ensures { Saying (error (refused_text (hex_refusal_number why) (hex_out_refusal_words why pack.now factory.now)))
         room.old result room.new }
 {
-    let number = hex::answer_number(Answer::Refused(why));
+    let number = intel_hex::answer_number(Answer::Refused(why));
     match why {
         HexRefusal::Line(_) => streams::put_refused(number, b"the text is refused", room),
         HexRefusal::Whole => streams::put_refused(number, b"the text is refused", room),
@@ -83,7 +85,7 @@ fn put_export<'a>(unread: bool, pack: &'a [u8], factory: &'a [u8], room: &mut [u
             count: 0,
         };
     }
-    let answer = hex::write_text(pack, factory, room);
+    let answer = intel_hex::write_text(pack, factory, room);
     match answer {
         Answer::Done => {
             let count = room.len();
@@ -117,12 +119,12 @@ fn exported<'a>(
     put_export(unread, &all[..n], &bytes[..m], room)
 }
 
-fn main() {
+fn main(rt: HostRuntime) {
     let mut pack = [0u8; 61];
-    let one = streams::read_named(b"hex_out", 1, &mut pack);
+    let one = streams::read_named(&rt, b"hex_out", 1, &mut pack);
     let mut factory = [0u8; 61];
-    let other = streams::read_named(b"hex_out", 2, &mut factory);
+    let other = streams::read_named(&rt, b"hex_out", 2, &mut factory);
     let mut room = [0u8; 144];
     let said = exported(&pack, one, &factory, other, &mut room);
-    streams::say(b"hex_out", said, &room);
+    streams::say(&rt, b"hex_out", said, &room);
 }

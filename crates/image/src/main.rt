@@ -1,5 +1,7 @@
 // image: runs the session on standard input and writes the pack image taken out at its end
 // An image has what outlives a loss of power: a session that goes on from it goes on behind a power-on, and what a power-on loses is not in it.
+#![tactic(auto)]
+
 ghost use Rattle.std.specs.Prelude.{◌≡◌, List, ℕ, length, take};
 ghost use Rattle.streams.specs.Streams.{Front, Saying};
 ghost use Rattle.text.specs.Text.{first_coded};
@@ -55,10 +57,10 @@ fn extracted(input: &[u8; 32769], got: Input, room: &mut [u8; 160]) -> Said
     put_taken(&all[..n], room)
 }
 
-fn main() {
+fn main(rt: HostRuntime) {
     let mut input = [0u8; 32769];
-    let got = streams::read_input(&mut input);
+    let got = streams::read_input(&rt, &mut input);
     let mut room = [0u8; 160];
     let said = extracted(&input, got, &mut room);
-    streams::say(b"image", said, &room);
+    streams::say(&rt, b"image", said, &room);
 }

@@ -1,4 +1,6 @@
 // Where the two blocks stand, and block 0, the label: what a write, a copy, a recall, a lock and a power-on do to it.
+#![tactic(auto)]
+
 ghost use Rattle.std.specs.Prelude.{◌≡◌, ◌<◌};
 ghost use Rattle.label.specs.Label.{in_label, in_block, label_written_of, label_copied_of, label_powered_of, label_recalled_of, common_locked_of};
 

@@ -1,10 +1,12 @@
 // The gauge for programs in C: include/trovimbe.h declares these functions. Each slice is a pointer and a length there.
+#![tactic(auto)]
+
 ghost use Rattle.std.specs.Prelude.{◌≡◌};
 ghost use Rattle.library.specs.Library.{kept_pack, kept_tray, Started, RecordDone, PackImage, SlotImage};
 
 // What a call says: its answer, and how many bytes stand at the front of the room that was lent for them.
 #[repr(C)]
-#[derive(Drop)]
+#[derive(Clone, Copy)]
 pub struct LibraryResult {
     pub answer: u8,
     pub count: usize,

@@ -28,6 +28,7 @@ use Rattle.live.specs.Live.{held_of}
 use Rattle.live.specs.Theorems.{resumed_from, CutByBytes, LiveTheorems}
 use Rattle.live.specs.Theorems.{LiveTurn, TurnDone, TurnsDone, handed_on, turns_records, kept_from, CutByTurns}
 use Rattle.live.proofs.answered
+use Rattle.live.specs.contracts.answered as answered'
 
 idle : (σ : Session) (room : ℕ) → did_of σ room cut ≡ silently σ 2
 unfolding did_of
@@ -108,8 +109,8 @@ by_turns = record {
 }
 
 -- what is learnt of any call of `answered` is that its turn is done
-pub answered_turn : (κs : Lfts (answered.ended).signature.lifetimes) (a : Args (answered.ended).signature κs) (r : Res (answered.ended).signature κs)
-    (w : Lasts answered.ended κs a) → answered.Reads.Learnt κs a r (at_exit answered.ended κs a w)
+pub answered_turn : (κs : Lfts (answered'.ended).signature.lifetimes) (a : Args (answered'.ended).signature κs) (r : Res (answered'.ended).signature κs)
+    (w : Lasts answered'.ended κs a) → answered.Reads.Learnt κs a r (at_exit answered'.ended κs a w)
     → TurnDone a.0 (record {
       first = a.1.0;
       bytes = a.1.1.0.now;

@@ -3,15 +3,23 @@ use mathlib.Core.Path.{refl, sym, ◌∙◌}
 use Rattle.numbers.specs.Once.{Once}
 use Rattle.streams.proofs.Laws.{same_said, same_room}
 use Rattle.live.proofs.answered
+use Rattle.live.specs.contracts.answered as answered'
 use Rattle.live.proofs.ended
+use Rattle.live.specs.contracts.ended as ended'
 use Rattle.live.proofs.held
+use Rattle.live.specs.contracts.held as held'
 use Rattle.live.proofs.put_start
+use Rattle.live.specs.contracts.put_start as put_start'
 use Rattle.live.proofs.put_image
+use Rattle.live.specs.contracts.put_image as put_image'
 use Rattle.live.proofs.keep_both
+use Rattle.live.specs.contracts.keep_both as keep_both'
 use Rattle.live.proofs.keep
+use Rattle.live.specs.contracts.keep as keep'
 use Rattle.live.proofs.begin
+use Rattle.live.specs.contracts.begin as begin'
 
-pub answered_once : Once answered.ended answered.Reads.Pre answered.Reads.Learnt
+pub answered_once : Once answered'.ended answered.Reads.Pre answered.Reads.Learnt
 answered_once κs a r r' w w' p h h' =
     let x = h.0 in
     let y = h'.0 in (
@@ -25,23 +33,23 @@ answered_once κs a r r' w w' p h h' =
           (tt, (tt, (tt, ((x.replies ∙ sym y.replies) i, ((x.answered ∙ sym y.answered) i, (same_room x.saying y.saying i, tt)))))),
     )
 
-pub ended_once : Once ended.ended ended.Reads.Pre ended.Reads.Learnt
+pub ended_once : Once ended'.ended ended.Reads.Pre ended.Reads.Learnt
 ended_once κs a r r' w w' p h h' = (same_said h h', λ i. (tt, (tt, (tt, (tt, (same_room h h' i, tt))))))
 
-pub held_once : Once held.ended held.Reads.Pre held.Reads.Learnt
+pub held_once : Once held'.ended held.Reads.Pre held.Reads.Learnt
 held_once κs a r r' w w' p h h' = (h.0 ∙ sym h'.0, refl)
 
-pub put_start_once : Once put_start.ended put_start.Reads.Pre put_start.Reads.Learnt
+pub put_start_once : Once put_start'.ended put_start.Reads.Pre put_start.Reads.Learnt
 put_start_once κs a r r' w w' p h h' = (same_said h h', λ i. (tt, (same_room h h' i, tt)))
 
-pub put_image_once : Once put_image.ended put_image.Reads.Pre put_image.Reads.Learnt
+pub put_image_once : Once put_image'.ended put_image.Reads.Pre put_image.Reads.Learnt
 put_image_once κs a r r' w w' p h h' = (same_said h h', λ i. (tt, (same_room h h' i, tt)))
 
-pub keep_both_once : Once keep_both.ended keep_both.Reads.Pre keep_both.Reads.Learnt
+pub keep_both_once : Once keep_both'.ended keep_both.Reads.Pre keep_both.Reads.Learnt
 keep_both_once κs a r r' w w' p h h' = (refl, refl)
 
-pub keep_once : Once keep.ended keep.Reads.Pre keep.Reads.Learnt
+pub keep_once : Once keep'.ended keep.Reads.Pre keep.Reads.Learnt
 keep_once κs a r r' w w' p h h' = (refl, refl)
 
-pub begin_once : Once begin.ended begin.Reads.Pre begin.Reads.Learnt
+pub begin_once : Once begin'.ended begin.Reads.Pre begin.Reads.Learnt
 begin_once κs a r r' w w' p h h' = (refl, refl)

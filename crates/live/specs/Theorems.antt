@@ -27,7 +27,8 @@ pub record CutByBytes : Type 0 where
   -- so what is resumed from them has the answers and replies of one run, and ends in its state
   pub lines : (σ : Session) (rs ts : List Rec) → StateWf σ → SessionWf (live_end did_of σ rs) →
       live_lines did_of σ (rs ++ ts) ≡ live_lines did_of σ rs ++ live_lines did_of (resumed_from σ rs) ts
-  pub end : (σ : Session) (rs ts : List Rec) → StateWf σ → SessionWf (live_end did_of σ rs) → live_end did_of σ (rs ++ ts) ≡ live_end did_of (resumed_from σ rs) ts
+  pub end : (σ : Session) (rs ts : List Rec) → StateWf σ → SessionWf (live_end did_of σ rs) → live_end did_of σ (rs ++ ts) ≡
+      live_end did_of (resumed_from σ rs) ts
 
 -- ---- And so the cut after any turns of the program needs no such premise: what its turns hand on is well-formed by their contract.
 

@@ -1,5 +1,7 @@
 // live: answers records on standard input as they come
 // resume STATE: the same, from the state in the file STATE, which then has the state behind the last record
+#![tactic(auto)]
+
 ghost use Rattle.std.specs.Prelude.{◌≡◌, ◌+◌, ◌≤◌, ◌<◌, length};
 ghost use Rattle.streams.specs.Streams.{Saying};
 ghost use Rattle.text.specs.Live.{Turning};
@@ -11,7 +13,7 @@ use state_bytes::StateIn;
 use streams::{Said, Stream};
 
 // What a turn did: the state after it, how many records it answered, how many bytes they were, and what is said.
-#[derive(Drop)]
+#[derive(Clone, Copy)]
 struct Turned {
     session: Session,
     lines: usize,
@@ -131,20 +133,21 @@ fn put_image(session: Session, room: &mut [u8]) -> Said
 }
 
 // Writes the image to the second file, and then the state to the first.
-fn keep_both(session: Session, state: &[u8]) {
+fn keep_both(rt: &HostRuntime, session: Session, state: &[u8]) {
     let mut room = [0u8; 160];
     let said = put_image(session, &mut room);
     let stream = said.stream;
     let count = streams::within(said.count, &room);
     match stream {
         Stream::Output => {
-            if streams::write_named(b"resume", 2, &room[..count]) {
-                streams::write_named(b"resume", 1, state);
+            if streams::write_named(rt, b"resume", 2, &room[..count]) {
+                streams::write_named(rt, b"resume", 1, state);
             }
         }
         Stream::Error => {
             let error = Stream::Error;
             streams::say(
+                rt,
                 b"resume",
                 Said {
                     stream: error,
@@ -157,21 +160,22 @@ fn keep_both(session: Session, state: &[u8]) {
 }
 
 // Where the call has words, the state goes to the file that the first names, and the image before it to that of the second.
-fn keep(words: usize, session: Session) {
+fn keep(rt: &HostRuntime, words: usize, session: Session) {
     if words < 2 {
         return;
     }
     let mut state = [0u8; 172];
     state_bytes::state_out(session, &mut state);
     if 2 < words {
-        keep_both(session, &state);
+        keep_both(rt, session, &state);
         return;
     }
-    streams::write_named(b"resume", 1, &state);
+    streams::write_named(rt, b"resume", 1, &state);
 }
 
 // Reads, answers and writes, turn by turn, up to the end of the input. No run comes to 2^52 turns.
 fn serve(
+    rt: &HostRuntime,
     program: &[u8],
     words: usize,
     start: Session,
@@ -191,11 +195,11 @@ fn serve(
     let mut turn = 0usize;
     while turn < 4503599627370496 {
         let most = slices::lesser(4096, bytes.len() - count);
-        let got = streams::read_some(bytes, count, most);
+        let got = streams::read_some(rt, bytes, count, most);
         if got.count == 0 {
             let last = ended(program, number, count, got.failed, out);
-            if streams::say_all(program, last, out) {
-                keep(words, session);
+            if streams::say_all(rt, program, last, out) {
+                keep(rt, words, session);
             }
             return;
         }
@@ -203,7 +207,7 @@ fn serve(
         let turned = answered(session, number, &bytes[..end], replies, answers, out);
         let said = turned.said;
         session = turned.session;
-        if !streams::say_all(program, said, out) {
+        if !streams::say_all(rt, program, said, out) {
             return;
         }
         count = streams::keep_rest(bytes, turned.used, end);
@@ -212,20 +216,28 @@ fn serve(
     }
 }
 
+// The room for the text of a turn. (That it has this size is said for the caller.)
+fn text_room() -> [u8; 557056]
+    ensures { 557056 ≡ length result }
+{
+    [0u8; 557056]
+}
+
 // A read takes at most 4,096 bytes, which complete at most 1,024 records, of 256 bytes of reply and 32 bytes of a line and two for each byte of its reply.
 // A record that is cut leaves at most 65,538 bytes.
-fn begin(program: &[u8], words: usize, kept: &[u8])
+fn begin(rt: &HostRuntime, program: &[u8], words: usize, kept: &[u8])
     requires { length program.now ≤ 8 }
 {
     let start = held(kept);
-    let mut out = [0u8; 557056];
+    let mut out = text_room();
     let head = put_start(start.number, &mut out);
     let session = start.session;
-    if streams::say_all(program, head, &out) {
+    if streams::say_all(rt, program, head, &out) {
         let mut bytes = [0u8; 69635];
         let mut replies = [0u8; 262144];
         let mut answers = [0u64; 1024];
         serve(
+            rt,
             program,
             words,
             session,
@@ -237,17 +249,17 @@ fn begin(program: &[u8], words: usize, kept: &[u8])
     }
 }
 
-fn main() {
-    let words = os::arg_count();
+fn main(rt: HostRuntime) {
+    let words = streams::word_count(&rt);
     if words < 2 {
-        begin(b"live", words, b"");
+        begin(&rt, b"live", words, b"");
         return;
     }
     let mut kept = [0u8; 173];
-    let was = streams::read_kept(b"resume", 1, &mut kept);
+    let was = streams::read_kept(&rt, b"resume", 1, &mut kept);
     if was.failed {
         return;
     }
     let n = streams::within(was.count, &kept);
-    begin(b"resume", words, &kept[..n]);
+    begin(&rt, b"resume", words, &kept[..n]);
 }

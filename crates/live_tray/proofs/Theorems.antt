@@ -25,6 +25,7 @@ use Rattle.live_tray.specs.LiveTray.{tray_held_of}
 use Rattle.live_tray.specs.Theorems.{tray_resumed_from, TrayCutByBytes, LiveTrayTheorems}
 use Rattle.live_tray.specs.Theorems.{TrayTurn, TrayTurnDone, TrayTurnsDone, tray_handed_on, tray_turns_records, tray_kept_from, TrayCutByTurns}
 use Rattle.live_tray.proofs.answered
+use Rattle.live_tray.specs.contracts.answered as answered'
 
 idle : (σ : Tray) (room : ℕ) → tray_did σ room cut ≡ silently σ 2
 unfolding tray_did
@@ -105,8 +106,8 @@ by_turns = record {
 }
 
 -- what is learnt of any call of `answered` is that its turn is done
-pub answered_turn : (κs : Lfts (answered.ended).signature.lifetimes) (a : Args (answered.ended).signature κs) (r : Res (answered.ended).signature κs)
-    (w : Lasts answered.ended κs a) → answered.Reads.Learnt κs a r (at_exit answered.ended κs a w)
+pub answered_turn : (κs : Lfts (answered'.ended).signature.lifetimes) (a : Args (answered'.ended).signature κs) (r : Res (answered'.ended).signature κs)
+    (w : Lasts answered'.ended κs a) → answered.Reads.Learnt κs a r (at_exit answered'.ended κs a w)
     → TrayTurnDone a.0 (record {
       first = a.1.0;
       bytes = a.1.1.0.now;

@@ -3,25 +3,30 @@ use mathlib.Core.Path.{refl, sym, ◌∙◌}
 use Rattle.numbers.specs.Once.{Once}
 use Rattle.streams.proofs.Laws.{own, same_said, same_room}
 use Rattle.mend.proofs.put_why
+use Rattle.mend.specs.contracts.put_why as put_why'
 use Rattle.mend.proofs.put_lines
+use Rattle.mend.specs.contracts.put_lines as put_lines'
 use Rattle.mend.proofs.put_mended
+use Rattle.mend.specs.contracts.put_mended as put_mended'
 use Rattle.mend.proofs.sized
+use Rattle.mend.specs.contracts.sized as sized'
 use Rattle.mend.proofs.repaired
+use Rattle.mend.specs.contracts.repaired as repaired'
 
-pub put_why_once : Once put_why.ended put_why.Reads.Pre put_why.Reads.Learnt
+pub put_why_once : Once put_why'.ended put_why.Reads.Pre put_why.Reads.Learnt
 put_why_once κs a r r' w w' p h h' = (same_said h h', λ i. (tt, (same_room h h' i, tt)))
 
-pub put_lines_once : Once put_lines.ended put_lines.Reads.Pre put_lines.Reads.Learnt
+pub put_lines_once : Once put_lines'.ended put_lines.Reads.Pre put_lines.Reads.Learnt
 put_lines_once κs a r r' w w' p h h' = (same_said h h', λ i. (tt, (same_room h h' i, tt)))
 
-pub put_mended_once : Once put_mended.ended put_mended.Reads.Pre put_mended.Reads.Learnt
+pub put_mended_once : Once put_mended'.ended put_mended.Reads.Pre put_mended.Reads.Learnt
 put_mended_once κs a r r' w w' p h h' =
     (same_said h.saying h'.saying, λ i. (tt, (tt, ((h.filed ∙ sym h'.filed) i, (same_room h.saying h'.saying i, tt)))))
 
-pub sized_once : Once sized.ended sized.Reads.Pre sized.Reads.Learnt
+pub sized_once : Once sized'.ended sized.Reads.Pre sized.Reads.Learnt
 sized_once κs a r r' w w' p h h' = (refl, refl)
 
-pub repaired_once : Once repaired.ended repaired.Reads.Pre repaired.Reads.Learnt
+pub repaired_once : Once repaired'.ended repaired.Reads.Pre repaired.Reads.Learnt
 repaired_once κs a r r' w w' p h h' =
     let front = own a.0.now a.1.0.count in
     let x = h.0 _ front in

@@ -1,4 +1,6 @@
 // mend OUT: writes the pack image on standard input to the file OUT with its damage mended, and prints a line for each byte that is changed
+#![tactic(auto)]
+
 ghost use Rattle.std.specs.Prelude.{◌≡◌, List, ℕ, length};
 ghost use Rattle.streams.specs.Streams.{Front, Saying, error, refused_text};
 ghost use Rattle.mending.specs.Mending.{mend_refusal_number};
@@ -72,11 +74,11 @@ fn repaired(input: &[u8; 61], got: Input, file: &mut [u8; 60], text: &mut [u8; 5
     put_mended(got.failed, &all[..n], file, text)
 }
 
-fn main() {
+fn main(rt: HostRuntime) {
     let mut input = [0u8; 61];
-    let got = streams::read_input(&mut input);
+    let got = streams::read_input(&rt, &mut input);
     let mut file = [0u8; 60];
     let mut text = [0u8; 540];
     let said = repaired(&input, got, &mut file, &mut text);
-    streams::say_with_file(b"mend", said, &text, 1, &file);
+    streams::say_with_file(&rt, b"mend", said, &text, 1, &file);
 }

@@ -1,4 +1,6 @@
 // Mending damaged images: the image that a session accepts, and the lines that tell what was changed.
+#![tactic(auto)]
+
 ghost use Rattle.std.specs.Prelude.{◌≡◌, ◌++◌, ◌+◌, ◌≤◌, min, max, length, drop};
 ghost use Rattle.numbers.specs.Offset.{moved_into};
 ghost use Rattle.digits.specs.Digits.{lower, pairs_of, Writing};
@@ -9,20 +11,20 @@ use params::Breaks;
 use record::{AGING_AT, BLOCK_AT, IMAGE_SIZE, LOCKS_AT};
 
 // What keeps an image from being mended: its size or that of the room, or its family code.
-#[derive(Drop)]
+#[derive(Clone, Copy)]
 pub enum MendRefusal {
     Size,
     Family,
 }
 
-#[derive(Drop)]
+#[derive(Clone, Copy)]
 pub enum Mended {
     Done,
     Refused(MendRefusal),
 }
 
 // The lines, so many bytes, or why there are none.
-#[derive(Drop)]
+#[derive(Clone, Copy)]
 pub enum Listed {
     Lines(usize),
     Refused(MendRefusal),

@@ -1,4 +1,6 @@
 // Small helpers that never trap, each with an exact contract. None has a `requires`.
+#![tactic(auto)]
+
 ghost use Rattle.std.specs.Prelude.{◌≡◌, ◌-◌, ◌/◌, min, max};
 ghost use Rattle.numbers.specs.Choice.{pick, both, either, but_not};
 ghost use Rattle.numbers.specs.Offset.{moved_into, offset8_of, offset32_of, joined_of};

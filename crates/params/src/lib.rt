@@ -1,9 +1,11 @@
 // The parameters, out of the shadow bytes of block 1.
+#![tactic(auto)]
+
 ghost use Rattle.std.specs.Prelude.{◌≡◌, ◌+◌, ◌≤◌};
 ghost use Rattle.params.specs.Params.{rnaop_of, counting_of, limits_of, capacity_of, breaks_of, curves_of, slopes_of};
 
 // NBEN, AB, AC and COB.
-#[derive(Drop)]
+#[derive(Clone, Copy)]
 pub struct Counting {
     pub nben: bool,
     pub ab: u8,
@@ -11,7 +13,7 @@ pub struct Counting {
     pub cob: u8,
 }
 
-#[derive(Drop)]
+#[derive(Clone, Copy)]
 pub struct Limits {
     pub vchg: u8,
     pub imin: u8,
@@ -19,14 +21,14 @@ pub struct Limits {
     pub iae: u8,
 }
 
-#[derive(Drop)]
+#[derive(Clone, Copy)]
 pub struct Capacity {
     pub rsnsp: u8,
     pub full40: u16,
 }
 
 // TBP34, TBP23 and TBP12.
-#[derive(Drop)]
+#[derive(Clone, Copy)]
 pub struct Breaks {
     pub b34: u8,
     pub b23: u8,
@@ -34,7 +36,7 @@ pub struct Breaks {
 }
 
 // The slopes of a line, by segment. (As four bytes they would be passed as one number, out of which each is shifted.)
-#[derive(Drop)]
+#[derive(Clone, Copy)]
 pub struct Slopes {
     pub s4: u32,
     pub s3: u32,
@@ -43,7 +45,7 @@ pub struct Slopes {
 }
 
 // The breakpoints, byte 68h, and the slopes of the three lines.
-#[derive(Drop)]
+#[derive(Clone, Copy)]
 pub struct Curves {
     pub breaks: Breaks,
     pub start: u8,

@@ -66,7 +66,8 @@ pub long_wanted : (image wanted : List ℕ) → 32 < length wanted → preset_sp
 unfolding preset_speech preset_answer
 long_wanted image wanted long = by (judged_of image)
   where
-    by : (t : Taken) → preset_by (preset_answer_by t image wanted programming_size) image wanted ≡ preset_by (preset_answer_by t image [] programming_size) image []
+    by : (t : Taken) → preset_by (preset_answer_by t image wanted programming_size) image wanted ≡
+        preset_by (preset_answer_by t image [] programming_size) image []
     by (taken.Run e) = rw (ne_eqb (length wanted) 32 (λ e. omega arith)) refl
     by (taken.Refused r) = refl
 

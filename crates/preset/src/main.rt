@@ -1,4 +1,6 @@
 // preset IMAGE PARAMETERS: writes the session that sets block 1 of the pack image in one file to the 32 bytes in the other
+#![tactic(auto)]
+
 ghost use Rattle.std.specs.Prelude.{◌≡◌, List, ℕ, length};
 ghost use Rattle.numbers.specs.Choice.{either};
 ghost use Rattle.streams.specs.Streams.{Front, Saying, error, refused_text};
@@ -107,12 +109,12 @@ fn programmed(
     put_preset(unread, &all[..n], &bytes[..m], room)
 }
 
-fn main() {
+fn main(rt: HostRuntime) {
     let mut image = [0u8; 61];
-    let one = streams::read_named(b"preset", 1, &mut image);
+    let one = streams::read_named(&rt, b"preset", 1, &mut image);
     let mut wanted = [0u8; 33];
-    let other = streams::read_named(b"preset", 2, &mut wanted);
+    let other = streams::read_named(&rt, b"preset", 2, &mut wanted);
     let mut room = [0u8; 120];
     let said = programmed(&image, one, &wanted, other, &mut room);
-    streams::say(b"preset", said, &room);
+    streams::say(&rt, b"preset", said, &room);
 }

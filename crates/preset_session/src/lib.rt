@@ -1,4 +1,6 @@
 // Programming packs at the bench: from an image and 32 wanted bytes, the session that sets block 1 to them.
+#![tactic(auto)]
+
 ghost use Rattle.std.specs.Prelude.{◌≡◌, ◌++◌, ◌≤◌, length, drop};
 ghost use Rattle.preset_session.specs.PresetSession.{write_payload, programming_of, programming_size, written_number};
 ghost use Rattle.preset_session.specs.PresetSession.{accepted_answer, preset_answer, Programming};
@@ -7,7 +9,7 @@ use record::{Refusal, Taken};
 
 // What keeps a session from being written: the image, for what a record of it would be refused; the length of the parameters; block 1, which is
 // locked; or the room.
-#[derive(Drop)]
+#[derive(Clone, Copy)]
 pub enum PresetRefusal {
     Image(Refusal),
     Parameters,
@@ -15,7 +17,7 @@ pub enum PresetRefusal {
     Room,
 }
 
-#[derive(Drop)]
+#[derive(Clone, Copy)]
 pub enum Written {
     Done,
     Refused(PresetRefusal),

@@ -14,8 +14,10 @@ hold_both [] second one other = other
 hold_both (f ∷ more) second one other = (one.0, hold_both more second one.1 other)
 
 pub figures_hold : Hold figures
-unfolding powered_of counted_of cycled_of averaged_of renewed_of found_of learnt_of aged_full_of share_of share_up_of filled_of settled_of flowed_of convert_of slopes_over
-    model_lines draining_of point_of emptied_of left_of usable_of percent_of amount_of results_of rated_of flagged_of kept_of lowered_of seen_of drained_of results_shown read_of
+unfolding powered_of counted_of cycled_of averaged_of renewed_of found_of learnt_of aged_full_of share_of share_up_of filled_of settled_of flowed_of
+    convert_of slopes_over
+    model_lines draining_of point_of emptied_of left_of usable_of percent_of amount_of results_of rated_of flagged_of kept_of lowered_of seen_of drained_of
+    results_shown read_of
 figures_hold =
     hold_both paper_figures (cycle_figures ++ large_figures)
     (refl, (refl, (refl, (refl, (refl, (refl, (refl, (refl, (refl, (refl, (refl, (refl, (refl, (refl, (refl, (refl, (refl, tt)))))))))))))))))

@@ -13,8 +13,10 @@ use Rattle.numbers.proofs.Offset as offset
 use Rattle.numbers.proofs.Offset.{order, sub_pos, sub_neg, sub_eq, sub_add, sub_none, neg_sub, at_most}
 use Rattle.params.specs.declared.Breaks.{Breaks}
 use Rattle.params.specs.declared.Slopes.{Slopes}
-use Rattle.reading.specs.Reading.{slope_of, forty, slopes_over, slopes_to, full_line_of, volt_of, temp_of, degrees_of, drains_of, left_of, usable_of, percent_of}
-use Rattle.reading.specs.Reading.{amount_of, volt_z, temp_z, degrees_z, slope_z, slopes_over_z, slopes_z, full_line_z, drains_z, left_z, usable_z, percent_z, amount_z}
+use Rattle.reading.specs.Reading.{slope_of, forty, slopes_over, slopes_to, full_line_of, volt_of, temp_of, degrees_of, drains_of, left_of, usable_of}
+use Rattle.reading.specs.Reading.{percent_of}
+use Rattle.reading.specs.Reading.{amount_of, volt_z, temp_z, degrees_z, slope_z, slopes_over_z, slopes_z, full_line_z, drains_z, left_z, usable_z, percent_z}
+use Rattle.reading.specs.Reading.{amount_z}
 use Rattle.reading.specs.Meaning.{ReadingMeans}
 use Rattle.conversion.proofs.Meaning.{less, less_pos, stops}
 

@@ -152,7 +152,8 @@ hundred mark = record { count = 100 * 4096; age = 0; aging = 128; learnf = false
 -- is the first after an ACR write
 abbrev cycled_by : Bool → Profile → ℕ → Cycles → List ℕ
 cycled_by mark f full40 y =
-    let m = convert_of (with_charge (with_cycles (powered_by f (with_byte (with_byte M 0x6a 0) 0x6b full40) 100 128) y) (hundred mark)) (minus_count (8 * 4096)) in
+    let m = convert_of (with_charge (with_cycles (powered_by f (with_byte (with_byte M 0x6a 0) 0x6b full40) 100 128) y) (hundred mark))
+    (minus_count (8 * 4096)) in
     m.cycles.count ∷ m.cycles.rest ∷ []
 
 abbrev cycled : Profile → ℕ → Cycles → List ℕ
@@ -218,7 +219,8 @@ paper_figures =
     (map degrees_at (minus_count 1 ∷ plus_count 319 ∷ plus_count 320 ∷ []) is zero_at 7 ∷ (zero_at 7 + 40) ∷ (zero_at 7 + 40) ∷ []) ∷
     (map full_at (minus_count 1 ∷ plus_count 319 ∷ plus_count 320 ∷ []) is 15804 ∷ 16384 ∷ 16384 ∷ []) ∷
     -- W6.2. Count 4 is 1 °C, 3 and -4 are 0, -5 is -1, 31 is 4; the ends are -128 and 128
-    (map degrees_at (plus_count 4 ∷ plus_count 3 ∷ minus_count 4 ∷ minus_count 5 ∷ plus_count 31 ∷ []) is (zero_at 7 + 1) ∷ zero_at 7 ∷ zero_at 7 ∷ (zero_at 7 - 1)
+    (map degrees_at (plus_count 4 ∷ plus_count 3 ∷ minus_count 4 ∷ minus_count 5 ∷ plus_count 31 ∷ []) is (zero_at 7 + 1) ∷ zero_at 7 ∷ zero_at 7 ∷
+    (zero_at 7 - 1)
     ∷ (zero_at 7 + 4) ∷ []) ∷
     (map degrees_at (minus_count 1024 ∷ plus_count 1023 ∷ []) is (zero_at 7 - 128) ∷ (zero_at 7 + 128) ∷ []) ∷
     -- F11. M, 40 °C, ACR 5,000: RARC 49, RSRC 50, RAAC 968, RSAC 976

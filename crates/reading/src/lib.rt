@@ -1,4 +1,6 @@
 // A reading, in the six steps of document 01: the model, the empty point, the results, the flags and the saved cells.
+#![tactic(auto)]
+
 ghost use Rattle.std.specs.Prelude.{◌≡◌, ◌≤◌, ◌*◌, ◌^◌, ◌<◌};
 ghost use Rattle.state.specs.State.{ChargeWf, MeterWf};
 ghost use Rattle.reading.specs.Reading.{lowered_of, SeenWf, drained_of, results_shown, read_of, full_line_of, empty_line_of};
@@ -11,7 +13,7 @@ use params::{Breaks, Capacity, Curves, Limits, Slopes};
 use state::{Charge, Flags, Meter, Model, Reading, Results, Saved, Shown, Since, Trace};
 
 // What a reading sees: steps 1 and 2, and whether VOLT ≥ 4 × VAE.
-#[derive(Drop)]
+#[derive(Clone, Copy)]
 pub struct Seen {
     pub volt: u16,
     pub temp: u16,
@@ -34,7 +36,7 @@ fn temp(raw: u32) -> u16
 }
 
 // How many of the degrees from t up to 39 each segment has.
-#[derive(Drop)]
+#[derive(Clone, Copy)]
 struct Degrees {
     s4: u8,
     s3: u8,

@@ -100,7 +100,10 @@ module _ (again loaded : Bool) (p : List ℕ) where
 
   transaction_taking : (f : Form) → head_of f ≤ length p → loaded ≡ true → Taking again loaded p (transaction_of f p)
   transaction_taking f h l =
-      picked (Taking again loaded p) (leb (read_count f p) (limit_of f)) _ _ (λ few. (l, mastered f h (leb-true (read_count f p) (limit_of f) few))) (λ many. tt)
+      picked (Taking again loaded p) (leb (read_count f p) (limit_of f)) _ _ (λ few. (
+        l,
+        mastered f h (leb-true (read_count f p) (limit_of f) few),
+      )) (λ many. tt)
 
   event_taking : (k : Kind) → sized_of k (length p) ≡ true → due_of k loaded ≡ true → Taking again loaded p (event_of again k p)
   event_taking (kind.Image f) sized due =

@@ -1,4 +1,6 @@
 // What a record asks: the event of a kind and a payload, or the first refusal that applies, and its number.
+#![tactic(auto)]
+
 ghost use Rattle.std.specs.Prelude.{false, ◌≡◌, ◌≤◌, length};
 ghost use Rattle.record.specs.Record.{taken_number, kind_of, head_of, limit_of, read_count, addressed_of, ordered_of};
 ghost use Rattle.record.specs.Record.{judged_among, judged_of, taken_by, taken_of, timed_of, fitted_of};
@@ -25,14 +27,14 @@ pub const LOCKS_AT: usize = 59;
 pub const CYCLES_AT: usize = 60;
 
 // The two forms of a transaction: a read count of one byte, or of two bytes and with longer limits.
-#[derive(Drop)]
+#[derive(Clone, Copy)]
 pub enum Form {
     Short,
     Long,
 }
 
 // The kinds of a record.
-#[derive(Drop)]
+#[derive(Clone, Copy)]
 pub enum Kind {
     Image(Profile),
     Reading,
@@ -44,7 +46,7 @@ pub enum Kind {
 }
 
 // What a record is refused with.
-#[derive(Drop)]
+#[derive(Clone, Copy)]
 pub enum Refusal {
     Kind,
     Size,
@@ -59,7 +61,7 @@ pub enum Refusal {
 }
 
 // What changes a gauge and asks for no reply. Readings, conversions and samples hold signed counts, as z + 2^31; a sample its tick too.
-#[derive(Drop)]
+#[derive(Clone, Copy)]
 pub enum Change {
     Reading(u32, u32),
     Conversion(u32),
@@ -68,7 +70,7 @@ pub enum Change {
 }
 
 // What a record asks of the gauge.
-#[derive(Drop)]
+#[derive(Clone, Copy)]
 pub enum Event {
     Image(Profile),
     Change(Change),
@@ -76,7 +78,7 @@ pub enum Event {
 }
 
 // A record is either an event or a numbered refusal.
-#[derive(Drop)]
+#[derive(Clone, Copy)]
 pub enum Taken {
     Run(Event),
     Refused(Refusal),

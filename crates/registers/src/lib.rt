@@ -1,7 +1,10 @@
 // The memory map: what a read of the registers finds.
+#![tactic(auto)]
+
 ghost use Rattle.std.specs.Prelude.{◌≡◌, ◌*◌, ◌%◌, ◌≤◌, ◌<◌};
 ghost use Rattle.state.specs.State.{MeterWf};
-ghost use Rattle.registers.specs.Registers.{word_of, temp_word_of, flag_of, status_of, cycle_byte, eeprom_of, pair_of, two_of, put_of, registers_of, register_of};
+ghost use Rattle.registers.specs.Registers.{word_of, temp_word_of, flag_of, status_of, cycle_byte, eeprom_of, pair_of, two_of, put_of, registers_of};
+ghost use Rattle.registers.specs.Registers.{register_of};
 
 use state::{Cells, Common, Cycles, Flags, Locks, Meter};
 
@@ -50,7 +53,7 @@ fn eeprom(common: Common, locks: Locks) -> u8
 }
 
 // The two bytes from an even address on: a register, or one register each.
-#[derive(Drop)]
+#[derive(Clone, Copy)]
 pub struct Pair {
     pub high: u8,
     pub low: u8,

@@ -1,15 +1,18 @@
 // Whom a transaction selects, and the bytes that it is answered with.
+#![tactic(auto)]
+
 ghost use Rattle.std.specs.Prelude.{◌≡◌, ◌++◌, ◌+◌, ◌%◌, ◌≤◌, ◌<◌, length, get_or, drop};
 ghost use Rattle.state.specs.State.{MeterWf};
 ghost use Rattle.registers.specs.Registers.{registers_of};
-ghost use Rattle.replies.specs.Reply.{selected_of, read_source_of, net_source_of, reply_source_of, read_byte, net_byte, over_of, source_byte, listed, replied_of};
+ghost use Rattle.replies.specs.Reply.{selected_of, read_source_of, net_source_of, reply_source_of, read_byte, net_byte, over_of, source_byte, listed};
+ghost use Rattle.replies.specs.Reply.{replied_of};
 
 use bus::{Command, Rom, Transaction};
 use registers::Pair;
 use state::{Block, Common, Label, Meter};
 
 // Where a reply's bytes come from: the net address, the map from an address on, or nowhere.
-#[derive(Drop)]
+#[derive(Clone, Copy)]
 pub enum Source {
     Address,
     Bytes(u8),

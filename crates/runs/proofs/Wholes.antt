@@ -42,7 +42,8 @@ span_first : (n : ℕ) (l t : List ℕ) → recs_of (take (wholes_span n l) l ++
 span_first zero l t = refl
 span_first (suc n) l t = by (whole_of l) refl (span_first n (drop (size_of l) l) t)
   where
-    by : (b : Bool) → whole_of l ≡ b → recs_of (take (wholes_span n (drop (size_of l) l)) (drop (size_of l) l) ++ t) ≡ wholes_in n (drop (size_of l) l) ++ recs_of t
+    by : (b : Bool) → whole_of l ≡ b → recs_of (take (wholes_span n (drop (size_of l) l)) (drop (size_of l) l) ++ t) ≡
+        wholes_in n (drop (size_of l) l) ++ recs_of t
         → recs_of (take (pick (whole_of l) (size_of l + wholes_span n (drop (size_of l) l)) 0) l ++ t)
         ≡ pick (whole_of l) (rec_of l ∷ wholes_in n (drop (size_of l) l)) [] ++ recs_of t
     by true w rest =

@@ -1,4 +1,6 @@
 // A run of records of any state: its outcome, a record read and written; and what stands at the front of a session.
+#![tactic(auto)]
+
 ghost use Rattle.std.specs.Prelude.{◌≡◌, ◌+◌, ◌<◌, ◌≤◌, length};
 ghost use Rattle.runs.specs.Record.{whole_of, Recorded};
 ghost use Rattle.runs.specs.Run.{code_of, outcome_number, outcome_of};
@@ -11,7 +13,7 @@ use record::{Event, Refusal, Taken};
 use state::Tick;
 
 // Run to its end, or over 32,768 bytes.
-#[derive(Drop)]
+#[derive(Clone, Copy)]
 pub enum Outcome {
     Done,
     Over,
@@ -38,7 +40,7 @@ pub fn outcome_of(bytes: usize) -> Outcome
 }
 
 // How a run of any state ended: how many lines it has, and how many bytes of reply.
-#[derive(Drop)]
+#[derive(Clone, Copy)]
 pub struct Ended {
     pub outcome: Outcome,
     pub lines: usize,
@@ -99,21 +101,21 @@ pub fn code(kind: u16, answer: u8, replied: u16) -> u64
 }
 
 // Whether an image was accepted, and the gauge.
-#[derive(Drop)]
+#[derive(Clone, Copy)]
 pub struct Session {
     pub loaded: bool,
     pub gauge: Gauge,
 }
 
 // What a record asks: nothing where it is refused or cut.
-#[derive(Drop)]
+#[derive(Clone, Copy)]
 pub enum Asked {
     Nothing,
     Run(Event),
 }
 
 // What stands at the front of what is left of a session.
-#[derive(Drop)]
+#[derive(Clone, Copy)]
 pub struct Record {
     pub event: Asked,
     pub used: usize,

@@ -9,7 +9,8 @@ use Rattle.state.specs.declared.Profile.{Profile}
 use Rattle.state.specs.declared.Charge.{Charge}
 use Rattle.state.specs.declared.Trace.{Trace}
 use Rattle.state.specs.State.{acr_of, run_of}
-use Rattle.conversion.specs.Conversion.{turned_of, blanked_of, fall_of, with_flags, offset_turn, renewed_of, found_of, settled_of, converted_of, filled_flags, charged_of}
+use Rattle.conversion.specs.Conversion.{turned_of, blanked_of, fall_of, with_flags, offset_turn, renewed_of, found_of, settled_of, converted_of, filled_flags}
+use Rattle.conversion.specs.Conversion.{charged_of}
 use Rattle.state.specs.declared.Average.{Average}
 use Rattle.state.specs.declared.Flow.{Flow}
 use Rattle.state.specs.declared.Meter.{Meter}

@@ -1,4 +1,6 @@
 // Slow sampling: n conversions of one raw current, one by one or in stretches.
+#![tactic(auto)]
+
 ghost use Rattle.std.specs.Prelude.{◌≡◌, ◌≤◌};
 ghost use Rattle.state.specs.State.{ChargeWf, AverageWf, MeterWf};
 ghost use Rattle.samples.specs.Samples.{sampled_of, sample_of};
@@ -66,7 +68,7 @@ fn count_over(profile: Profile, counting: Counting, charge: Charge, c: u16, k: u
 }
 
 // The age counter and AS.
-#[derive(Drop)]
+#[derive(Clone, Copy)]
 struct Worn {
     age: u32,
     aging: u8,

@@ -11,6 +11,7 @@ use Rattle.text.specs.Text.{header_text, run_text}
 use Rattle.session.specs.Example.{PrintedText}
 
 pub example : PrintedText
-unfolding header_text run_text outcome_of session_of did_of taken_of kind_of rec_of size_of whole_of hex_of shown_text short_text decimal_text kind_text reply_text
+unfolding header_text run_text outcome_of session_of did_of taken_of kind_of rec_of size_of whole_of hex_of shown_text short_text decimal_text kind_text
+    reply_text
     start_text end_text
 example = refl

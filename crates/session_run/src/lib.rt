@@ -1,4 +1,6 @@
 // Sessions: records in, an answer each, replies into one lent room; and the image taken out.
+#![tactic(auto)]
+
 ghost use Rattle.std.specs.Prelude.{◌≡◌, ◌+◌, ◌/◌, ◌≤◌, length};
 ghost use Rattle.runs.specs.Record.{recs_of};
 ghost use Rattle.runs.specs.Run.{Running, Runs};
@@ -12,7 +14,7 @@ use runs::{Asked, Ended, Outcome, Session};
 use state::Profile;
 
 // What a session did: the state at its end, and how it ended.
-#[derive(Drop)]
+#[derive(Clone, Copy)]
 pub struct Ran {
     pub session: Session,
     pub ended: Ended,
@@ -116,7 +118,7 @@ fn run_all(bytes: &[u8], room: &mut [u8], answers: &mut [u64]) -> Ran
 }
 
 // What one record did: the state after it, its answer, and how many bytes of reply stand at the front of the room.
-#[derive(Drop)]
+#[derive(Clone, Copy)]
 pub struct SessionStep {
     pub session: Session,
     pub answer: u8,

@@ -1,4 +1,6 @@
 // Bytes in and out of slices: what every layer above copies and reads numbers with.
+#![tactic(auto)]
+
 ghost use Rattle.std.specs.Prelude.{◌≡◌, ◌+◌, ◌<◌, ◌≤◌, min, max, length};
 ghost use Rattle.slices.specs.Slices.{part, put, laid_of, Stored, pair_at, quad_at};
 

@@ -1,8 +1,10 @@
 // What the gauge remembers: every struct below `Gauge`, what tells the two profiles apart, the ticks of samples, and a power-on.
+#![tactic(auto)]
+
 ghost use Rattle.std.specs.Prelude.{◌≡◌, ◌≤◌};
 ghost use Rattle.state.specs.State.{family_of, image_size_of, blanking_edge_of, counts_cycles, MeterWf, powered_of, restarted_of, elapsed_of, timely_of};
 
-#[derive(Drop)]
+#[derive(Clone, Copy)]
 pub enum Profile {
     Ds2781,
     Ds2775,
@@ -51,7 +53,7 @@ pub fn counts_cycles(profile: Profile) -> bool
 }
 
 // The tick of the last sample since power-on; `any`: there was one.
-#[derive(Drop)]
+#[derive(Clone, Copy)]
 pub struct Tick {
     pub any: bool,
     pub last: u16,
@@ -77,28 +79,28 @@ pub fn timely(tick: Tick, now: u16) -> bool
 }
 
 // The net address and BL0: changed only by an image and by a lock of block 0.
-#[derive(Drop)]
+#[derive(Clone, Copy)]
 pub struct Common {
     pub address: [u8; 8],
     pub bl0: bool,
 }
 
 // Block 0, the label: its shadow and its EEPROM.
-#[derive(Drop)]
+#[derive(Clone, Copy)]
 pub struct Label {
     pub shadow: [u8; 16],
     pub eeprom: [u8; 16],
 }
 
 // Block 1, the parameters: its shadow and its EEPROM.
-#[derive(Drop)]
+#[derive(Clone, Copy)]
 pub struct Block {
     pub shadow: [u8; 32],
     pub eeprom: [u8; 32],
 }
 
 // The saved cells: ACR, AS and the cycle counter.
-#[derive(Drop)]
+#[derive(Clone, Copy)]
 pub struct Saved {
     pub acr: u16,
     pub aging: u8,
@@ -106,14 +108,14 @@ pub struct Saved {
 }
 
 // LOCK and BL1.
-#[derive(Drop)]
+#[derive(Clone, Copy)]
 pub struct Locks {
     pub lock: bool,
     pub bl1: bool,
 }
 
 // What writes, copy, recall, lock and the save change, and the profile, which nothing changes. (The order of fields, here and below: docs/SPEED.md.)
-#[derive(Drop)]
+#[derive(Clone, Copy)]
 pub struct Cells {
     pub saved: Saved,
     pub profile: Profile,
@@ -123,7 +125,7 @@ pub struct Cells {
 
 // ACR × 4,096 + fraction, AS, LEARNF, the mark after an ACR write and the age counter. (Side by side, count and age would be passed as one
 // number of eight bytes.)
-#[derive(Drop)]
+#[derive(Clone, Copy)]
 pub struct Charge {
     pub aging: u8,
     pub count: u32,
@@ -133,14 +135,14 @@ pub struct Charge {
 }
 
 // The cycle counter of a DS2775, and how far ACR fell since its last step; 0 in every other pack.
-#[derive(Drop)]
+#[derive(Clone, Copy)]
 pub struct Cycles {
     pub count: u8,
     pub rest: u32,
 }
 
 // CURRENT and the c before it; `any`: there was a conversion, `two`: there were two. (The order of fields: docs/SPEED.md.)
-#[derive(Drop)]
+#[derive(Clone, Copy)]
 pub struct Trace {
     pub two: bool,
     pub before: u16,
@@ -149,7 +151,7 @@ pub struct Trace {
 }
 
 // The conversions since power-on, modulo 1,024, which modulo 8 are those of the run of eight; the sum of their c; IAVG, and whether there is one.
-#[derive(Drop)]
+#[derive(Clone, Copy)]
 pub struct Average {
     pub sum: u32,
     pub made: u16,
@@ -158,14 +160,14 @@ pub struct Average {
 }
 
 // The readings since the previous IAVG: whether there is one, and their lowest VOLT.
-#[derive(Drop)]
+#[derive(Clone, Copy)]
 pub struct Since {
     pub any: bool,
     pub lowest: u16,
 }
 
 // The flow of currents: the last two, how many and the run of eight, the readings since it began, and the tick of the last sample.
-#[derive(Drop)]
+#[derive(Clone, Copy)]
 pub struct Flow {
     pub trace: Trace,
     pub since: Since,
@@ -174,14 +176,14 @@ pub struct Flow {
 }
 
 // The lines of the model at the last temperature: FULL, AE and SE.
-#[derive(Drop)]
+#[derive(Clone, Copy)]
 pub struct Model {
     pub full: u16,
     pub ae: u16,
     pub se: u16,
 }
 
-#[derive(Drop)]
+#[derive(Clone, Copy)]
 pub struct Results {
     pub rarc: u8,
     pub rsrc: u8,
@@ -190,14 +192,14 @@ pub struct Results {
 }
 
 // VOLT and TEMP as counts, and whether there was a reading since power-on.
-#[derive(Drop)]
+#[derive(Clone, Copy)]
 pub struct Reading {
     pub volt: u16,
     pub temp: u16,
     pub known: bool,
 }
 
-#[derive(Drop)]
+#[derive(Clone, Copy)]
 pub struct Flags {
     pub aef: bool,
     pub chgtf: bool,
@@ -206,7 +208,7 @@ pub struct Flags {
 }
 
 // What a reading shows, and the flags.
-#[derive(Drop)]
+#[derive(Clone, Copy)]
 pub struct Shown {
     pub model: Model,
     pub results: Results,
@@ -214,7 +216,7 @@ pub struct Shown {
     pub flags: Flags,
 }
 
-#[derive(Drop)]
+#[derive(Clone, Copy)]
 pub struct Meter {
     pub cells: Cells,
     pub charge: Charge,

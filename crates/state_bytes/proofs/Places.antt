@@ -193,7 +193,8 @@ module _ {s after : List ℕ} {i : ℕ} (g : Gauge) where
       → Became s i (changed_of g change) after
   changed_reading e b = became_as b (ap (changed_of g) (sym e))
 
-  pub changed_conversion : {change : Change} {raw : ℕ} → change ≡ Conversion raw → Became s i (conversion_of g raw) after → Became s i (changed_of g change) after
+  pub changed_conversion : {change : Change} {raw : ℕ} → change ≡ Conversion raw → Became s i (conversion_of g raw) after →
+      Became s i (changed_of g change) after
   changed_conversion e b = became_as b (ap (changed_of g) (sym e))
 
   pub changed_sample : {change : Change} {raw tick : ℕ} → change ≡ Sample raw tick → Became s i (sampling_of g raw tick) after

@@ -321,7 +321,8 @@ in_turn true false false d = refl
 in_turn false b c d = refl
 
 pub tray_tested : (b : List ℕ) → length b ≡ tray_state_size → get_or b 0 0 ≡ tray_version → Bytes b
-    → both (leb (get_or b 1 0) 8) (both (ltb (get_or b 2 0) 2) (sound_places b 3 0 8)) ≡ both (sound_tray (tray_at b)) (same_bytes (tray_state_bytes (tray_at b)) b)
+    → both (leb (get_or b 1 0) 8) (both (ltb (get_or b 2 0) 2) (sound_places b 3 0 8)) ≡
+    both (sound_tray (tray_at b)) (same_bytes (tray_state_bytes (tray_at b)) b)
 unfolding sound_tray tray_at
 tray_tested b size v bytes =
     let few = leb (get_or b 1 0) 8 in

@@ -133,7 +133,8 @@ module _ (state : List ℕ) (zero : (state_in state).number ≡ 0) where
       }
 
   -- another gauge there is the state of that gauge, where an image was accepted before
-  pub loaded_became : {g : Gauge} {after : List ℕ} → (session_at state).loaded ≡ true → Became state 2 g after → after ≡ put state 0 (state_bytes (loaded_with g))
+  pub loaded_became : {g : Gauge} {after : List ℕ} → (session_at state).loaded ≡ true → Became state 2 g after →
+      after ≡ put state 0 (state_bytes (loaded_with g))
   unfolding session_at state_bytes
   loaded_became {g} loaded b =
       let head : part 2 state 0 ≡ 1 ∷ 1 ∷ [] = ap (λ (s : List ℕ). part 2 s 0) (sym written_so) ∙ ap (λ (l : Bool). 1 ∷ flag_byte l ∷ []) loaded in

@@ -98,7 +98,8 @@ module _ (τ : Tray) (w : TrayWf τ) (i : ℕ) (low : i < 8) (g : Gauge) where
 
   -- another gauge in a place
   packs_stored : packs_in (stored_of τ i g) ≡ set (packs_in τ) i g
-  packs_stored = ext_get_or no_gauge (packs_in (stored_of τ i g)) (set (packs_in τ) i g) (sym (length-set (packs_in τ) i g)) (λ j inside. by j inside (eqb j i) refl)
+  packs_stored = ext_get_or no_gauge (packs_in (stored_of τ i g)) (set (packs_in τ) i g) (sym (length-set (packs_in τ) i g))
+      (λ j inside. by j inside (eqb j i) refl)
     where
       by : (j : ℕ) → j < 8 → (b : Bool) → eqb j i ≡ b → get_or (packs_in (stored_of τ i g)) j no_gauge ≡ get_or (set (packs_in τ) i g) j no_gauge
       by j inside true e =

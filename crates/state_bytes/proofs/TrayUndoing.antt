@@ -23,7 +23,7 @@ use Rattle.tray_record.specs.declared.Tray.{Tray}
 use Rattle.tray_record.specs.Tray.{no_gauge, empty_tray, pack_of, TrayWf}
 use Rattle.tray_record.proofs.Laws.{empty_wf}
 use Rattle.state_bytes.specs.declared.TrayStateIn.{TrayStateIn}
-use Rattle.state_bytes.specs.Layout.{◌then◌, indexed}
+use Rattle.state_bytes.specs.Layout.{indexed}
 use Rattle.state_bytes.specs.State.{gauge_layout, sound_meter}
 use Rattle.state_bytes.specs.TrayState.{tray_fields, tray_layout, sound_each, sound_tray, tray_version, tray_state_size, tray_state_bytes, tray_at}
 use Rattle.state_bytes.specs.TrayState.{no_tray_state, tray_state_in}

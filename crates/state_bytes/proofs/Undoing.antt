@@ -26,7 +26,6 @@ use Rattle.block1.specs.Block1.{BlockSized}
 use Rattle.gauge.specs.Gauge.{Sized, NoCycles}
 use Rattle.runs.specs.declared.Session.{Session}
 use Rattle.state_bytes.specs.declared.StateIn.{StateIn}
-use Rattle.state_bytes.specs.Layout.{◌then◌}
 use Rattle.state_bytes.specs.State.{saved_fields, profile_fields, locks_fields, charge_fields, cycles_fields, trace_fields, since_fields, average_fields}
 use Rattle.state_bytes.specs.State.{tick_fields, flow_fields, model_fields, results_fields, reading_fields, flags_fields, shown_fields, block_fields}
 use Rattle.state_bytes.specs.State.{cells_fields, meter_fields, label_fields, common_fields, gauge_fields, session_fields}

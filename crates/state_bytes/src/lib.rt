@@ -1,5 +1,7 @@
 // The state as bytes, out and in, of a session and of a tray: `gauge_layout` and those below it, in code. And a record, run in the state that a lent room
 // holds as bytes: what it asks is found out from a few of them, and of a gauge only the parts are read and written that such an event can change.
+#![tactic(auto)]
+
 ghost use Rattle.std.specs.Prelude.{◌≡◌, true, ◌++◌, ◌+◌, ◌*◌, ◌≤◌, ◌<◌, length, get_or, drop};
 ghost use Rattle.slices.specs.Slices.{Stored};
 ghost use Rattle.state.specs.State.{counts_cycles, MeterWf, image_size_of};
@@ -10,7 +12,8 @@ ghost use Rattle.gauge.specs.Act.{ran_of, act_of, reply_of};
 ghost use Rattle.gauge.specs.Image.{image_of};
 ghost use Rattle.runs.specs.SessionRecord.{SessionWf, of_session};
 ghost use Rattle.runs.specs.AnyRecord.{front_by};
-ghost use Rattle.tray_record.specs.Tray.{TrayWf, pack_of, stored_of, closed_of, pack_joined, tray_reach, tray_acted, tray_reply, changing_of, named_slot, of_tray};
+ghost use Rattle.tray_record.specs.Tray.{TrayWf, pack_of, stored_of, closed_of, pack_joined, tray_reach, tray_acted, tray_reply, changing_of, named_slot};
+ghost use Rattle.tray_record.specs.Tray.{of_tray};
 ghost use Rattle.tray_record.specs.Tray.{line_high, on_line};
 ghost use Rattle.tray_record.specs.Wire.{and_bytes};
 ghost use Rattle.state_bytes.specs.Layout.{flag_byte, flag_in};
@@ -586,7 +589,7 @@ fn sound_places(bytes: &[u8], from: usize, n: usize) -> bool
 }
 
 // What was read: the state, or the number of the refusal and the state before the first record.
-#[derive(Drop)]
+#[derive(Clone, Copy)]
 pub struct StateIn {
     pub number: u8,
     pub session: Session,
@@ -707,7 +710,7 @@ pub fn tray_state_out(tray: Tray, room: &mut [u8]) -> bool
 }
 
 // What was read: the tray, or the number of the refusal and the tray before the first record.
-#[derive(Drop)]
+#[derive(Clone, Copy)]
 pub struct TrayStateIn {
     pub number: u8,
     pub tray: Tray,
@@ -915,7 +918,7 @@ fn replied_at(state: &[u8], at: usize, transaction: Transaction, chosen: bool, r
 // ---- a step of a session
 
 // What a step says: 0, its answer and how many bytes it replied; or the number of bytes that are no state.
-#[derive(Drop)]
+#[derive(Clone, Copy)]
 pub struct StateStep {
     pub number: u8,
     pub answer: u8,

@@ -1,43 +1,67 @@
 // What a program reads, standard input or files that its words name, and what it says: one thing, on standard output or standard error, and a file
 // beside it.
-ghost use Rattle.std.specs.Prelude.{◌≡◌, ◌+◌, ◌≤◌, length};
+#![tactic(auto)]
+
+ghost use Rattle.std.specs.Prelude.{◌≡◌, ◌+◌, ◌≤◌, length, take};
 ghost use Rattle.digits.specs.Digits.{Writing};
 ghost use Rattle.streams.specs.Streams.{CountWithin, error, unread_text, refused_text, beside_text, Saying, RestKept};
 
-use libc::{PATH_MAX, STDERR_FILENO, STDIN_FILENO, STDOUT_FILENO};
+use std::env::{Env, FillError};
+use std::fs::{File, OpenOptions};
+use std::io::{Cursor, ErrorKind, Read, Write};
+use std::{fs, io, str};
+
+// The size of a room for a name: the most bytes that the system takes of one, with the zero behind it.
+pub const NAME_ROOM: usize = 4096;
 
 // What was read: so many bytes at the front of the room, or a read that failed.
-#[derive(Drop)]
+#[derive(Clone, Copy)]
 pub struct Input {
     pub count: usize,
     pub failed: bool,
 }
 
-#[derive(Drop)]
+#[derive(Clone, Copy)]
 pub enum Stream {
     Output,
     Error,
 }
 
 // What a program says: the first bytes of its room, so many, and where they go.
-#[derive(Drop)]
+#[derive(Clone, Copy)]
 pub struct Said {
     pub stream: Stream,
     pub count: usize,
 }
 
-// Reads until the input ends, the room is full, or a read fails. Which bytes it puts into the room, no contract can say.
-fn read_from(fd: i32, room: &mut [u8]) -> Input
+// One read. Where no byte comes the input is at its end, or the read failed. Which bytes it puts into the room, no contract can say.
+fn read_once<R: Read>(from: &mut R, room: &mut [u8]) -> Input
+    ensures { result.count ≤ length room.new }
+{
+    match from.read(room) {
+        Ok(count) => Input {
+            count: count,
+            failed: false,
+        },
+        Err(_) => Input {
+            count: 0,
+            failed: true,
+        },
+    }
+}
+
+// Reads until the input ends, the room is full, or a read fails.
+fn read_from<R: Read>(from: &mut R, room: &mut [u8]) -> Input
     ensures { result.count ≤ length room.new }
 {
     let mut count = 0;
     while count < room.len() {
-        let got = libc::read(fd, &mut room[count..]);
-        let more = io::count(got, &room[count..]);
+        let got = read_once(from, &mut room[count..]);
+        let more = got.count;
         if more == 0 {
             return Input {
                 count: count,
-                failed: got < 0,
+                failed: got.failed,
             };
         }
         count += more;
@@ -48,24 +72,19 @@ fn read_from(fd: i32, room: &mut [u8]) -> Input
     }
 }
 
-pub fn read_input(room: &mut [u8]) -> Input
+pub fn read_input(rt: &HostRuntime, room: &mut [u8]) -> Input
     ensures { result.count ≤ length room.new }
 {
-    read_from(STDIN_FILENO, room)
+    read_from(&mut rt.stdin(), room)
 }
 
 // One read of standard input, of at most so many bytes, into a room from a place on. Where none come the input is at its end, or the read failed.
-pub fn read_some(room: &mut [u8], at: usize, most: usize) -> Input
+pub fn read_some(rt: &HostRuntime, room: &mut [u8], at: usize, most: usize) -> Input
     requires { at + most ≤ length room.old }
     ensures { result.count ≤ most }
 {
     let end = at + most;
-    let got = libc::read(STDIN_FILENO, &mut room[at..end]);
-    let count = io::count(got, &room[at..end]);
-    Input {
-        count: count,
-        failed: got < 0,
-    }
+    read_once(&mut rt.stdin(), &mut room[at..end])
 }
 
 // Moves what stands in a room from one place up to another to its front, and says how many bytes it is.
@@ -84,65 +103,124 @@ pub fn keep_rest(room: &mut [u8], from: usize, end: usize) -> usize
     i
 }
 
-fn say_unread(program: &[u8], name: &[u8]) {
-    io::write_all(STDERR_FILENO, program);
-    io::write_all(STDERR_FILENO, b": cannot read ");
-    io::write_all(STDERR_FILENO, name);
-    io::write_all(STDERR_FILENO, b"\n");
+// Writes all the bytes, or fails with the first write that fails or takes nothing. Some of them may then be written.
+fn write_all<W: Write>(to: &mut W, bytes: &[u8]) -> io::Result<()> {
+    let mut done = 0;
+    while done < bytes.len() {
+        let some = to.write(&bytes[done..])?;
+        if some == 0 {
+            return Err(io::Error::from(ErrorKind::WriteZero));
+        }
+        done += some;
+    }
+    Ok(())
 }
 
-fn read_file(name: &[u8], room: &mut [u8]) -> Input
+// Where standard error does not take it, there is nobody to tell.
+fn complain(rt: &HostRuntime, text: &[u8]) {
+    let _ = write_all(&mut rt.stderr(), text);
+}
+
+// ---- words of the call
+
+// How many words the call has, the program's own name among them.
+pub fn word_count(rt: &HostRuntime) -> usize {
+    let mut start = [0u8; 1];
+    let mut count = 0;
+    while count < usize::MAX {
+        if let Err(FillError::NotPresent) = rt.arg(count, &mut start) {
+            return count;
+        }
+        count += 1;
+    }
+    count
+}
+
+// A word of the call, at the front of the room, and how many bytes it has: none, where there is no such word, or where it is longer than the room.
+pub fn read_word(rt: &HostRuntime, word: usize, room: &mut [u8]) -> usize
+    ensures fits { result ≤ length room.new }
+    ensures whole { result ≡ length (take result room.new) }
+{
+    match rt.arg(word, room) {
+        Ok(count) => count,
+        Err(_) => 0,
+    }
+}
+
+// ---- a file that is read
+
+// The name as text, which is all that the system is asked for.
+fn path_of(name: &[u8]) -> io::Result<&str> {
+    match str::from_utf8(name) {
+        Ok(path) => Ok(path),
+        Err(_) => Err(io::Error::new(ErrorKind::InvalidInput, "its name is not UTF-8")),
+    }
+}
+
+fn open_read(rt: &HostRuntime, name: &[u8]) -> io::Result<File> {
+    File::open(rt, path_of(name)?)
+}
+
+fn say_unread(rt: &HostRuntime, program: &[u8], name: &[u8]) {
+    complain(rt, program);
+    complain(rt, b": cannot read ");
+    complain(rt, name);
+    complain(rt, b"\n");
+}
+
+fn read_file(rt: &HostRuntime, name: &[u8], room: &mut [u8]) -> Input
     ensures { result.count ≤ length room.new }
 {
-    let fd = os::open_read(name);
-    if fd < 0 {
-        return Input {
+    match open_read(rt, name) {
+        Ok(mut file) => read_from(&mut file, room),
+        Err(_) => Input {
             count: 0,
             failed: true,
-        };
+        },
     }
-    let got = read_from(fd, room);
-    libc::close(fd);
-    got
 }
 
 // Reads the file that a word of the call names. Where it cannot be opened or read, standard error has a line with its name.
-pub fn read_named(program: &[u8], word: usize, room: &mut [u8]) -> Input
+pub fn read_named(rt: &HostRuntime, program: &[u8], word: usize, room: &mut [u8]) -> Input
     ensures { result.count ≤ length room.new }
 {
-    let mut name = io::buffer();
-    let n = os::arg(word, &mut name);
-    let got = read_file(&name[..n], room);
+    let mut name = [0u8; NAME_ROOM];
+    let n = read_word(rt, word, &mut name);
+    let got = read_file(rt, &name[..n], room);
     if got.failed {
-        say_unread(program, &name[..n]);
+        say_unread(rt, program, &name[..n]);
     }
     got
 }
 
 // The same, but that nothing is read where no file has the name, or the call has no such word.
-pub fn read_kept(program: &[u8], word: usize, room: &mut [u8]) -> Input
+pub fn read_kept(rt: &HostRuntime, program: &[u8], word: usize, room: &mut [u8]) -> Input
     ensures { result.count ≤ length room.new }
 {
-    let mut name = io::buffer();
-    let n = os::arg(word, &mut name);
-    let fd = os::open_read(&name[..n]);
-    if fd < 0 {
-        let missing = os::errno() == libc::ENOENT;
-        if !missing {
-            say_unread(program, &name[..n]);
+    let mut name = [0u8; NAME_ROOM];
+    let n = read_word(rt, word, &mut name);
+    match open_read(rt, &name[..n]) {
+        Ok(mut file) => {
+            let got = read_from(&mut file, room);
+            if got.failed {
+                say_unread(rt, program, &name[..n]);
+            }
+            got
         }
-        return Input {
-            count: 0,
-            failed: !missing,
-        };
+        Err(error) => {
+            let missing = error.kind() == ErrorKind::NotFound;
+            if !missing {
+                say_unread(rt, program, &name[..n]);
+            }
+            Input {
+                count: 0,
+                failed: !missing,
+            }
+        }
     }
-    let got = read_from(fd, room);
-    libc::close(fd);
-    if got.failed {
-        say_unread(program, &name[..n]);
-    }
-    got
 }
+
+// ---- what is said
 
 // A count within the room.
 pub fn within(count: usize, room: &[u8]) -> usize
@@ -182,148 +260,191 @@ pub fn put_refused(number: u8, words: &[u8], room: &mut [u8]) -> Said
     }
 }
 
-fn write_output(name: &[u8], text: &[u8]) -> bool {
-    if io::write_all(STDOUT_FILENO, text) {
+fn write_output(rt: &HostRuntime, name: &[u8], text: &[u8]) -> bool {
+    if write_all(&mut rt.stdout(), text).is_ok() {
         return true;
     }
-    io::write_all(STDERR_FILENO, name);
-    io::write_all(STDERR_FILENO, b": cannot write standard output\n");
+    complain(rt, name);
+    complain(rt, b": cannot write standard output\n");
     false
 }
 
 // Writes what is said. Where standard output does not take it, standard error has a line. Whether all of it went to standard output, it answers.
-fn pass_on(name: &[u8], said: Said, room: &[u8]) -> bool {
+fn pass_on(rt: &HostRuntime, name: &[u8], said: Said, room: &[u8]) -> bool {
     let stream = said.stream;
     let count = within(said.count, room);
     match stream {
-        Stream::Output => write_output(name, &room[..count]),
+        Stream::Output => write_output(rt, name, &room[..count]),
         Stream::Error => {
-            io::write_all(STDERR_FILENO, &room[..count]);
+            complain(rt, &room[..count]);
             false
         }
     }
 }
 
-pub fn say_all(name: &[u8], said: Said, room: &[u8]) -> bool {
-    pass_on(name, said, room)
+pub fn say_all(rt: &HostRuntime, name: &[u8], said: Said, room: &[u8]) -> bool {
+    pass_on(rt, name, said, room)
 }
 
-pub fn say(name: &[u8], said: Said, room: &[u8]) {
-    pass_on(name, said, room);
+pub fn say(rt: &HostRuntime, name: &[u8], said: Said, room: &[u8]) {
+    pass_on(rt, name, said, room);
 }
 
 // ---- a file that is written
 
-fn say_start(program: &[u8], name: &[u8]) {
-    io::write_all(STDERR_FILENO, program);
-    io::write_all(STDERR_FILENO, b": cannot write ");
-    io::write_all(STDERR_FILENO, name);
-    io::write_all(STDERR_FILENO, b": ");
+fn say_start(rt: &HostRuntime, program: &[u8], name: &[u8]) {
+    complain(rt, program);
+    complain(rt, b": cannot write ");
+    complain(rt, name);
+    complain(rt, b": ");
 }
 
 // Why a file is not written.
-fn say_unwritten(program: &[u8], name: &[u8], why: &[u8]) -> bool {
-    say_start(program, name);
-    io::write_all(STDERR_FILENO, why);
-    io::write_all(STDERR_FILENO, b"\n");
+fn say_unwritten(rt: &HostRuntime, program: &[u8], name: &[u8], why: &[u8]) -> bool {
+    say_start(rt, program, name);
+    complain(rt, why);
+    complain(rt, b"\n");
     false
 }
 
-// The same in the system's own words for the call that failed last.
-fn say_failed(program: &[u8], name: &[u8]) -> bool {
-    io::write_all(STDERR_FILENO, program);
-    io::write_all(STDERR_FILENO, b": cannot write ");
-    os::fail(name);
-    false
+// The system's words for a failure, without its number, which stands behind them.
+fn system_words(text: &[u8]) -> &[u8] {
+    match str::from_utf8(text) {
+        Ok(words) => match words.split_once(" (os error ") {
+            Some((words, _)) => words.as_bytes(),
+            None => text,
+        },
+        Err(_) => text,
+    }
+}
+
+// The same in the system's own words for the call that failed.
+fn say_failed(rt: &HostRuntime, program: &[u8], name: &[u8], failure: io::Error) -> bool {
+    let mut words = Cursor::new([0u8; 128]);
+    let _ = write!(words, "{failure}");
+    let n = within(words.position() as usize, words.get_ref());
+    let text = words.into_inner();
+    say_unwritten(rt, program, name, system_words(&text[..n]))
+}
+
+fn open_update(rt: &HostRuntime, name: &[u8]) -> io::Result<File> {
+    OpenOptions::new()
+        .read(true)
+        .write(true)
+        .open(rt, path_of(name)?)
+}
+
+fn open_new(rt: &HostRuntime, name: &[u8]) -> io::Result<File> {
+    OpenOptions::new()
+        .write(true)
+        .create_new(true)
+        .open(rt, path_of(name)?)
+}
+
+// Whether the name is that of a link.
+fn is_link(rt: &HostRuntime, name: &[u8]) -> bool {
+    match path_of(name) {
+        Ok(path) => match fs::symlink_metadata(rt, path) {
+            Ok(about) => about.is_symlink(),
+            Err(_) => false,
+        },
+        Err(_) => false,
+    }
+}
+
+fn rename(rt: &HostRuntime, from: &[u8], to: &[u8]) -> io::Result<()> {
+    fs::rename(rt, path_of(from)?, path_of(to)?)
+}
+
+fn remove(rt: &HostRuntime, name: &[u8]) -> io::Result<()> {
+    fs::remove_file(rt, path_of(name)?)
 }
 
 // Whether a file may take the name: it is free, or a plain file has it that may be written. No device has `fsync`, and no folder can be opened so.
-fn replaceable(program: &[u8], name: &[u8]) -> bool {
-    let fd = os::open_update(name);
-    if fd < 0 {
-        let error = os::errno();
-        if error == libc::ENOENT {
-            return true;
+fn replaceable(rt: &HostRuntime, program: &[u8], name: &[u8]) -> bool {
+    match open_update(rt, name) {
+        Ok(file) => {
+            if file.sync_all().is_ok() {
+                return true;
+            }
+            say_unwritten(rt, program, name, b"it is not a plain file")
         }
-        if error == libc::EISDIR {
-            return say_unwritten(program, name, b"it is a folder");
+        Err(error) => {
+            let kind = error.kind();
+            if kind == ErrorKind::NotFound {
+                return true;
+            }
+            if kind == ErrorKind::IsADirectory {
+                return say_unwritten(rt, program, name, b"it is a folder");
+            }
+            say_failed(rt, program, name, error)
         }
-        return say_failed(program, name);
     }
-    let plain = libc::fsync(fd) == 0;
-    libc::close(fd);
-    if plain {
-        return true;
-    }
-    say_unwritten(program, name, b"it is not a plain file")
 }
 
 // The other name of the file is taken: another run is writing, or one that was ended left it.
-fn say_taken(program: &[u8], name: &[u8], beside: &[u8]) -> bool {
-    say_start(program, name);
-    io::write_all(STDERR_FILENO, beside);
-    io::write_all(
-        STDERR_FILENO,
-        b" is there, in use by another run or left by one\n",
-    );
+fn say_taken(rt: &HostRuntime, program: &[u8], name: &[u8], beside: &[u8]) -> bool {
+    say_start(rt, program, name);
+    complain(rt, beside);
+    complain(rt, b" is there, in use by another run or left by one\n");
     false
 }
 
 // The file cannot be made under its other name.
-fn say_unmade(program: &[u8], name: &[u8], beside: &[u8]) -> bool {
-    let error = os::errno();
-    if error == libc::EEXIST {
-        return say_taken(program, name, beside);
+fn say_unmade(
+    rt: &HostRuntime,
+    program: &[u8],
+    name: &[u8],
+    beside: &[u8],
+    failure: io::Error,
+) -> bool {
+    let kind = failure.kind();
+    if kind == ErrorKind::AlreadyExists {
+        return say_taken(rt, program, name, beside);
     }
-    if error == libc::ENOENT {
-        return say_unwritten(program, name, b"there is no such folder");
+    if kind == ErrorKind::NotFound {
+        return say_unwritten(rt, program, name, b"there is no such folder");
     }
-    say_failed(program, name)
+    say_failed(rt, program, name, failure)
 }
 
-// Whether all bytes went to the device.
-fn filled(fd: i32, bytes: &[u8]) -> bool {
-    if io::write_all(fd, bytes) {
-        return libc::fsync(fd) == 0;
-    }
-    false
+// Writes all bytes to the device, and closes the file.
+fn fill(mut file: File, bytes: &[u8]) -> io::Result<()> {
+    write_all(&mut file, bytes)?;
+    file.sync_all()
 }
 
 // Writes the bytes to a file that is made for them under the other name. Where they cannot be written no file is left.
-fn make(program: &[u8], name: &[u8], beside: &[u8], bytes: &[u8]) -> bool {
-    let fd = os::create(beside);
-    if fd < 0 {
-        return say_unmade(program, name, beside);
+fn make(rt: &HostRuntime, program: &[u8], name: &[u8], beside: &[u8], bytes: &[u8]) -> bool {
+    match open_new(rt, beside) {
+        Ok(file) => match fill(file, bytes) {
+            Ok(()) => true,
+            Err(error) => {
+                say_failed(rt, program, name, error);
+                let _ = remove(rt, beside);
+                false
+            }
+        },
+        Err(error) => say_unmade(rt, program, name, beside, error),
     }
-    let whole = filled(fd, bytes);
-    if !whole {
-        say_failed(program, name);
-    }
-    let closed = libc::close(fd) == 0;
-    if numbers::and_not(whole, closed) {
-        say_failed(program, name);
-    }
-    let made = numbers::and(whole, closed);
-    if !made {
-        os::unlink(beside);
-    }
-    made
 }
 
 // Makes the file under another name, and then gives it its own: so it is whole, or what had the name is as it was.
-fn replace(program: &[u8], name: &[u8], beside: &[u8], bytes: &[u8]) -> bool {
-    if !replaceable(program, name) {
+fn replace(rt: &HostRuntime, program: &[u8], name: &[u8], beside: &[u8], bytes: &[u8]) -> bool {
+    if !replaceable(rt, program, name) {
         return false;
     }
-    if !make(program, name, beside, bytes) {
+    if !make(rt, program, name, beside, bytes) {
         return false;
     }
-    if os::rename(beside, name) == 0 {
-        return true;
+    match rename(rt, beside, name) {
+        Ok(()) => true,
+        Err(error) => {
+            say_failed(rt, program, name, error);
+            let _ = remove(rt, beside);
+            false
+        }
     }
-    say_failed(program, name);
-    os::unlink(beside);
-    false
 }
 
 // The other name of a file: its own, and `.new` behind it. A name that is too long for that has none.
@@ -338,51 +459,58 @@ fn put_beside(name: &[u8], room: &mut [u8]) -> usize
     digits::put_bytes(b".new", room, next)
 }
 
-fn say_name(program: &[u8], why: &[u8]) -> bool {
-    io::write_all(STDERR_FILENO, program);
-    io::write_all(STDERR_FILENO, b": the name of the file to write is ");
-    io::write_all(STDERR_FILENO, why);
-    io::write_all(STDERR_FILENO, b"\n");
+fn say_name(rt: &HostRuntime, program: &[u8], why: &[u8]) -> bool {
+    complain(rt, program);
+    complain(rt, b": the name of the file to write is ");
+    complain(rt, why);
+    complain(rt, b"\n");
     false
 }
 
 // Writes the file that a word of the call names, which is not a link. Where it cannot be written, standard error has a line that says why.
-pub fn write_named(program: &[u8], word: usize, bytes: &[u8]) -> bool {
-    let mut name = io::buffer();
-    let got = os::arg(word, &mut name);
-    let cut = os::errno() != 0;
-    name[PATH_MAX - 1] = 0;
-    let n = within(got, &name);
-    let mut other = io::buffer();
+pub fn write_named(rt: &HostRuntime, program: &[u8], word: usize, bytes: &[u8]) -> bool {
+    let mut name = [0u8; NAME_ROOM];
+    let got = rt.arg(word, &mut name);
+    let cut = got.is_err();
+    let n = within(got.unwrap_or(0), &name);
+    let mut other = [0u8; NAME_ROOM];
     let put = put_beside(&name[..n], &mut other);
     let m = within(put, &other);
     if numbers::or(cut, m == 0) {
-        return say_name(program, b"too long");
+        return say_name(rt, program, b"too long");
     }
     if n == 0 {
-        return say_name(program, b"empty");
+        return say_name(rt, program, b"empty");
     }
-    let mut text = [0u8; 1];
-    if libc::readlink(&name, &mut text) >= 0 {
+    if is_link(rt, &name[..n]) {
         return say_unwritten(
+            rt,
             program,
             &name[..n],
             b"it is a link; give the name of the file itself",
         );
     }
-    replace(program, &name[..n], &other[..m], bytes)
+    replace(rt, program, &name[..n], &other[..m], bytes)
 }
 
 // Says what is said; where it goes to standard output, the file that a word of the call names is written first. Where it cannot be written,
 // standard error has a line, and nothing else is said.
-pub fn say_with_file(program: &[u8], said: Said, room: &[u8], word: usize, bytes: &[u8]) {
+pub fn say_with_file(
+    rt: &HostRuntime,
+    program: &[u8],
+    said: Said,
+    room: &[u8],
+    word: usize,
+    bytes: &[u8],
+) {
     let stream = said.stream;
     let count = said.count;
     match stream {
         Stream::Output => {
-            if write_named(program, word, bytes) {
+            if write_named(rt, program, word, bytes) {
                 let out = Stream::Output;
                 say(
+                    rt,
                     program,
                     Said {
                         stream: out,
@@ -395,6 +523,7 @@ pub fn say_with_file(program: &[u8], said: Said, room: &[u8], word: usize, bytes
         Stream::Error => {
             let err = Stream::Error;
             say(
+                rt,
                 program,
                 Said {
                     stream: err,

@@ -1,4 +1,6 @@
 // What is printed: the line of an answer, and the text of a run.
+#![tactic(auto)]
+
 ghost use Rattle.std.specs.Prelude.{◌≡◌, [], ◌+◌, ◌*◌, ◌≤◌, ◌<◌, length, take, ◌++◌};
 ghost use Rattle.digits.specs.Digits.{lower, pairs_of, Writing};
 ghost use Rattle.streams.specs.Streams.{Saying, error, refused_text};

@@ -25,5 +25,6 @@ abbrev pub third : List ℕ
 third = ascii "3 ---- 2 -\n"
 
 pub example : tray_text input ≡ header_text ++ (first ++ (second ++ third))
-unfolding run_text outcome_of tray_lines tray_did tray_kind_of rec_of size_of whole_of hex_of shown_text short_text decimal_text kind_text reply_text start_text end_text
+unfolding run_text outcome_of tray_lines tray_did tray_kind_of rec_of size_of whole_of hex_of shown_text short_text decimal_text kind_text reply_text
+    start_text end_text
 example = refl

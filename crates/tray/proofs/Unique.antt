@@ -3,12 +3,14 @@ use mathlib.Core.Path.{sym, ◌∙◌}
 use Rattle.numbers.specs.Once.{Once}
 use Rattle.streams.proofs.Laws.{own, same_said, same_room}
 use Rattle.tray.proofs.put_session
+use Rattle.tray.specs.contracts.put_session as put_session'
 use Rattle.tray.proofs.printed
+use Rattle.tray.specs.contracts.printed as printed'
 
-pub put_session_once : Once put_session.ended put_session.Reads.Pre put_session.Reads.Learnt
+pub put_session_once : Once put_session'.ended put_session.Reads.Pre put_session.Reads.Learnt
 put_session_once κs a r r' w w' p h h' = (h.counted ∙ sym h'.counted, λ i. (tt, ((h.written ∙ sym h'.written) i, tt)))
 
-pub printed_once : Once printed.ended printed.Reads.Pre printed.Reads.Learnt
+pub printed_once : Once printed'.ended printed.Reads.Pre printed.Reads.Learnt
 printed_once κs a r r' w w' p h h' =
     let front = own a.0.now a.1.0.count in
     let x = h.0 _ front in

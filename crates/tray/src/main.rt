@@ -1,4 +1,6 @@
 // tray: runs the tray session on standard input and prints an answer for each record
+#![tactic(auto)]
+
 ghost use Rattle.std.specs.Prelude.{List, ◌≡◌, ℕ, ◌≤◌, length};
 ghost use Rattle.text.specs.Text.{Reporting};
 ghost use Rattle.streams.specs.Streams.{Front, Saying};
@@ -35,10 +37,10 @@ fn printed(input: &[u8; 32769], got: Input, room: &mut [u8; 270372]) -> Said
     }
 }
 
-fn main() {
+fn main(rt: HostRuntime) {
     let mut input = [0u8; 32769];
-    let got = streams::read_input(&mut input);
+    let got = streams::read_input(&rt, &mut input);
     let mut room = [0u8; 270372];
     let said = printed(&input, got, &mut room);
-    streams::say(b"tray", said, &room);
+    streams::say(&rt, b"tray", said, &room);
 }

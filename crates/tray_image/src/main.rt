@@ -1,4 +1,6 @@
 // tray_image SLOT: runs the tray session on standard input and writes the pack image taken out of a slot at its end
+#![tactic(auto)]
+
 ghost use Rattle.std.specs.Prelude.{◌≡◌, List, ℕ, length, take};
 ghost use Rattle.streams.specs.Streams.{Front, Saying, error};
 ghost use Rattle.text.specs.Text.{first_coded};
@@ -116,12 +118,12 @@ fn extracted(word: &[u8], input: &[u8; 32769], got: Input, room: &mut [u8; 160])
     put_asked(word, &all[..n], room)
 }
 
-fn main() {
-    let mut word = io::buffer();
-    let length = os::arg(1, &mut word);
+fn main(rt: HostRuntime) {
+    let mut word = [0u8; streams::NAME_ROOM];
+    let length = streams::read_word(&rt, 1, &mut word);
     let mut input = [0u8; 32769];
-    let got = streams::read_input(&mut input);
+    let got = streams::read_input(&rt, &mut input);
     let mut room = [0u8; 160];
     let said = extracted(&word[..length], &input, got, &mut room);
-    streams::say(b"tray_image", said, &room);
+    streams::say(&rt, b"tray_image", said, &room);
 }

@@ -16,7 +16,8 @@ use Rattle.gauge.specs.Act.{can_change, ran_of, act_of}
 use Rattle.gauge.proofs.Acting.{act_idle}
 use Rattle.tray_record.specs.declared.Tray.{Tray}
 use Rattle.tray_record.specs.declared.Span.{Span}
-use Rattle.tray_record.specs.Tray.{no_gauge, pack_of, stored_of, Reach, one, every, nobody, tray_reach, acted_at, acted_first, tray_acted, reach_span, changing_of}
+use Rattle.tray_record.specs.Tray.{no_gauge, pack_of, stored_of, Reach, one, every, nobody, tray_reach, acted_at, acted_first, tray_acted, reach_span}
+use Rattle.tray_record.specs.Tray.{changing_of}
 use Rattle.tray_record.specs.Tray.{selecting_of, TrayWf}
 use Rattle.tray_record.proofs.Laws.{set_itself, pack_is, stored_wf, stored_other}
 use Rattle.tray_record.proofs.Chosen.{span_at, span_inside, reach_selects}

@@ -25,7 +25,8 @@ use Rattle.runs.specs.Record.{Rec}
 use Rattle.runs.specs.AnyRecord.{record_by}
 use Rattle.runs.proofs.Fronts.{payload_of, Ran}
 use Rattle.tray_record.specs.declared.Tray.{Tray}
-use Rattle.tray_record.specs.Tray.{tray_kind_of, ahead_of, slot_in, accepted_for, tray_asked_by, again_of, slot_tick, tray_told, named_slot, of_tray, tray_did, TrayWf}
+use Rattle.tray_record.specs.Tray.{tray_kind_of, ahead_of, slot_in, accepted_for, tray_asked_by, again_of, slot_tick, tray_told, named_slot, of_tray, tray_did}
+use Rattle.tray_record.specs.Tray.{TrayWf}
 use Rattle.tray_record.proofs.Fronts.{named_slot_lem}
 
 module _ (count : ℕ) (closed : Bool) (p : List ℕ) where

@@ -1,4 +1,6 @@
 // One record of a tray, read; the search over its packs; and what a transaction does with those that it reaches.
+#![tactic(auto)]
+
 ghost use Rattle.std.specs.Prelude.{◌≡◌, true, ◌≤◌, ◌<◌, length};
 ghost use Rattle.state.specs.State.{MeterWf};
 ghost use Rattle.record.specs.Record.{fitted_of};
@@ -15,7 +17,7 @@ use runs::Record;
 use state::{Common, Label, Meter, Profile, Tick};
 
 // The packs on one line, each by its parts; how many there are; and whether the opening is closed.
-#[derive(Drop)]
+#[derive(Clone, Copy)]
 pub struct Tray {
     pub count: u8,
     pub closed: bool,
@@ -25,14 +27,14 @@ pub struct Tray {
 }
 
 // A slot whose pack has an address, or none.
-#[derive(Drop)]
+#[derive(Clone, Copy)]
 pub enum Found {
     At(u8),
     Nowhere,
 }
 
 // The slots that a transaction reaches, one after the other: from the first on, before the stop.
-#[derive(Drop)]
+#[derive(Clone, Copy)]
 pub struct Span {
     pub first: u8,
     pub stop: u8,

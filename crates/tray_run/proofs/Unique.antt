@@ -10,15 +10,20 @@ use Rattle.tray_record.specs.Tray.{empty_tray, tray_did}
 use Rattle.tray_run.specs.declared.Ran.{Ran}
 use Rattle.tray_run.specs.TrayRun.{tray_result_of}
 use Rattle.tray_run.proofs.run
-use Rattle.tray_run.specs.contracts.run_on
+use Rattle.tray_run.specs.contracts.run as run'
+use Rattle.tray_run.proofs.run_on
+use Rattle.tray_run.specs.contracts.run_on as run_on'
 use Rattle.tray_run.proofs.step
-use Rattle.tray_run.specs.contracts.take_out
-use Rattle.tray_run.specs.contracts.image_size
+use Rattle.tray_run.specs.contracts.step as step'
+use Rattle.tray_run.proofs.take_out
+use Rattle.tray_run.specs.contracts.take_out as take_out'
+use Rattle.tray_run.proofs.image_size
+use Rattle.tray_run.specs.contracts.image_size as image_size'
 
 ran_of_lem : Result Tray → Ran
 ran_of_lem r = record { tray = r.state; ended = record { outcome = r.outcome; lines = r.lines; replied = r.replied } }
 
-pub run_once : Once run.ended run.Reads.Pre run.Reads.Learnt
+pub run_once : Once run'.ended run.Reads.Pre run.Reads.Learnt
 unfolding ran_of_lem
 run_once κs a r r' w w' p h h' =
     let o = outcome_of (length a.0.now) in
@@ -27,7 +32,7 @@ run_once κs a r r' w w' p h h' =
     w'.1.1.0 o h h' in
     (ap ran_of_lem e.0, λ i. (tt, (e.1 i, (e.2 i, tt))))
 
-pub run_on_once : Once run_on.ended run_on.Reads.Pre run_on.Reads.Learnt
+pub run_on_once : Once run_on'.ended run_on.Reads.Pre run_on.Reads.Learnt
 unfolding ran_of_lem
 run_on_once κs a r r' w w' p h h' =
     let e =
@@ -35,15 +40,15 @@ run_on_once κs a r r' w w' p h h' =
     w.1.1.1.0 w'.1.1.1.0 Done h.0 h'.0 in
     (ap ran_of_lem e.0, λ i. (tt, (tt, (e.1 i, (e.2 i, tt)))))
 
-pub step_once : Once step.ended step.Reads.Pre step.Reads.Learnt
+pub step_once : Once step'.ended step.Reads.Pre step.Reads.Learnt
 step_once κs a r r' w w' p h h' =
     let state = h.0.state ∙ sym h'.0.state in
     let answer = h.0.answered ∙ sym h'.0.answered in
     let replied = h.0.counted ∙ sym h'.0.counted in
     ((λ i. record { tray = state i; answer = answer i; replied = replied i }), λ i. (tt, (tt, ((h.0.written ∙ sym h'.0.written) i, tt))))
 
-pub take_out_once : Once take_out.ended take_out.Reads.Pre take_out.Reads.Learnt
+pub take_out_once : Once take_out'.ended take_out.Reads.Pre take_out.Reads.Learnt
 take_out_once κs a r r' w w' p h h' = (h.number ∙ sym h'.number, λ i. (tt, (tt, ((h.written ∙ sym h'.written) i, tt))))
 
-pub image_size_once : Once image_size.ended image_size.Reads.Pre image_size.Reads.Learnt
+pub image_size_once : Once image_size'.ended image_size.Reads.Pre image_size.Reads.Learnt
 image_size_once κs a r r' w w' p h h' = (h ∙ sym h', refl)

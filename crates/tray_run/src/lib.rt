@@ -1,4 +1,6 @@
 // Tray sessions: records in, an answer each, replies into one lent room; and the image taken out of a slot.
+#![tactic(auto)]
+
 ghost use Rattle.std.specs.Prelude.{◌≡◌, ◌+◌, ◌/◌, ◌≤◌, ◌<◌, length};
 ghost use Rattle.runs.specs.Record.{recs_of};
 ghost use Rattle.runs.specs.Run.{Running, Runs};
@@ -15,7 +17,7 @@ use state::{Common, Label, Meter, Profile, Tick};
 use tray_record::Tray;
 
 // What a tray session did: the state at its end, and how it ended.
-#[derive(Drop)]
+#[derive(Clone, Copy)]
 pub struct Ran {
     pub tray: Tray,
     pub ended: Ended,
@@ -179,7 +181,7 @@ fn run_all(bytes: &[u8], room: &mut [u8], answers: &mut [u64]) -> Ran
 }
 
 // What one record did: the tray after it, its answer, and how many bytes of reply stand at the front of the room.
-#[derive(Drop)]
+#[derive(Clone, Copy)]
 pub struct TrayStep {
     pub tray: Tray,
     pub answer: u8,

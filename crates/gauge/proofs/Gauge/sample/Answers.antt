@@ -1,0 +1,7 @@
+use Rattle.gauge.specs.Gauge.{sampling_of}
+use borrow.Author.Rules.{rules}
+use Rattle.gauge.proofs.Gauge.sample.Goals as goal
+
+pub returns : goal.returns
+unfolding sampling_of
+returns c = record { value = simp c.sample-sampled.ensures.value; kept = record { meter = c.sample-sampled.ensures.kept } }

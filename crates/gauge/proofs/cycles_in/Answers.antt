@@ -1,0 +1,11 @@
+use mathlib.Core.Path.{refl, ap, ◌∙◌}
+use native.Mathlib.Omega.{arith}
+use Rattle.state.specs.State.{image_size_of}
+use borrow.Author.Rules.{rules}
+use Rattle.gauge.proofs.cycles_in.Goals as goal
+
+pub bounds-image-60 : goal.bounds-image-60
+bounds-image-60 c = omega (arith, c.requires ∙ ap image_size_of c.in-Ds2775.is)
+
+pub returns-in-Ds2775 : goal.returns-in-Ds2775
+returns-in-Ds2775 c = rw c.in-Ds2775.is refl

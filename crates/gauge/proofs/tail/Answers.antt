@@ -1,0 +1,5 @@
+use borrow.Author.Rules.{rules}
+use Rattle.gauge.proofs.tail.Goals as goal
+
+pub returns : goal.returns
+returns c = simp (c.cells.ensures, c.lock_byte.ensures)

@@ -1,0 +1,6 @@
+-- `hex::put_line` meets its contract, by joining its pieces.
+use Rattle.digits.proofs.Laws.{then}
+use Rattle.intel_hex.proofs.put_line.Goals as goal
+
+pub returns : goal.returns
+returns c = then c.put_byte-a.ensures (then c.put_upper-b.ensures c.put_byte.ensures)

@@ -1,0 +1,11 @@
+-- `hex::read` meets its contract.
+use Rattle.std.proofs.Common.{length, sym, ◌∙◌}
+use Rattle.intel_hex.specs.Import.{text_lines}
+use Rattle.intel_hex.proofs.Lines.{import_fits, import_sized}
+use Rattle.intel_hex.proofs.read_text.Goals as goal
+
+pub put_imported-requires : goal.put_imported-requires
+put_imported-requires c = let ls = text_lines c.args.text.now in
+    let done = sym c.import_answer-found.ensures ∙ c.in-Done.is in
+    let sized = import_sized ls (length c.args.room.now) done in
+    record { text_len = sized.0; text_len_2 = sized.1; text_len_3 = sized.2; import_size_in_bounds = import_fits ls (length c.args.room.now) done }

@@ -1,0 +1,5 @@
+use borrow.Author.Rules.{rules}
+use Rattle.params.proofs.Capacity.of.Goals as goal
+
+pub returns : goal.returns
+returns c = simp c.joined.ensures

@@ -1,0 +1,7 @@
+use Rattle.reading.specs.Reading.{point_of}
+use borrow.Author.Rules.{rules}
+use Rattle.reading.proofs.point.Goals as goal
+
+pub returns : goal.returns
+unfolding point_of
+returns c = simp (c.and.ensures, c.draining.ensures, c.and-held.ensures)

@@ -1,0 +1,7 @@
+use Rattle.record.specs.Record.{ordered_of}
+use borrow.Author.Rules.{rules}
+use Rattle.record.proofs.ordered.Goals as goal
+
+pub returns : goal.returns
+unfolding ordered_of
+returns c = simp (c.and.ensures, c.and-upper.ensures)

@@ -1,0 +1,7 @@
+use Rattle.registers.specs.Registers.{eeprom_of}
+use borrow.Author.Rules.{rules}
+use Rattle.registers.proofs.eeprom.Goals as goal
+
+pub returns : goal.returns
+unfolding eeprom_of
+returns c = simp (c.flag-3.ensures.value, c.flag-2.ensures.value, c.flag.ensures.value)

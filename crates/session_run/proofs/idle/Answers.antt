@@ -1,0 +1,5 @@
+use borrow.Author.Rules.{rules}
+use Rattle.session_run.proofs.idle.Goals as goal
+
+pub returns : goal.returns
+returns c = simp c.empty-session.ensures.value

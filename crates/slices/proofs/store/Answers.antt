@@ -1,0 +1,30 @@
+-- `slices::store` meets its contract. The invariant: what is still to be put, over what stands there now, is the whole.
+use mathlib.Core.Path.{◌≡◌, refl, sym, ◌∙◌}
+use Prim.Native.Nat.{◌+◌, ◌-◌, ◌≤◌}
+use native.Mathlib.Nat.{add-zero}
+use native.Mathlib.Omega.{arith}
+use lib.ListN.{length, drop, get_or, length-set, drop_of_length-le}
+use Rattle.slices.specs.Slices.{put}
+use Rattle.slices.proofs.Laws.{put_more}
+use borrow.Author.Rules.{rules}
+use Rattle.slices.proofs.store.Goals as goal
+
+pub loop-i-init : goal.loop-i-init
+loop-i-init c = (omega arith, refl, rw add-zero refl)
+
+pub loop-i-preserved : goal.loop-i-preserved
+loop-i-preserved c = let s = c.args.src.now in
+    let at = c.args.at in
+    let l = c.loop-i.dst in
+    let i = c.loop-i.i in (
+      omega arith,
+      length-set l (at + i) (get_or s i 0) ∙ c.loop-i.invariant.1,
+      sym (put_more l s at i c.loop-i-test.true) ∙ c.loop-i.invariant.2,
+    )
+
+pub shape_of-dst : goal.shape_of-dst
+shape_of-dst c = c.loop-i.invariant.1
+
+pub returns : goal.returns
+returns c = let none = drop_of_length-le c.args.src.now c.loop-i-test.false in
+    rw none at c.loop-i.invariant.2

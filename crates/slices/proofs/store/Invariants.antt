@@ -1,0 +1,16 @@
+-- `slices::store` meets its contract. The invariant: what is still to be put, over what stands there now, is the whole.
+use mathlib.Core.Path.{◌≡◌, refl, sym, ◌∙◌}
+use Prim.Native.Nat.{◌+◌, ◌-◌, ◌≤◌}
+use native.Mathlib.Nat.{add-zero}
+use native.Mathlib.Omega.{arith}
+use lib.ListN.{length, drop, get_or, length-set, drop_of_length-le}
+use Rattle.slices.specs.Slices.{put}
+use Rattle.slices.proofs.Laws.{put_more}
+use borrow.Author.Rules.{rules}
+use Rattle.slices.proofs.store.Given as goal
+
+abbrev pub invariant-loop-i : goal.invariant-loop-i
+invariant-loop-i l = (l.i ≤ length l.src) × (length l.dst ≡ length l.initial.dst) × (put l.dst (l.at + l.i) (drop l.i l.src) ≡ put l.initial.dst l.at l.src)
+
+abbrev pub decreases-loop-i : goal.decreases-loop-i
+decreases-loop-i l = length l.src - l.i

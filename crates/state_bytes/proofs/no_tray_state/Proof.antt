@@ -1,9 +1,0 @@
-use borrow.Author.Rules.{rules}
-use Rattle.state_bytes.proofs.no_tray_state.Statement.{statement}
-use Rattle.state_bytes.proofs.no_tray_state.Tie as tie
-
-returns : tie.Need-returns
-returns c = (simp c.empty.ensures.0, c.empty.ensures.1)
-
-pub no-tray-state-spec : {M : Type 1} → statement M
-no-tray-state-spec = tie.close (tie.spec (λ c κs. search rules) returns)

@@ -1,0 +1,12 @@
+-- `text::put_fields` meets its contract, by joining its pieces.
+use native.Mathlib.Omega.{arith}
+use Rattle.digits.proofs.Laws.{then, narrow, three}
+use borrow.Author.Rules.{rules}
+use Rattle.text.proofs.put_fields.Goals as goal
+
+pub returns : goal.returns
+returns c = let few = three c.args.answer (omega (arith, c.requires)) in
+    then c.put_byte-a.ensures
+    (then c.put_kind-b.ensures
+    (then c.put_byte-c.ensures
+    (then (narrow c.put_decimal-d.ensures few) c.put_byte.ensures)))

@@ -1,0 +1,15 @@
+-- `text::put_refused_image` meets its contract, by joining its pieces.
+use Prim.Native.Nat.{◌+◌}
+use native.Mathlib.Omega.{arith}
+use Rattle.digits.proofs.Laws.{then, wider}
+use Rattle.text.proofs.put_refused_image.Goals as goal
+
+pub returns : goal.returns
+returns c =
+    wider {m = 37 + (5 + (6 + (5 + (2 + 50))))}
+    (then c.put_bytes-a.ensures
+    (then c.put_decimal-b.ensures
+    (then c.put_bytes-c.ensures
+    (then c.put_decimal-d.ensures
+    (then c.put_bytes-e.ensures c.put_meaning.ensures)))))
+    (omega arith)

@@ -1,0 +1,16 @@
+-- `tray_image::is_number` meets its contract. The invariant: the bytes that are left are all digits exactly where all are.
+use mathlib.Core.Path.{◌≡◌, sym, ◌∙◌}
+use mathlib.Core.Bool.{true}
+use Prim.Native.Nat.{◌≤◌, ◌-◌}
+use native.Mathlib.Omega.{arith}
+use lib.ListN.{length, drop, drop_of_length-le}
+use Rattle.tray_image.specs.TrayImage.{is_digit, all_digits}
+use Rattle.tray_image.proofs.Words.{digit_more, no_digit, number_told, no_number}
+use borrow.Author.Rules.{rules}
+use Rattle.tray_image.proofs.is_number.Given as goal
+
+abbrev pub invariant-loop-i : goal.invariant-loop-i
+invariant-loop-i l = (l.i ≤ length l.word) × (all_digits (drop l.i l.word) ≡ all_digits l.word)
+
+abbrev pub decreases-loop-i : goal.decreases-loop-i
+decreases-loop-i l = length l.word - l.i
