@@ -44,8 +44,6 @@ sound_numbers s at =
     (both (leb 63 (get_or s (at + 112) 0))
     (both (leb (get_or s (at + 112) 0) 128)
     (both (leb (quad_at s (at + 132)) (65535 * (get_or s (at + 136) 0 % 8)))
-    (uncounted_by (profile_in (flag_in (get_or s (at + 45) 0))) (record {
-      count = get_or s (at + 144) 0;
-      rest =
-          quad_at s (at + 145);
-    }) (get_or s (at + 44) 0))))))
+    (uncounted_by (profile_in (flag_in (get_or s (at + 45) 0)))
+    (record { count = get_or s (at + 144) 0; rest = quad_at s (at + 145) })
+    (get_or s (at + 44) 0))))))
