@@ -2,7 +2,7 @@
 use mathlib.Core.Path.{◌≡◌, refl, ap, ◌∙◌}
 use mathlib.Core.Bool.{Bool, false}
 use mathlib.Core.List.{List, [], ◌∷◌}
-use Prim.Native.Nat.{ℕ, ◌+◌, ◌-◌, ◌%◌}
+use Prim.Native.Nat.{ℕ, ◌+◌, ◌%◌}
 use lib.ListN.{length}
 use Rattle.conversion.specs.Conversion.{counted_of, filled_of, settled_of, flowed_of, convert_of, all_converted, current_of, next_made, converted_of}
 use Rattle.state.specs.declared.Charge.{Charge}

@@ -1,7 +1,7 @@
 -- The theorem on the charge books speaks of something: of a session, and of a slot of a tray.
 use mathlib.Core.Path.{◌≡◌, refl, sym, ap, ◌∙◌}
 use mathlib.Core.List.{List, [], ◌∷◌, ◌++◌, map}
-use Prim.Native.Nat.{ℕ, ◌+◌, ◌-◌, ◌≤◌}
+use Prim.Native.Nat.{ℕ, ◌≤◌}
 use native.Mathlib.Omega.{arith}
 use lib.IntN.{pos-ne-negsuc}
 use lib.ListN.{length, get_or, drop, replicate}

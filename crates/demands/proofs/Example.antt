@@ -2,7 +2,7 @@
 use mathlib.Core.Path.{◌≡◌, refl, sym, ap, ◌∙◌}
 use mathlib.Core.Bool.{Bool, true}
 use mathlib.Core.List.{List, [], ◌∷◌, ◌++◌}
-use Prim.Native.Nat.{ℕ, ◌+◌, ◌≤◌}
+use Prim.Native.Nat.{ℕ, ◌≤◌}
 use native.Mathlib.Omega.{arith}
 use lib.ListN.{length, get_or, take, replicate, length-take}
 use Rattle.numbers.specs.Choice.{pick}
@@ -26,7 +26,6 @@ use Rattle.record.specs.Image.{image_address}
 use Rattle.record.specs.Record.{kind_of, addressed_of, ordered_of, judged_among, taken_of}
 use Rattle.preset_session.specs.declared.Written.TheVariants as Written
 use Rattle.preset_session.specs.PresetSession.{programming_of, preset_answer, Granted}
-use Rattle.runs.specs.declared.Outcome.TheVariants.{Done}
 use Rattle.runs.specs.Record.{Rec, whole, whole_of, rec_of, size_of, recs_of, record_of}
 use Rattle.runs.specs.Run.{Line}
 use Rattle.runs.specs.declared.Session.{Session}

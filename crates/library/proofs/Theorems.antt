@@ -1,5 +1,5 @@
 -- Calls one after another, once for any state that is kept as bytes.
-use mathlib.Core.Path.{◌≡◌, refl, sym, ap, ◌∙◌}
+use mathlib.Core.Path.{◌≡◌, refl, ap, ◌∙◌}
 use mathlib.Core.Bool.{Bool, true, false}
 use mathlib.Core.List.{List, [], ◌∷◌}
 use Prim.Native.Nat.{ℕ}
@@ -17,7 +17,7 @@ use Rattle.state_bytes.specs.declared.TrayStateIn.{TrayStateIn}
 use Rattle.state_bytes.specs.Theorems.{StateWf}
 use Rattle.state_bytes.proofs.Undoing.{undoing}
 use Rattle.state_bytes.proofs.TrayUndoing.{no_gauge_wf, empty_tray_good, tray_undoing}
-use Rattle.library.specs.Library.{KeptAs, kept_pack, kept_tray, Started, is_state, headed, RecordDone}
+use Rattle.library.specs.Library.{KeptAs, kept_pack, kept_tray, Started, is_state, RecordDone}
 use Rattle.library.specs.Theorems.{LibraryCall, CallsDone, last_kept, all_done, CallAfterCall, LibraryTheorems}
 
 module _ {S : Type 0} (k : KeptAs S) where

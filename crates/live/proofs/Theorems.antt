@@ -10,12 +10,11 @@ use lib.ListN.{length, length-replicate}
 use Rattle.gauge.proofs.Reached.{image_sized, image_uncounted}
 use Rattle.runs.specs.declared.Session.{Session}
 use Rattle.runs.specs.Record.{Rec, cut}
-use Rattle.runs.specs.Run.{silently, Line, end_after}
+use Rattle.runs.specs.Run.{silently, end_after}
 use Rattle.runs.specs.Step.{own_room}
 use Rattle.runs.specs.Divided.{wholes_in}
 use Rattle.numbers.proofs.Bounds.{picked}
 use Rattle.runs.specs.SessionRecord.{SessionWf, did_of}
-use Rattle.session_run.specs.SessionRun.{empty_of}
 use Rattle.state_bytes.specs.declared.StateIn.{StateIn}
 use Rattle.state_bytes.specs.State.{state_bytes, state_in}
 use Rattle.state_bytes.specs.Theorems.{StateWf}

@@ -13,7 +13,7 @@ use Rattle.runs.specs.Step.{own_room}
 use Rattle.runs.specs.Divided.{wholes_in}
 use Rattle.numbers.proofs.Bounds.{picked}
 use Rattle.tray_record.specs.declared.Tray.{Tray}
-use Rattle.tray_record.specs.Tray.{TrayWf, empty_tray, tray_did}
+use Rattle.tray_record.specs.Tray.{TrayWf, tray_did}
 use Rattle.state_bytes.specs.declared.TrayStateIn.{TrayStateIn}
 use Rattle.state_bytes.specs.TrayState.{tray_state_bytes, tray_state_in}
 use Rattle.state_bytes.specs.Theorems.{TrayStateWf}

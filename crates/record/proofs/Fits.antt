@@ -2,7 +2,7 @@
 use mathlib.Core.Path.{◌≡◌, refl, sym, ap, subst, ◌∙◌}
 use mathlib.Core.Bool.{Bool, true, false, not}
 use mathlib.Core.List.{List}
-use Prim.Native.Nat.{ℕ, ◌+◌, ◌-◌, ◌≤◌, ◌<◌, zero-le}
+use Prim.Native.Nat.{ℕ, ◌+◌, ◌≤◌, ◌<◌, zero-le}
 use native.Mathlib.Omega.{arith}
 use borrow.Author.Tests.{le-ltb, leb-true, eqb-true, ne_eqb, not-true}
 use lib.Dec.{leb, eqb, ltb}
@@ -12,7 +12,6 @@ use Rattle.slices.specs.Slices.{pair_at}
 use Rattle.state.specs.declared.Tick.{Tick}
 use Rattle.state.specs.State.{timely_of, image_size_of}
 use Rattle.state.specs.declared.Profile.{Profile}
-use Rattle.bus.specs.declared.Transaction.{Transaction}
 use Rattle.bus.proofs.Laws.{asked_placed}
 use Rattle.record.specs.declared.Form.{Form}
 use Rattle.record.specs.declared.Form.TheVariants.{Short, Long}

@@ -1,6 +1,5 @@
 use mathlib.Core.Path.{sym, ◌∙◌}
 use Rattle.block1.specs.Block1.{block_copied_of}
-use borrow.Author.Rules.{rules}
 use Rattle.block1.proofs.block_copied.Goals as goal
 
 pub returns-then-and_not : goal.returns-then-and_not

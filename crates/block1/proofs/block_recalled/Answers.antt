@@ -1,6 +1,5 @@
 use mathlib.Core.Path.{sym, ◌∙◌}
 use Rattle.block1.specs.Block1.{block_recalled_of}
-use borrow.Author.Rules.{rules}
 use Rattle.block1.proofs.block_recalled.Goals as goal
 
 pub returns-then-in_block : goal.returns-then-in_block

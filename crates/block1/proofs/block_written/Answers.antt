@@ -1,6 +1,5 @@
 use mathlib.Core.Path.{sym}
 use native.Mathlib.Omega.{arith}
-use borrow.Author.Tests.{not-true, not-false}
 use Rattle.slices.proofs.Laws.{laid_sized}
 use Rattle.block1.specs.Block1.{block_written_of}
 use Rattle.block1.proofs.Kept.{block_written_elsewhere, written_locked}

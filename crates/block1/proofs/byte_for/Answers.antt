@@ -1,6 +1,5 @@
 use native.Mathlib.Omega.{arith}
 use Rattle.block1.proofs.Laws.{reaches_low, reaches_high}
-use borrow.Author.Rules.{rules}
 use Rattle.block1.proofs.byte_for.Goals as goal
 
 pub overflow_sub-result : goal.overflow_sub-result

@@ -1,4 +1,3 @@
-use borrow.Author.Rules.{rules}
 use Rattle.block1.proofs.cells_written.Goals as goal
 
 pub returns : goal.returns

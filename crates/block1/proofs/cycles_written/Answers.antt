@@ -1,6 +1,5 @@
 use mathlib.Core.Path.{sym, ◌∙◌}
 use Rattle.block1.specs.Block1.{cycles_written_of}
-use borrow.Author.Rules.{rules}
 use Rattle.block1.proofs.cycles_written.Goals as goal
 
 pub byte_for-count-requires : goal.byte_for-count-requires

@@ -1,6 +1,5 @@
 use mathlib.Core.Path.{sym, ◌∙◌}
 use Rattle.block1.specs.Block1.{lock_written_of}
-use borrow.Author.Rules.{rules}
 use Rattle.block1.proofs.lock_written.Goals as goal
 
 pub byte_for-requires : goal.byte_for-requires

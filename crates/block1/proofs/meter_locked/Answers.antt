@@ -1,5 +1,4 @@
 use Rattle.block1.specs.Block1.{meter_locked_of}
-use borrow.Author.Rules.{rules}
 use Rattle.block1.proofs.meter_locked.Goals as goal
 
 pub returns : goal.returns

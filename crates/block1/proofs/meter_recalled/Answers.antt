@@ -1,6 +1,5 @@
 use mathlib.Core.Path.{◌∙◌}
 use Rattle.block1.specs.Block1.{meter_recalled_of}
-use borrow.Author.Rules.{rules}
 use Rattle.block1.proofs.meter_recalled.Goals as goal
 
 pub returns : goal.returns

@@ -6,7 +6,6 @@ use Rattle.conversion.specs.Conversion.{with_flags}
 use Rattle.state.specs.declared.Charge.{Charge}
 use Rattle.block1.specs.Block1.{acr_written_of, cycles_written_of, cells_written_of, flags_written_of, meter_written_of}
 use Rattle.block1.proofs.Kept.{written_above}
-use borrow.Author.Rules.{rules}
 use Rattle.block1.proofs.meter_written.Goals as goal
 
 flowing : (m : Meter) (a : ℕ) (bytes : List ℕ) → m.flow ≡ (meter_written_of m a bytes).flow

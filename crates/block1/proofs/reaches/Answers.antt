@@ -1,5 +1,4 @@
 use Rattle.block1.specs.Block1.{reaches_of}
-use borrow.Author.Rules.{rules}
 use Rattle.block1.proofs.reaches.Goals as goal
 
 pub returns : goal.returns

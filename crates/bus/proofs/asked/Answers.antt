@@ -4,7 +4,6 @@ use Prim.Native.Nat.{ℕ}
 use Rattle.bus.specs.declared.Rom.{Rom}
 use Rattle.bus.specs.declared.Transaction.{Transaction}
 use Rattle.bus.specs.Ask.{rom_of, asked_by, asked_of}
-use borrow.Author.Rules.{rules}
 use Rattle.bus.proofs.asked.Goals as goal
 
 arm : (start count : ℕ) (master : List ℕ) (said rom : Rom) (r : Transaction) → said ≡ rom_of master → said ≡ rom →

@@ -1,7 +1,6 @@
 use mathlib.Core.Path.{◌∙◌}
 use borrow.Author.Tests.{lt-ltb, le-ltb}
 use Rattle.bus.specs.Ask.{asked_at}
-use borrow.Author.Rules.{rules}
 use Rattle.bus.proofs.asked_at.Goals as goal
 
 pub returns-then-master-i : goal.returns-then-master-i

@@ -1,6 +1,5 @@
 use native.Mathlib.Omega.{arith}
 use Rattle.bus.proofs.Laws.{number_eight}
-use borrow.Author.Rules.{rules}
 use Rattle.bus.proofs.number8.Goals as goal
 
 pub returns : goal.returns

@@ -5,7 +5,6 @@ use native.Mathlib.Omega.{arith}
 use lib.ListN.{length, get_or}
 use Rattle.bus.specs.declared.Rom.TheVariants.{Quiet}
 use Rattle.bus.specs.Ask.{rom_by, rom_of}
-use borrow.Author.Rules.{rules}
 use Rattle.bus.proofs.rom_of.Goals as goal
 
 rom-none : (master : List ℕ) → length master ≡ 0 → Quiet ≡ rom_of master

@@ -1,4 +1,3 @@
--- `checksum::put_sums` meets its contract, by the laws of its loop.
 use Rattle.checksum.proofs.Going.{more}
 use Rattle.checksum.proofs.put_sums.Goals as goal
 

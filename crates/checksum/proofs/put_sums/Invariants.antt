@@ -1,8 +1,7 @@
 -- `checksum::put_sums` meets its contract, by the laws of its loop.
 use Prim.Native.Nat.{◌-◌}
 use lib.ListN.{length}
-use Rattle.checksum.proofs.Going.{Going, start, more, ended}
-use borrow.Author.Rules.{rules}
+use Rattle.checksum.proofs.Going.{Going}
 use Rattle.checksum.proofs.put_sums.Given as goal
 
 abbrev pub invariant-loop-at : goal.invariant-loop-at

@@ -1,4 +1,3 @@
-use borrow.Author.Rules.{rules}
 use Rattle.conversion.proofs.added.Goals as goal
 
 pub returns-then-mark : goal.returns-then-mark

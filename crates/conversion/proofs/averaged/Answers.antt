@@ -1,6 +1,5 @@
 use borrow.Author.Tests.{ne_eqb}
 use Rattle.conversion.specs.Conversion.{averaged_of}
-use borrow.Author.Rules.{rules}
 use Rattle.conversion.proofs.averaged.Goals as goal
 
 pub returns-then-average-eq7 : goal.returns-then-average-eq7

@@ -4,7 +4,6 @@ use Rattle.numbers.specs.Choice.{pick}
 use Rattle.numbers.specs.Offset.{zero_at}
 use Rattle.state.specs.State.{blanking_edge_of}
 use Rattle.conversion.proofs.ChargeLaws.{blanked_slight, blanked_strong}
-use borrow.Author.Rules.{rules}
 use Rattle.conversion.proofs.blanked.Goals as goal
 
 pub returns-then-and : goal.returns-then-and

@@ -2,7 +2,6 @@ use mathlib.Core.Path.{refl}
 use native.Mathlib.Omega.{arith}
 use Rattle.conversion.proofs.ChargeLaws.{counted_wf}
 use Rattle.conversion.specs.Conversion.{convert_of}
-use borrow.Author.Rules.{rules}
 use Rattle.conversion.proofs.convert.Goals as goal
 
 pub charged-requires : goal.charged-requires

@@ -1,5 +1,4 @@
 use borrow.Author.Tests.{ne_eqb}
-use borrow.Author.Rules.{rules}
 use Rattle.conversion.proofs.converted.Goals as goal
 
 pub returns-then-flow-eq1023 : goal.returns-then-flow-eq1023

@@ -1,5 +1,4 @@
 use Rattle.conversion.specs.Conversion.{counted_of}
-use borrow.Author.Rules.{rules}
 use Rattle.conversion.proofs.counted.Goals as goal
 
 pub returns : goal.returns

@@ -1,5 +1,4 @@
 use Rattle.conversion.specs.Conversion.{found_of}
-use borrow.Author.Rules.{rules}
 use Rattle.conversion.proofs.found.Goals as goal
 
 pub returns : goal.returns

@@ -1,5 +1,4 @@
 use Rattle.conversion.proofs.ChargeLaws.{learning_on, learning_off}
-use borrow.Author.Rules.{rules}
 use Rattle.conversion.proofs.learning.Goals as goal
 
 pub returns-then-learnf : goal.returns-then-learnf

@@ -2,7 +2,6 @@ use Prim.Native.Nat.{◌*◌}
 use native.Mathlib.Nat.{mod-lt}
 use native.Mathlib.Omega.{arith}
 use borrow.Author.Tests.{ne_eqb}
-use borrow.Author.Rules.{rules}
 use Rattle.conversion.proofs.rest.Goals as goal
 
 pub returns-then-full40-eq0 : goal.returns-then-full40-eq0

@@ -1,11 +1,7 @@
--- `crc::crc` meets its contract. The invariant: the CRC from here, over the bytes that are left, is the CRC of all.
-use mathlib.Core.Path.{◌≡◌, ◌∙◌, sym}
-use Prim.Native.Nat.{◌≤◌, ◌-◌}
+use mathlib.Core.Path.{◌∙◌, sym}
 use native.Mathlib.Omega.{arith}
-use lib.ListN.{length, drop, drop_of_length-le}
-use Rattle.crc.specs.Crc.{crc_from, crc_of}
+use lib.ListN.{drop_of_length-le}
 use Rattle.crc.proofs.Laws.{crc_more}
-use borrow.Author.Rules.{rules}
 use Rattle.crc.proofs.crc.Goals as goal
 
 pub next-c-requires : goal.next-c-requires

@@ -1,4 +1,3 @@
--- `digits::put_few` meets its contract. The invariant is that of `put_many`; the table has the two digits of each byte.
 use native.Mathlib.Omega.{arith}
 use Rattle.digits.specs.Digits.{lower}
 use Rattle.digits.proofs.Laws.{hex_then}

@@ -1,4 +1,3 @@
--- `digits::put_upper` meets its contract. The invariant: the bytes so far stand in hex.
 use native.Mathlib.Omega.{arith}
 use Rattle.digits.specs.Digits.{upper}
 use Rattle.digits.proofs.Laws.{hex_then}

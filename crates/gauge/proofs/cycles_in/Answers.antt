@@ -1,7 +1,6 @@
 use mathlib.Core.Path.{refl, ap, ◌∙◌}
 use native.Mathlib.Omega.{arith}
 use Rattle.state.specs.State.{image_size_of}
-use borrow.Author.Rules.{rules}
 use Rattle.gauge.proofs.cycles_in.Goals as goal
 
 pub bounds-image-60 : goal.bounds-image-60

@@ -1,5 +1,4 @@
 use Rattle.gauge.specs.Image.{image_of}
-use borrow.Author.Rules.{rules}
 use Rattle.gauge.proofs.image_in.Goals as goal
 
 pub returns : goal.returns

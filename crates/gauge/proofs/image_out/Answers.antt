@@ -9,7 +9,6 @@ use Rattle.slices.specs.Slices.{put}
 use Rattle.slices.proofs.Laws.{put_next}
 use Rattle.gauge.specs.Image.{room_after, tail_of, cycle_cell, image_end, bytes_of, size_for}
 use Rattle.gauge.proofs.Image.{joint_put, end_length}
-use borrow.Author.Rules.{rules}
 use Rattle.gauge.proofs.image_out.Goals as goal
 
 pub returns-then-room-image_size : goal.returns-then-room-image_size

@@ -1,4 +1,3 @@
-use borrow.Author.Rules.{rules}
 use Rattle.gauge.proofs.tail.Goals as goal
 
 pub returns : goal.returns

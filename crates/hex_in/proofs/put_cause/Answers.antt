@@ -9,7 +9,6 @@ use Rattle.digits.specs.Digits.{Writing}
 use Rattle.digits.proofs.Laws.{wider}
 use Rattle.intel_hex.specs.declared.Cause.{Cause}
 use Rattle.hex_in.specs.HexIn.{cause_words}
-use borrow.Author.Rules.{rules}
 use Rattle.hex_in.proofs.put_cause.Goals as goal
 
 told : {most at next : ℕ} {cause known : Cause} {room after : List ℕ} → cause ≡ known → Writing most (cause_words known) room at next after

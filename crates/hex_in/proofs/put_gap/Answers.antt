@@ -6,7 +6,6 @@ use Rattle.streams.specs.declared.Said.{Said}
 use Rattle.streams.specs.Streams.{Saying, error, refused_text}
 use Rattle.intel_hex.specs.declared.Gap.{Gap}
 use Rattle.hex_in.specs.HexIn.{gap_words}
-use borrow.Author.Rules.{rules}
 use Rattle.hex_in.proofs.put_gap.Goals as goal
 
 told : (number : ℕ) {gap known : Gap} {room after : List ℕ} {said : Said} → gap ≡ known

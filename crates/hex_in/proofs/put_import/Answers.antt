@@ -4,7 +4,6 @@ use native.Mathlib.Nat.{zero-add}
 use borrow.Author.Tests.{lt-ltb}
 use Rattle.hex_in.specs.HexIn.{hex_in_speech}
 use Rattle.hex_in.proofs.Laws.{bytes_said, refusal_said}
-use borrow.Author.Rules.{rules}
 use Rattle.hex_in.proofs.put_import.Goals as goal
 
 pub returns-then-text-gt65536 : goal.returns-then-text-gt65536

@@ -7,7 +7,6 @@ use Rattle.streams.specs.Streams.{Saying, error, refused_text}
 use Rattle.intel_hex.specs.declared.Gap.{Gap}
 use Rattle.hex_in.specs.HexIn.{gap_words}
 use Rattle.hex_in.proofs.Laws.{why_said}
-use borrow.Author.Rules.{rules}
 use Rattle.hex_in.proofs.put_why.Goals as goal
 
 gap-said : (number : ℕ) {gap known : Gap} {room after : List ℕ} {said : Said} → known ≡ gap

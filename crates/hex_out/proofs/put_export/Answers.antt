@@ -1,7 +1,6 @@
 -- `hex_out::put_export` meets its contract.
 use mathlib.Core.Path.{refl}
 use Rattle.hex_out.proofs.Laws.{text_said, refusal_said}
-use borrow.Author.Rules.{rules}
 use Rattle.hex_out.proofs.put_export.Goals as goal
 
 pub returns-then-unread : goal.returns-then-unread

@@ -3,7 +3,6 @@ use mathlib.Core.Path.{sym, ap, ◌∙◌}
 use borrow.Author.Tests.{eq-eqb, ne_eqb}
 use Rattle.record.specs.Record.{taken_number}
 use Rattle.hex_out.specs.HexOut.{refused_side_words}
-use borrow.Author.Rules.{rules}
 use Rattle.hex_out.proofs.put_image_refused.Goals as goal
 
 pub returns-then-first-eq0 : goal.returns-then-first-eq0

@@ -2,7 +2,6 @@
 use Prim.Native.Nat.{◌+◌}
 use native.Mathlib.Omega.{arith}
 use Rattle.digits.proofs.Laws.{then, wider}
-use borrow.Author.Rules.{rules}
 use Rattle.hex_out.proofs.put_refusal.Goals as goal
 
 pub returns : goal.returns

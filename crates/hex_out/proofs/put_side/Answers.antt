@@ -2,7 +2,6 @@
 use mathlib.Core.Path.{refl, ◌∙◌}
 use native.Mathlib.Nat.{zero-add}
 use Rattle.digits.proofs.Laws.{then}
-use borrow.Author.Rules.{rules}
 use Rattle.hex_out.proofs.put_side.Goals as goal
 
 pub returns : goal.returns

@@ -1,6 +1,5 @@
 -- `hex_out::put_why` meets its contract.
 use Rattle.hex_out.proofs.Laws.{why_said}
-use borrow.Author.Rules.{rules}
 use Rattle.hex_out.proofs.put_why.Goals as goal
 
 pub returns-in-Line : goal.returns-in-Line

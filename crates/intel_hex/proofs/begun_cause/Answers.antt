@@ -1,4 +1,4 @@
--- `hex::begun_cause` meets its contract.
+-- `intel_hex::begun_cause` meets its contract.
 use Rattle.std.proofs.Common.{refl, le-ltb, lt-ltb, eq-eqb, ne_eqb}
 use Rattle.intel_hex.specs.Flaw.{begun_cause}
 use Rattle.intel_hex.proofs.begun_cause.Goals as goal

@@ -1,4 +1,4 @@
--- `hex::both_accepted` meets its contract.
+-- `intel_hex::both_accepted` meets its contract.
 use Rattle.intel_hex.specs.Export.{both_accepted}
 use Rattle.intel_hex.proofs.both_accepted.Goals as goal
 

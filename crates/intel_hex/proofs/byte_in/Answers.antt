@@ -1,4 +1,4 @@
--- `hex::byte_in` meets its contract.
+-- `intel_hex::byte_in` meets its contract.
 use Rattle.std.proofs.Common.{◌∙◌}
 use Rattle.intel_hex.proofs.Laws.{byte_read, byte_past}
 use Rattle.intel_hex.proofs.byte_in.Goals as goal

@@ -1,4 +1,4 @@
--- `hex::cause_of` meets its contract.
+-- `intel_hex::cause_of` meets its contract.
 use Rattle.std.proofs.Common.{sym, refl, ◌∙◌, arith}
 use Rattle.intel_hex.specs.Flaw.{cause_of}
 use Rattle.intel_hex.proofs.Laws.{formed_long}

@@ -1,4 +1,4 @@
--- `hex::judged` meets its contract.
+-- `intel_hex::checked_line` meets its contract.
 use Rattle.std.proofs.Common.{sym, refl, ◌∙◌, arith}
 use Rattle.intel_hex.specs.Line.{checked_line_of}
 use Rattle.intel_hex.proofs.Laws.{formed_long}

@@ -1,4 +1,4 @@
--- `hex::count` meets its contract. The invariant: so many so far, and those among the lines from here on, are all.
+-- `intel_hex::count` meets its contract. The invariant: so many so far, and those among the lines from here on, are all.
 use Rattle.std.proofs.Common.{◌≡◌, ◌+◌, ◌-◌, ◌≤◌, length, drop}
 use Rattle.intel_hex.specs.Import.{text_lines, count_of}
 use Rattle.intel_hex.proofs.count.Given as goal

@@ -1,4 +1,4 @@
--- `hex::data_record` meets its contract.
+-- `intel_hex::data_record` meets its contract.
 use Rattle.std.proofs.Common.{ℕ, List, set, ap, ◌∙◌, arith}
 use Rattle.slices.specs.Slices.{put}
 use Rattle.intel_hex.proofs.Laws.{record_laid}

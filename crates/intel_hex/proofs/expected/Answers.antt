@@ -1,4 +1,4 @@
--- `hex::known` meets its contract.
+-- `intel_hex::expected` meets its contract.
 use Rattle.intel_hex.specs.Line.{expected_of}
 use Rattle.intel_hex.proofs.expected.Goals as goal
 

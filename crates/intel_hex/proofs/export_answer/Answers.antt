@@ -1,4 +1,4 @@
--- `hex::export_answer` meets its contract.
+-- `intel_hex::export_answer` meets its contract.
 use Rattle.std.proofs.Common.{sym, refl, ◌∙◌, le-ltb, lt-ltb}
 use Rattle.intel_hex.specs.Export.{export_answer}
 use Rattle.intel_hex.proofs.export_answer.Goals as goal

@@ -1,4 +1,4 @@
--- `hex::label` meets its contract.
+-- `intel_hex::export_label` meets its contract.
 use Rattle.std.proofs.Common.{◌≡◌, ℕ, true, List, sym, refl, ◌∙◌, arith, eq-eqb, ne_eqb}
 use Rattle.record.specs.Image.{image_label, image_bl0}
 use Rattle.intel_hex.specs.Export.{both_accepted, export_label}

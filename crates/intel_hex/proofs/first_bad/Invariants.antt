@@ -1,4 +1,4 @@
--- `hex::first_bad` meets its contract. The invariant: no line so far is bad, so that the first bad one from here on is the first of all; and there
+-- `intel_hex::first_bad` meets its contract. The invariant: no line so far is bad, so that the first bad one from here on is the first of all; and there
 -- are no more lines than bytes.
 use Rattle.std.proofs.Common.{◌≡◌, ◌+◌, ◌-◌, ◌≤◌, length, drop}
 use Rattle.intel_hex.specs.Import.{text_lines}

@@ -1,4 +1,4 @@
--- `hex::first_gap` meets its contract.
+-- `intel_hex::first_gap` meets its contract.
 use Rattle.std.proofs.Common.{sym, refl, ◌∙◌, eq-eqb, ne_eqb}
 use Rattle.intel_hex.specs.Flaw.{gap_of}
 use Rattle.intel_hex.proofs.first_gap.Goals as goal

@@ -1,4 +1,4 @@
--- `hex::form_cause` meets its contract.
+-- `intel_hex::form_cause` meets its contract.
 use Rattle.std.proofs.Common.{refl, eq-eqb, ne_eqb}
 use Rattle.intel_hex.specs.Flaw.{form_cause}
 use Rattle.intel_hex.proofs.form_cause.Goals as goal

@@ -1,4 +1,4 @@
--- `hex::formed` meets its contract.
+-- `intel_hex::formed` meets its contract.
 use Rattle.std.proofs.Common.{arith}
 use Rattle.intel_hex.proofs.Laws.{formed_short, formed_asked}
 use Rattle.intel_hex.proofs.formed.Goals as goal

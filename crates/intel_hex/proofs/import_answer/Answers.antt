@@ -1,4 +1,4 @@
--- `hex::import_answer` meets its contract.
+-- `intel_hex::import_answer` meets its contract.
 use Rattle.std.proofs.Common.{sym, refl, ◌∙◌, le-ltb, lt-ltb}
 use Rattle.intel_hex.specs.Import.{import_answer}
 use Rattle.intel_hex.proofs.import_answer.Goals as goal

@@ -1,4 +1,4 @@
--- `hex::last` meets its contract. The invariant: the last of the lines from here on is the last of all.
+-- `intel_hex::last_address` meets its contract. The invariant: the last of the lines from here on is the last of all.
 use Rattle.std.proofs.Common.{◌≡◌, ◌-◌, ◌≤◌, length, drop}
 use Rattle.intel_hex.specs.Import.{text_lines, last_address}
 use Rattle.intel_hex.proofs.last_address.Given as goal

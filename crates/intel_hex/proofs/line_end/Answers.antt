@@ -1,4 +1,3 @@
--- `hex::line_end` meets its contract. The invariant: no line feed so far.
 use Rattle.std.proofs.Common.{arith, eq-eqb, ne_eqb}
 use Rattle.intel_hex.proofs.Lines.{line_more, line_fed, line_last}
 use Rattle.intel_hex.proofs.line_end.Goals as goal

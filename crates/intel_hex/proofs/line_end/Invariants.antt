@@ -1,4 +1,4 @@
--- `hex::line_end` meets its contract. The invariant: no line feed so far.
+-- `intel_hex::line_end` meets its contract. The invariant: no line feed so far.
 use Rattle.std.proofs.Common.{◌-◌, ◌≤◌, length}
 use Rattle.intel_hex.proofs.Lines.{Unfed}
 use Rattle.intel_hex.proofs.line_end.Given as goal

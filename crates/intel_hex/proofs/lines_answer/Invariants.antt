@@ -1,4 +1,4 @@
--- `hex::lines_answer` meets its contract. The invariant: the lines from here on answer as all do.
+-- `intel_hex::lines_answer` meets its contract. The invariant: the lines from here on answer as all do.
 use Rattle.std.proofs.Common.{◌≡◌, ◌-◌, ◌≤◌, length, drop}
 use Rattle.intel_hex.specs.Import.{text_lines, lines_answer}
 use Rattle.intel_hex.proofs.lines_answer.Given as goal

@@ -1,4 +1,4 @@
--- `hex::pairs_cause` meets its contract.
+-- `intel_hex::pairs_cause` meets its contract.
 use Rattle.std.proofs.Common.{refl, arith, eq-eqb, ne_eqb}
 use Rattle.intel_hex.specs.Flaw.{pairs_cause}
 use Rattle.intel_hex.proofs.Flaws.{digits_alone}

@@ -1,4 +1,3 @@
--- `hex::put_data` meets its contract. The invariant: what is still to be put, over what stands there now, is the whole.
 use Rattle.std.proofs.Common.{ℕ, ◌+◌, drop, set, sym, ap, ◌∙◌, arith, length-set, drop_of_length-le}
 use Rattle.slices.specs.Slices.{put}
 use Rattle.slices.proofs.Laws.{put_more}

@@ -1,4 +1,4 @@
--- `hex::put_data` meets its contract. The invariant: what is still to be put, over what stands there now, is the whole.
+-- `intel_hex::put_data` meets its contract. The invariant: what is still to be put, over what stands there now, is the whole.
 use Rattle.std.proofs.Common.{◌≡◌, ◌+◌, ◌-◌, ◌≤◌, length, drop}
 use Rattle.slices.specs.Slices.{put}
 use Rattle.intel_hex.specs.Line.{data_in}

@@ -1,4 +1,3 @@
--- `hex::put_found` meets its contract. The invariant: the data are among the lines from here on, and nothing was written.
 use Rattle.std.proofs.Common.{ℕ, ◌-◌, eqb, length, sym, ap, ◌∙◌, arith, eq-eqb}
 use Rattle.slices.specs.Slices.{part}
 use Rattle.intel_hex.proofs.Laws.{data_long}

@@ -1,4 +1,4 @@
--- `hex::put_found` meets its contract. The invariant: the data are among the lines from here on, and nothing was written.
+-- `intel_hex::put_found` meets its contract. The invariant: the data are among the lines from here on, and nothing was written.
 use Rattle.std.proofs.Common.{◌≡◌, ◌-◌, ◌≤◌, length, drop}
 use Rattle.intel_hex.specs.Import.{text_lines, data_at}
 use Rattle.intel_hex.proofs.put_found.Given as goal

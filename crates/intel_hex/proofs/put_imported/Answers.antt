@@ -1,4 +1,4 @@
--- `hex::put_imported` meets its contract: three parts, one behind the other.
+-- `intel_hex::put_imported` meets its contract: three parts, one behind the other.
 use Rattle.std.proofs.Common.{ℕ, List, ap, ◌∙◌}
 use Rattle.slices.specs.Slices.{put}
 use Rattle.intel_hex.specs.Import.{text_lines, data_at}

@@ -1,4 +1,4 @@
--- `hex::put_line` meets its contract, by joining its pieces.
+-- `intel_hex::put_line` meets its contract, by joining its pieces.
 use Rattle.digits.proofs.Laws.{then}
 use Rattle.intel_hex.proofs.put_line.Goals as goal
 

@@ -1,4 +1,4 @@
--- `hex::put_text` meets its contract: four lines, one behind the other.
+-- `intel_hex::put_text` meets its contract: four lines, one behind the other.
 use Rattle.digits.proofs.Laws.{then}
 use Rattle.intel_hex.proofs.Texts.{text_written}
 use Rattle.intel_hex.proofs.put_text.Goals as goal

@@ -1,4 +1,4 @@
--- `hex::read` meets its contract.
+-- `intel_hex::read_text` meets its contract.
 use Rattle.std.proofs.Common.{length, sym, ◌∙◌}
 use Rattle.intel_hex.specs.Import.{text_lines}
 use Rattle.intel_hex.proofs.Lines.{import_fits, import_sized}

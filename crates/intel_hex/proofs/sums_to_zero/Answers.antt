@@ -1,4 +1,4 @@
--- `hex::summed` meets its contract.
+-- `intel_hex::sums_to_zero` meets its contract.
 use Rattle.std.proofs.Common.{◌≡◌, ℕ, ◌-◌, ◌%◌, eqb, length, ap, ◌∙◌, arith}
 use Rattle.slices.specs.Slices.{part}
 use Rattle.digits.specs.Digits.{upper, hex_bytes}

@@ -1,4 +1,4 @@
--- `hex::total` meets its contract. The invariant: the sum so far, with the bytes that are left, is the sum of all.
+-- `intel_hex::total` meets its contract. The invariant: the sum so far, with the bytes that are left, is the sum of all.
 use Rattle.std.proofs.Common.{◌≡◌, ◌+◌, ◌-◌, ◌%◌, ◌<◌, ◌≤◌, length, drop}
 use Rattle.intel_hex.specs.Line.{byte_sum}
 use Rattle.intel_hex.proofs.total.Given as goal

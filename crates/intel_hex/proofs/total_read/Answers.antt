@@ -1,4 +1,3 @@
--- `hex::total_read` meets its contract. The invariant is that of `total`, of the bytes that the digits stand for.
 use Rattle.std.proofs.Common.{drop, arith, length-drop}
 use Rattle.intel_hex.proofs.Laws.{read_end}
 use Rattle.intel_hex.proofs.total_read.Goals as goal

@@ -1,4 +1,4 @@
--- `hex::total_read` meets its contract. The invariant is that of `total`, of the bytes that the digits stand for.
+-- `intel_hex::total_read` meets its contract. The invariant is that of `total`, of the bytes that the digits stand for.
 use Rattle.std.proofs.Common.{◌≡◌, ◌+◌, ◌-◌, ◌%◌, ◌<◌, ◌≤◌, length, drop}
 use Rattle.digits.specs.Digits.{upper, hex_bytes}
 use Rattle.intel_hex.specs.Line.{byte_sum}

@@ -1,4 +1,4 @@
--- `hex::whole` meets its contract.
+-- `intel_hex::whole_text` meets its contract.
 use Rattle.intel_hex.specs.Import.{whole_text}
 use Rattle.intel_hex.proofs.whole_text.Goals as goal
 

@@ -1,4 +1,4 @@
--- `hex::write` meets its contract.
+-- `intel_hex::write_text` meets its contract.
 use Rattle.std.proofs.Common.{length, sym, ap, ◌∙◌, arith}
 use Rattle.intel_hex.proofs.Texts.{granted, pack_sized, label_sized, block_sized}
 use Rattle.intel_hex.proofs.write_text.Goals as goal

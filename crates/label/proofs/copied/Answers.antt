@@ -1,6 +1,5 @@
 use mathlib.Core.Path.{sym, ◌∙◌}
 use Rattle.label.specs.Label.{label_copied_of}
-use borrow.Author.Rules.{rules}
 use Rattle.label.proofs.copied.Goals as goal
 
 pub returns-then-and_not : goal.returns-then-and_not

@@ -1,5 +1,4 @@
 use Rattle.label.specs.Label.{in_block}
-use borrow.Author.Rules.{rules}
 use Rattle.label.proofs.in_block.Goals as goal
 
 pub returns : goal.returns

@@ -1,5 +1,4 @@
 use Rattle.label.specs.Label.{in_label}
-use borrow.Author.Rules.{rules}
 use Rattle.label.proofs.in_label.Goals as goal
 
 pub returns : goal.returns

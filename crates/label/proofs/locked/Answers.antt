@@ -1,5 +1,4 @@
 use Rattle.label.specs.Label.{common_locked_of}
-use borrow.Author.Rules.{rules}
 use Rattle.label.proofs.locked.Goals as goal
 
 pub returns : goal.returns

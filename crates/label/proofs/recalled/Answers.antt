@@ -1,6 +1,5 @@
 use mathlib.Core.Path.{sym, ◌∙◌}
 use Rattle.label.specs.Label.{label_recalled_of}
-use borrow.Author.Rules.{rules}
 use Rattle.label.proofs.recalled.Goals as goal
 
 pub returns-then-in_label : goal.returns-then-in_label

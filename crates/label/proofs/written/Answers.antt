@@ -3,7 +3,7 @@ use mathlib.Core.List.{List}
 use Prim.Native.Nat.{ℕ, ◌≤◌}
 use lib.Dec.{leb, eqb}
 use lib.ListN.{length}
-use borrow.Author.Tests.{not-true, not-false, eqb-true, leb-true}
+use borrow.Author.Tests.{eqb-true, leb-true}
 use Rattle.numbers.proofs.Bounds.{both_true}
 use Rattle.slices.specs.Slices.{part, laid_of}
 use Rattle.slices.proofs.Laws.{put_whole, part_length, laid_sized}

@@ -4,7 +4,6 @@ use Rattle.session_run.specs.SessionRun.{take_out_number, take_out_room}
 use Rattle.state_bytes.specs.declared.StateIn.{StateIn}
 use Rattle.library.specs.Library.{kept_pack}
 use Rattle.library.proofs.Calls.{image_none, image_refused, image_taken}
-use borrow.Author.Rules.{rules}
 use Rattle.library.proofs.trovimbe_image.Goals as goal
 
 pub returns-then-held-ne0 : goal.returns-then-held-ne0

@@ -1,6 +1,5 @@
 use Rattle.library.specs.Library.{kept_pack}
 use Rattle.library.proofs.Calls.{record_short, pack_done}
-use borrow.Author.Rules.{rules}
 use Rattle.library.proofs.trovimbe_record.Goals as goal
 
 pub returns-then-bytes-lt4 : goal.returns-then-bytes-lt4

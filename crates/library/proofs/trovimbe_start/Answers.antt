@@ -1,6 +1,5 @@
 use Rattle.library.specs.Library.{kept_pack}
 use Rattle.library.proofs.Calls.{not_started, pack_started}
-use borrow.Author.Rules.{rules}
 use Rattle.library.proofs.trovimbe_start.Goals as goal
 
 pub returns-then-state-ne172 : goal.returns-then-state-ne172

@@ -5,7 +5,6 @@ use Rattle.tray_run.specs.TrayRun.{slot_out_number, slot_out_room}
 use Rattle.state_bytes.specs.declared.TrayStateIn.{TrayStateIn}
 use Rattle.library.specs.Library.{kept_tray}
 use Rattle.library.proofs.Calls.{image_none, image_refused, image_taken}
-use borrow.Author.Rules.{rules}
 use Rattle.library.proofs.trovimbe_tray_image.Goals as goal
 
 pub returns-then-kept-ne0 : goal.returns-then-kept-ne0

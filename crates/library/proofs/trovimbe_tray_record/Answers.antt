@@ -1,6 +1,5 @@
 use Rattle.library.specs.Library.{kept_tray}
 use Rattle.library.proofs.Calls.{record_short, tray_done}
-use borrow.Author.Rules.{rules}
 use Rattle.library.proofs.trovimbe_tray_record.Goals as goal
 
 pub returns-then-bytes-lt4 : goal.returns-then-bytes-lt4

@@ -1,6 +1,5 @@
 use Rattle.library.specs.Library.{kept_tray}
 use Rattle.library.proofs.Calls.{not_started, tray_started}
-use borrow.Author.Rules.{rules}
 use Rattle.library.proofs.trovimbe_tray_start.Goals as goal
 
 pub returns-then-state-ne1363 : goal.returns-then-state-ne1363

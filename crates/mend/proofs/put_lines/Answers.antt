@@ -1,6 +1,5 @@
 -- `mend::put_lines` meets its contract.
 use Rattle.mend.proofs.Laws.{lines_said, refusal_said}
-use borrow.Author.Rules.{rules}
 use Rattle.mend.proofs.put_lines.Goals as goal
 
 pub returns-in-Lines : goal.returns-in-Lines

@@ -1,7 +1,6 @@
 -- `mend::put_mended` meets its contract.
 use mathlib.Core.Path.{refl}
 use Rattle.mend.proofs.Laws.{filed}
-use borrow.Author.Rules.{rules}
 use Rattle.mend.proofs.put_mended.Goals as goal
 
 pub returns-then-failed : goal.returns-then-failed

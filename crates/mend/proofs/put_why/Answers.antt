@@ -1,6 +1,5 @@
 -- `mend::put_why` meets its contract.
 use Rattle.mend.proofs.Laws.{why_said}
-use borrow.Author.Rules.{rules}
 use Rattle.mend.proofs.put_why.Goals as goal
 
 pub returns-in-Size : goal.returns-in-Size

@@ -1,4 +1,4 @@
--- `mending::number` meets its contract.
+-- `mending::mended_number` meets its contract.
 use mathlib.Core.Path.{◌≡◌}
 use Rattle.mending.specs.Mending.{mended_number}
 use borrow.Author.Rules.{rules}

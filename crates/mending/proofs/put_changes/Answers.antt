@@ -1,4 +1,3 @@
--- `mending::put_changes` meets its contract. The invariant: the lines of the bytes so far stand at the front of the room.
 use native.Mathlib.Omega.{arith}
 use mathlib.Core.Path.{sym, ◌∙◌}
 use Rattle.mending.proofs.Laws.{changes_then}

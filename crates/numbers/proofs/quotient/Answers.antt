@@ -1,4 +1,3 @@
-use borrow.Author.Rules.{rules}
 use native.Mathlib.Nat.{div-zero}
 use Rattle.numbers.proofs.quotient.Goals as goal
 

@@ -6,7 +6,6 @@ use Rattle.record.specs.declared.Refusal.{Refusal}
 use Rattle.streams.specs.declared.Said.{Said}
 use Rattle.streams.specs.Streams.{Saying, error, refused_text}
 use Rattle.preset.specs.Preset.{preset_image_words}
-use borrow.Author.Rules.{rules}
 use Rattle.preset.proofs.put_judged.Goals as goal
 
 told : (number : ℕ) {refusal known : Refusal} {room after : List ℕ} {said : Said} → refusal ≡ known

@@ -1,7 +1,6 @@
 -- `preset::put_preset` meets its contract.
 use mathlib.Core.Path.{refl}
 use Rattle.preset.proofs.Laws.{session_said, refusal_said}
-use borrow.Author.Rules.{rules}
 use Rattle.preset.proofs.put_preset.Goals as goal
 
 pub returns-then-unread : goal.returns-then-unread

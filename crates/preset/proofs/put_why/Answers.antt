@@ -1,6 +1,5 @@
 -- `preset::put_why` meets its contract.
 use Rattle.preset.proofs.Laws.{why_said}
-use borrow.Author.Rules.{rules}
 use Rattle.preset.proofs.put_why.Goals as goal
 
 pub returns-in-Image : goal.returns-in-Image

@@ -1,4 +1,4 @@
--- `preset_session::write` meets its contract.
+-- `preset_session::write_session` meets its contract.
 use mathlib.Core.Path.{◌≡◌, refl, sym, ap, ◌∙◌}
 use mathlib.Core.List.{List}
 use Prim.Native.Nat.{ℕ}

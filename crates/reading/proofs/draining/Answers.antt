@@ -1,5 +1,4 @@
 use Rattle.reading.specs.Reading.{draining_of}
-use borrow.Author.Rules.{rules}
 use Rattle.reading.proofs.draining.Goals as goal
 
 pub returns : goal.returns

@@ -1,6 +1,5 @@
 use mathlib.Core.Path.{sym, ◌∙◌}
 use Rattle.reading.specs.Reading.{emptied_of}
-use borrow.Author.Rules.{rules}
 use Rattle.reading.proofs.emptied.Goals as goal
 
 pub returns-then-holds : goal.returns-then-holds

@@ -1,5 +1,4 @@
 use Rattle.reading.specs.Reading.{flagged_of}
-use borrow.Author.Rules.{rules}
 use Rattle.reading.proofs.flagged.Goals as goal
 
 pub returns : goal.returns

@@ -1,7 +1,6 @@
 use mathlib.Core.Path.{◌≡◌}
 use Rattle.numbers.specs.Choice.{pick}
 use Rattle.reading.specs.Reading.{kept_of}
-use borrow.Author.Rules.{rules}
 use Rattle.reading.proofs.kept.Goals as goal
 
 pub returns : goal.returns

@@ -1,5 +1,4 @@
 use Rattle.reading.specs.Reading.{lowered_of}
-use borrow.Author.Rules.{rules}
 use Rattle.reading.proofs.lowered.Goals as goal
 
 pub returns : goal.returns

@@ -2,7 +2,6 @@ use mathlib.Core.Path.{◌∙◌}
 use native.Mathlib.Omega.{arith}
 use Rattle.reading.specs.Reading.{percent_of}
 use Rattle.reading.proofs.Laws.{percent_low, percent_high}
-use borrow.Author.Rules.{rules}
 use Rattle.reading.proofs.percent.Goals as goal
 
 pub overflow_cast-result-then-n-d-2 : goal.overflow_cast-result-then-n-d-2

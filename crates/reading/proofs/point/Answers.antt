@@ -1,5 +1,4 @@
 use Rattle.reading.specs.Reading.{point_of}
-use borrow.Author.Rules.{rules}
 use Rattle.reading.proofs.point.Goals as goal
 
 pub returns : goal.returns

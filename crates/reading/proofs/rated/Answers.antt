@@ -1,7 +1,6 @@
 use native.Mathlib.Omega.{arith}
 use Rattle.reading.specs.Reading.{rated_of}
 use Rattle.conversion.proofs.ChargeLaws.{aged_full_high}
-use borrow.Author.Rules.{rules}
 use Rattle.reading.proofs.rated.Goals as goal
 
 pub overflow_cast-af : goal.overflow_cast-af

@@ -1,5 +1,4 @@
 use Rattle.reading.specs.Reading.{read_of}
-use borrow.Author.Rules.{rules}
 use Rattle.reading.proofs.read.Goals as goal
 
 pub results_shown-requires : goal.results_shown-requires

@@ -1,5 +1,4 @@
 use Rattle.reading.specs.Reading.{results_of}
-use borrow.Author.Rules.{rules}
 use Rattle.reading.proofs.results_of.Goals as goal
 
 pub returns : goal.returns

@@ -1,5 +1,4 @@
 use mathlib.Core.Path.{◌≡◌, refl, sym, subst}
-use Rattle.numbers.proofs.Bounds.{also}
 use Rattle.state.specs.declared.Charge.{Charge}
 use Rattle.state.specs.declared.Results.{Results}
 use Rattle.reading.specs.declared.Seen.{Seen}
@@ -7,7 +6,6 @@ use Rattle.state.specs.declared.Meter.{Meter}
 use Rattle.state.specs.State.{MeterWf}
 use Rattle.reading.specs.Reading.{with_saved, with_since, results_shown}
 use Rattle.reading.proofs.Laws.{results_shown_wf}
-use borrow.Author.Rules.{rules}
 use Rattle.reading.proofs.results_shown.Goals as goal
 
 charge : (m : Meter) (s : Seen) (g : Charge) (r : Results) → g ≡ (results_shown m s g r).charge

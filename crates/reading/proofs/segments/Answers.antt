@@ -1,4 +1,3 @@
-use borrow.Author.Rules.{rules}
 use Rattle.reading.proofs.Ends.{lower_still, few, counts}
 use Rattle.reading.proofs.segments.Goals as goal
 

@@ -1,5 +1,4 @@
 use Rattle.record.specs.Record.{addressed_of}
-use borrow.Author.Rules.{rules}
 use Rattle.record.proofs.addressed.Goals as goal
 
 pub returns : goal.returns

@@ -1,5 +1,4 @@
 use borrow.Author.Tests.{eq-eqb, ne_eqb}
-use borrow.Author.Rules.{rules}
 use Rattle.record.proofs.conversion_taken.Goals as goal
 
 pub returns-then-payload-ne4 : goal.returns-then-payload-ne4

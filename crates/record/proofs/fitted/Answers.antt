@@ -2,7 +2,6 @@ use mathlib.Core.Path.{ap, ◌∙◌}
 use mathlib.Core.Bool.{false}
 use Rattle.record.specs.declared.Kind.{Kind}
 use Rattle.record.specs.Record.{taken_by, taken_of, timed_of, fitted_of}
-use borrow.Author.Rules.{rules}
 use Rattle.record.proofs.fitted.Goals as goal
 
 pub returns : goal.returns

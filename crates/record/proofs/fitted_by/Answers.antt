@@ -8,7 +8,6 @@ use Rattle.record.specs.declared.Kind.TheVariants as kind
 use Rattle.record.specs.declared.Taken.{Taken}
 use Rattle.record.specs.Record.{taken_by, timed_of, fitted_of}
 use Rattle.record.proofs.Fits.{Stateless, passes, transaction_timely, sample_fits_lem}
-use borrow.Author.Rules.{rules}
 use Rattle.record.proofs.fitted_by.Goals as goal
 
 arm : (room : ℕ) (last : Tick) (again loaded : Bool) (p : List ℕ) (said k : Kind) (r : Taken) → said ≡ k

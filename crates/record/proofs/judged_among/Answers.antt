@@ -1,12 +1,11 @@
 use mathlib.Core.Path.{◌≡◌, sym, ap, ◌∙◌}
-use mathlib.Core.Bool.{Bool, false}
+use mathlib.Core.Bool.{Bool}
 use mathlib.Core.List.{List}
 use Prim.Native.Nat.{ℕ}
 use borrow.Author.Tests.{eq-eqb, ne_eqb, le-leb, lt-leb}
 use Rattle.params.specs.declared.Breaks.{Breaks}
 use Rattle.params.specs.Params.{breaks_of}
-use Rattle.record.specs.Record.{lockable_of, ordered_of, judged_among}
-use borrow.Author.Rules.{rules}
+use Rattle.record.specs.Record.{ordered_of, judged_among}
 use Rattle.record.proofs.judged_among.Goals as goal
 
 told : {block part : List ℕ} {b : Breaks} {t u : Bool} → block ≡ part → b ≡ breaks_of block → t ≡ ordered_of b → t ≡ u →

@@ -1,5 +1,4 @@
 use Rattle.record.specs.Record.{ordered_of}
-use borrow.Author.Rules.{rules}
 use Rattle.record.proofs.ordered.Goals as goal
 
 pub returns : goal.returns

@@ -4,7 +4,6 @@ use Prim.Native.Nat.{ℕ, ◌≤◌}
 use native.Mathlib.Omega.{arith}
 use Rattle.record.specs.declared.Form.{Form}
 use Rattle.record.specs.Record.{head_of, read_count}
-use borrow.Author.Rules.{rules}
 use Rattle.record.proofs.read_count.Goals as goal
 
 there : (n : ℕ) (said f : Form) → head_of said ≤ n → said ≡ f → head_of f ≤ n

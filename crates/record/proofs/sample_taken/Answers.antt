@@ -2,7 +2,6 @@ use mathlib.Core.Path.{◌≡◌, sym, ap, ◌∙◌}
 use Rattle.slices.specs.Slices.{pair_at}
 use Rattle.state.specs.State.{timely_of}
 use borrow.Author.Tests.{eq-eqb, ne_eqb}
-use borrow.Author.Rules.{rules}
 use Rattle.record.proofs.sample_taken.Goals as goal
 
 pub returns-then-payload-ne6 : goal.returns-then-payload-ne6

@@ -17,7 +17,6 @@ use Rattle.record.specs.declared.Event.TheVariants.{Transact}
 use Rattle.record.specs.declared.Taken.{Taken}
 use Rattle.record.specs.declared.Taken.TheVariants.{Run, Refused}
 use Rattle.record.specs.Record.{head_of, limit_of, read_count, transaction_in, taken_by, fitted_of}
-use borrow.Author.Rules.{rules}
 use Rattle.record.proofs.transaction_taken.Goals as goal
 
 module _ (f : Form) (loaded : Bool) (room : ℕ) (p : List ℕ) {start most : ℕ} (es : start ≡ head_of f) (em : most ≡ limit_of f) where

@@ -1,4 +1,3 @@
-use borrow.Author.Rules.{rules}
 use Rattle.registers.proofs.cycle_byte.Goals as goal
 
 pub returns : goal.returns

@@ -1,5 +1,4 @@
 use Rattle.registers.specs.Registers.{eeprom_of}
-use borrow.Author.Rules.{rules}
 use Rattle.registers.proofs.eeprom.Goals as goal
 
 pub returns : goal.returns

@@ -2,7 +2,6 @@ use mathlib.Core.Path.{◌≡◌, ap, ◌∙◌}
 use Prim.Native.Nat.{ℕ, ◌+◌, ◌*◌, ◌%◌, ◌≤◌}
 use native.Mathlib.Omega.{arith}
 use Rattle.registers.specs.Registers.{registers_of, pair_of, two_of}
-use borrow.Author.Rules.{rules}
 use Rattle.registers.proofs.register.Goals as goal
 
 past : (at n : ℕ) → at % 2 ≡ 0 → 2 * n ≤ at → (at ≡ 2 * n → ⊥) → 2 * (n + 1) ≤ at

@@ -5,7 +5,6 @@ use lib.ListN.{replicate}
 use native.Mathlib.Omega.{arith}
 use Rattle.registers.specs.declared.Pair.{Pair}
 use Rattle.registers.specs.Registers.{registers_of, put_of}
-use borrow.Author.Rules.{rules}
 use Rattle.registers.proofs.registers.Goals as goal
 
 then : {p q : Pair} {r s t : List ℕ} (at : ℕ) → r ≡ put_of s at p → p ≡ q → s ≡ t → r ≡ put_of t at q

@@ -1,5 +1,4 @@
 use Rattle.registers.specs.Registers.{status_of}
-use borrow.Author.Rules.{rules}
 use Rattle.registers.proofs.status.Goals as goal
 
 pub returns : goal.returns

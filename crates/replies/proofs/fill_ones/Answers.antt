@@ -1,10 +1,6 @@
--- `replies::idle` meets its contract: its loop fills the room.
 use mathlib.Core.Path.{refl}
-use Prim.Native.Nat.{◌-◌}
 use native.Mathlib.Omega.{arith}
-use lib.ListN.{length}
-use Rattle.replies.proofs.Listed.{Filling, filling_start, filling_more, filling_end}
-use borrow.Author.Rules.{rules}
+use Rattle.replies.proofs.Listed.{filling_start, filling_more, filling_end}
 use Rattle.replies.proofs.fill_ones.Goals as goal
 
 pub loop-i-init : goal.loop-i-init

@@ -1,10 +1,7 @@
--- `replies::idle` meets its contract: its loop fills the room.
-use mathlib.Core.Path.{refl}
+-- `replies::fill_ones` meets its contract: its loop fills the room.
 use Prim.Native.Nat.{◌-◌}
-use native.Mathlib.Omega.{arith}
 use lib.ListN.{length}
-use Rattle.replies.proofs.Listed.{Filling, filling_start, filling_more, filling_end}
-use borrow.Author.Rules.{rules}
+use Rattle.replies.proofs.Listed.{Filling}
 use Rattle.replies.proofs.fill_ones.Given as goal
 
 abbrev pub invariant-loop-i : goal.invariant-loop-i

@@ -1,6 +1,5 @@
 use mathlib.Core.Path.{sym}
 use Rattle.replies.specs.Reply.{source_byte}
-use borrow.Author.Rules.{rules}
 use Rattle.replies.proofs.filled.Goals as goal
 
 pub returns-in-Address : goal.returns-in-Address

@@ -1,7 +1,7 @@
 use mathlib.Core.Path.{ap, ◌∙◌}
 use lib.ListN.{length}
-use Rattle.replies.specs.Reply.{net_byte, over_of}
-use Rattle.replies.proofs.Listed.{listed_length, net_listed, net_short}
+use Rattle.replies.specs.Reply.{over_of}
+use Rattle.replies.proofs.Listed.{net_listed, net_short}
 use borrow.Author.Rules.{rules}
 use Rattle.replies.proofs.net_reply.Goals as goal
 use Rattle.replies.proofs.net_reply.Goals.{then-room-gt8, else-room-gt8}

@@ -1,10 +1,8 @@
 use mathlib.Core.Path.{◌∙◌, ap}
-use Prim.Native.Nat.{◌+◌}
 use lib.ListN.{length}
 use Rattle.registers.specs.Registers.{registers_of}
-use Rattle.replies.specs.Reply.{read_byte, over_of}
-use Rattle.replies.proofs.Listed.{listed_length, register_listed, read_listed, low_listed}
-use borrow.Author.Rules.{rules}
+use Rattle.replies.specs.Reply.{over_of}
+use Rattle.replies.proofs.Listed.{register_listed, read_listed, low_listed}
 use Rattle.replies.proofs.read_reply.Goals as goal
 use Rattle.replies.proofs.read_reply.Goals.{then-a-room-gt32, else-a-room-gt32}
 

@@ -1,5 +1,4 @@
 use mathlib.Core.Path.{refl}
-use borrow.Author.Rules.{rules}
 use Rattle.replies.proofs.read_source.Goals as goal
 
 pub returns-in-Read : goal.returns-in-Read

@@ -3,7 +3,6 @@ use mathlib.Core.Path.{◌∙◌}
 use native.Mathlib.Omega.{arith}
 use lib.ListN.{length-set}
 use Rattle.replies.proofs.Listed.{filling_start, filling_more, filling_end, high_byte, low_byte, one_byte}
-use borrow.Author.Rules.{rules}
 use Rattle.replies.proofs.register_reply.Goals as goal
 
 pub register-pair-requires : goal.register-pair-requires

@@ -7,7 +7,6 @@ use Rattle.slices.proofs.Laws.{laid_none}
 use Rattle.registers.specs.Registers.{registers_of}
 use Rattle.registers.proofs.Meaning.{registers_length}
 use Rattle.replies.specs.Reply.{over_of}
-use borrow.Author.Rules.{rules}
 use Rattle.replies.proofs.registers_laid.Goals as goal
 
 pub returns-then-a-lt32 : goal.returns-then-a-lt32

@@ -11,7 +11,6 @@ use Rattle.state.specs.declared.Label.{Label}
 use Rattle.bus.specs.declared.Transaction.{Transaction}
 use Rattle.replies.specs.declared.Source.{Source}
 use Rattle.replies.specs.Reply.{reply_source_of, source_byte, listed, replied_of}
-use borrow.Author.Rules.{rules}
 use Rattle.replies.proofs.replied.Goals as goal
 
 front : (k : Common) (l : Label) (m : Meter) (t : Transaction) (chosen : Bool) (source : Source) (room after : List ℕ)

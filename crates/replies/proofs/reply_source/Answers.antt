@@ -1,4 +1,3 @@
-use borrow.Author.Rules.{rules}
 use Rattle.replies.proofs.reply_source.Goals as goal
 
 pub returns-then-chosen : goal.returns-then-chosen

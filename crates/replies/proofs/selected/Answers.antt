@@ -1,6 +1,5 @@
 use mathlib.Core.Path.{refl}
 use Rattle.replies.specs.Reply.{selected_of}
-use borrow.Author.Rules.{rules}
 use Rattle.replies.proofs.selected.Goals as goal
 
 pub returns-in-Skip : goal.returns-in-Skip

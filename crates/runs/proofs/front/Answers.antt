@@ -7,7 +7,6 @@ use Rattle.record.proofs.Fits.{unknown_above}
 use Rattle.runs.specs.AnyRecord.{refused_of}
 use Rattle.runs.proofs.AnyRecord.{read_whole, read_cut}
 use Rattle.runs.proofs.Records.{whole_head, whole_end}
-use borrow.Author.Rules.{rules}
 use Rattle.runs.proofs.front.Goals as goal
 
 pub pair-n-requires : goal.pair-n-requires

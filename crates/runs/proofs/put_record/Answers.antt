@@ -7,7 +7,6 @@ use native.Mathlib.Omega.{arith}
 use Rattle.slices.specs.Slices.{put}
 use Rattle.slices.proofs.Laws.{put_next}
 use Rattle.runs.specs.Record.{record_of}
-use borrow.Author.Rules.{rules}
 use Rattle.runs.proofs.put_record.Goals as goal
 
 pub returns : goal.returns

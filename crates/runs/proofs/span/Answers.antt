@@ -1,11 +1,7 @@
--- `runs::span` meets its contract. The invariant: what is behind and what is still ahead make the whole.
 use mathlib.Core.Path.{sym, ◌∙◌}
-use Prim.Native.Nat.{◌+◌, ◌-◌}
 use native.Mathlib.Omega.{arith}
-use borrow.Author.Tests.{not-true, not-false}
 use Rattle.runs.proofs.Records.{whole_end}
-use Rattle.runs.proofs.Wholes.{Spanning, spanning, span_more, span_cut, span_full}
-use borrow.Author.Rules.{rules}
+use Rattle.runs.proofs.Wholes.{spanning, span_more, span_cut, span_full}
 use Rattle.runs.proofs.span.Goals as goal
 
 pub loop-n-init : goal.loop-n-init

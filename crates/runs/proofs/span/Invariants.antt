@@ -1,11 +1,6 @@
 -- `runs::span` meets its contract. The invariant: what is behind and what is still ahead make the whole.
-use mathlib.Core.Path.{sym, ◌∙◌}
-use Prim.Native.Nat.{◌+◌, ◌-◌}
-use native.Mathlib.Omega.{arith}
-use borrow.Author.Tests.{not-true, not-false}
-use Rattle.runs.proofs.Records.{whole_end}
-use Rattle.runs.proofs.Wholes.{Spanning, spanning, span_more, span_cut, span_full}
-use borrow.Author.Rules.{rules}
+use Prim.Native.Nat.{◌-◌}
+use Rattle.runs.proofs.Wholes.{Spanning}
 use Rattle.runs.proofs.span.Given as goal
 
 abbrev pub invariant-loop-n : goal.invariant-loop-n

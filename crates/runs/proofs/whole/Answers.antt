@@ -1,6 +1,5 @@
 use borrow.Author.Tests.{lt-ltb, le-ltb}
 use Rattle.runs.specs.Record.{whole_of}
-use borrow.Author.Rules.{rules}
 use Rattle.runs.proofs.whole.Goals as goal
 
 pub returns-then-rest-lt4 : goal.returns-then-rest-lt4

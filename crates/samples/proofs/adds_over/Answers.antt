@@ -1,5 +1,4 @@
 use Rattle.samples.specs.Stretch.{adds_over}
-use borrow.Author.Rules.{rules}
 use Rattle.samples.proofs.adds_over.Goals as goal
 
 pub returns : goal.returns

@@ -1,5 +1,4 @@
 use Rattle.samples.specs.Stretch.{worn_over, learnf_over, charge_over}
-use borrow.Author.Rules.{rules}
 use Rattle.samples.proofs.charge_over.Goals as goal
 
 pub returns : goal.returns

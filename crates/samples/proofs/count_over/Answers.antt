@@ -1,4 +1,3 @@
-use borrow.Author.Rules.{rules}
 use Rattle.samples.proofs.count_over.Goals as goal
 
 pub returns : goal.returns

@@ -1,6 +1,5 @@
 use Rattle.samples.specs.Stretch.{learnf_over}
 use Rattle.samples.proofs.Charge.{learnf_set, learnf_clear}
-use borrow.Author.Rules.{rules}
 use Rattle.samples.proofs.learnf_over.Goals as goal
 
 pub returns-then-charge : goal.returns-then-charge

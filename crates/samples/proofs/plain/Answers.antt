@@ -1,12 +1,9 @@
-use mathlib.Core.Path.{◌≡◌, refl, sym, ap, ◌∙◌}
-use Prim.Native.Nat.{◌-◌, ◌≤◌}
+use mathlib.Core.Path.{refl, sym, ap, ◌∙◌}
 use native.Mathlib.Omega.{arith}
 use Rattle.state.specs.declared.Meter.{Meter}
-use Rattle.state.specs.State.{MeterWf}
 use Rattle.conversion.specs.Conversion.{convert_of}
 use Rattle.samples.specs.Samples.{sampled_of}
 use Rattle.samples.proofs.Laws.{sampled_more}
-use borrow.Author.Rules.{rules}
 use Rattle.samples.proofs.plain.Goals as goal
 
 pub loop-i-init : goal.loop-i-init

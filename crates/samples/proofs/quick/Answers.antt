@@ -1,9 +1,7 @@
 use mathlib.Core.Path.{◌≡◌, refl, ap, ◌∙◌}
 use native.Mathlib.Omega.{arith}
-use Rattle.state.specs.State.{MeterWf}
 use Rattle.samples.specs.Samples.{sampled_of}
 use Rattle.samples.proofs.Laws.{reached_more}
-use borrow.Author.Rules.{rules}
 use Rattle.samples.proofs.quick.Goals as goal
 
 pub loop-left-init : goal.loop-left-init

@@ -1,9 +1,6 @@
-use mathlib.Core.Path.{◌≡◌, refl, ap, ◌∙◌}
-use native.Mathlib.Omega.{arith}
+use mathlib.Core.Path.{◌≡◌}
 use Rattle.state.specs.State.{MeterWf}
 use Rattle.samples.specs.Samples.{sampled_of}
-use Rattle.samples.proofs.Laws.{reached_more}
-use borrow.Author.Rules.{rules}
 use Rattle.samples.proofs.quick.Given as goal
 
 abbrev pub invariant-loop-left : goal.invariant-loop-left

@@ -1,6 +1,5 @@
 use Rattle.samples.specs.Samples.{sample_of}
 use Rattle.samples.proofs.Laws.{ticked_wf}
-use borrow.Author.Rules.{rules}
 use Rattle.samples.proofs.sample.Goals as goal
 
 pub returns : goal.returns

@@ -11,7 +11,6 @@ use Rattle.state.specs.declared.Meter.{Meter}
 use Rattle.conversion.specs.Conversion.{current_of, offset_turn, charged_of}
 use Rattle.samples.specs.Stretch.{charge_over, flowed_over, stretched_of}
 use Rattle.samples.proofs.Charge.{charge_wf}
-use borrow.Author.Rules.{rules}
 use Rattle.samples.proofs.stretch.Goals as goal
 
 stretched : (m : Meter) (raw k : ℕ) {p : Counting} {limits : Limits} {full : Capacity} {current c : ℕ} {charge : Charge} {mid after : Meter}

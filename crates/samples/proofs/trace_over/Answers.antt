@@ -1,5 +1,4 @@
 use Rattle.samples.specs.Stretch.{trace_over}
-use borrow.Author.Rules.{rules}
 use Rattle.samples.proofs.trace_over.Goals as goal
 
 pub returns : goal.returns

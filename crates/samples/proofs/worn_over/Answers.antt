@@ -1,7 +1,6 @@
 use mathlib.Core.Path.{sym}
 use Rattle.samples.specs.Stretch.{worn_over}
 use Rattle.samples.proofs.Charge.{worn_still}
-use borrow.Author.Rules.{rules}
 use Rattle.samples.proofs.worn_over.Goals as goal
 
 pub returns-then-ac-age : goal.returns-then-ac-age

@@ -1,7 +1,6 @@
 use mathlib.Core.Path.{refl, sym, ◌∙◌}
 use native.Mathlib.Omega.{arith}
 use Rattle.runs.proofs.Ends.{done_within}
-use borrow.Author.Rules.{rules}
 use Rattle.session_run.proofs.run.Goals as goal
 
 pub run_all-requires : goal.run_all-requires

@@ -6,7 +6,6 @@ use Rattle.runs.specs.declared.Session.{Session}
 use Rattle.runs.specs.Run.{Result, Running}
 use Rattle.runs.specs.SessionRecord.{did_of}
 use Rattle.runs.proofs.Records.{recs_few}
-use borrow.Author.Rules.{rules}
 use Rattle.session_run.proofs.run_all.Goals as goal
 
 from_start : {σ τ : Session} {s room answers : List ℕ} {r : Result Session} {after told : List ℕ} → σ ≡ τ

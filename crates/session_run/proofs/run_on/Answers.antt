@@ -1,6 +1,5 @@
--- Each turn of the loop takes one record, and what is still to come is the rest of the whole.
 use mathlib.Core.Path.{refl, sym, ap, ◌∙◌}
-use Prim.Native.Nat.{◌-◌, ◌<◌}
+use Prim.Native.Nat.{◌-◌}
 use native.Mathlib.Omega.{arith}
 use lib.ListN.{length, length-set}
 use Rattle.slices.specs.Slices.{part}
@@ -12,9 +11,8 @@ use Rattle.runs.specs.declared.Session.{Session}
 use Rattle.runs.specs.SessionRecord.{SessionWf, of_session, did_of}
 use Rattle.runs.proofs.AnyRecord.{did_fits, session_replying}
 use Rattle.runs.proofs.Fronts.{Front, front, ran}
-use Rattle.runs.proofs.Turns.{master_starts, room_left, front_fits, front_within, whole_more, ended_cut, First, Later}
-use Rattle.session_run.proofs.Turns.{did_same, Turn, Stands, ran_taking, turn_idle, turn_silent, turn_reply}
-use borrow.Author.Rules.{rules}
+use Rattle.runs.proofs.Turns.{master_starts, room_left, front_fits, front_within, whole_more, ended_cut}
+use Rattle.session_run.proofs.Turns.{did_same, Turn, ran_taking, turn_idle, turn_silent, turn_reply}
 use Rattle.session_run.proofs.run_on.Goals as goal
 use Rattle.session_run.proofs.run_on.Goals.{in-Nothing, in-Run+in-Image, in-Run+in-Change+in-Reading, in-Run+in-Change+in-Conversion}
 use Rattle.session_run.proofs.run_on.Goals.{in-Run+in-Change+in-Sample, in-Run+in-Change+in-PowerOn, in-Run+in-Transact}

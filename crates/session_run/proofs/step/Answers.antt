@@ -11,7 +11,6 @@ use Rattle.runs.specs.SessionRecord.{did_of}
 use Rattle.runs.proofs.Records.{whole_head, whole_end}
 use Rattle.runs.proofs.AnyRecord.{did_fits}
 use Rattle.runs.proofs.Stepping.{one_line, stepped_whole, stepped_cut}
-use borrow.Author.Rules.{rules}
 use Rattle.session_run.proofs.step.Goals as goal
 
 cut-idle : (σ : Session) (room : ℕ) → did_of σ room cut ≡ silently σ 2

@@ -1,5 +1,4 @@
 use mathlib.Core.Path.{sym, ◌∙◌}
-use borrow.Author.Rules.{rules}
 use Rattle.session_run.proofs.take_out.Goals as goal
 
 pub returns-then-image_out : goal.returns-then-image_out

@@ -2,7 +2,6 @@
 use mathlib.Core.Path.{refl, ◌∙◌}
 use lib.ListN.{length}
 use Rattle.slices.proofs.Laws.{put_copy}
-use borrow.Author.Rules.{rules}
 use Rattle.slices.proofs.fill.Goals as goal
 
 pub returns : goal.returns

@@ -1,10 +1,9 @@
 -- `slices::laid` meets its contract: it stores the bytes that fall into the array, if there are any.
 use mathlib.Core.Path.{sym, ◌∙◌}
-use Prim.Native.Nat.{◌+◌, ◌-◌}
+use Prim.Native.Nat.{◌+◌}
 use native.Mathlib.Omega.{arith}
 use lib.ListN.{length}
 use Rattle.slices.proofs.Laws.{laid_none, laid_copied}
-use borrow.Author.Rules.{rules}
 use Rattle.slices.proofs.laid.Goals as goal
 
 pub returns-then-first-past : goal.returns-then-first-past

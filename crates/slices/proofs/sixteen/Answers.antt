@@ -1,6 +1,5 @@
 use mathlib.Core.Path.{refl, ◌∙◌}
 use Rattle.slices.proofs.Laws.{put_both}
-use borrow.Author.Rules.{rules}
 use Rattle.slices.proofs.sixteen.Goals as goal
 
 pub returns : goal.returns

@@ -1,12 +1,8 @@
 -- `slices::store` meets its contract. The invariant: what is still to be put, over what stands there now, is the whole.
-use mathlib.Core.Path.{◌≡◌, refl, sym, ◌∙◌}
+use mathlib.Core.Path.{◌≡◌}
 use Prim.Native.Nat.{◌+◌, ◌-◌, ◌≤◌}
-use native.Mathlib.Nat.{add-zero}
-use native.Mathlib.Omega.{arith}
-use lib.ListN.{length, drop, get_or, length-set, drop_of_length-le}
+use lib.ListN.{length, drop}
 use Rattle.slices.specs.Slices.{put}
-use Rattle.slices.proofs.Laws.{put_more}
-use borrow.Author.Rules.{rules}
 use Rattle.slices.proofs.store.Given as goal
 
 abbrev pub invariant-loop-i : goal.invariant-loop-i

@@ -1,4 +1,4 @@
-use Rattle.std.proofs.Common.{arith, rules}
+use Rattle.std.proofs.Common.{arith}
 use Rattle.state.proofs.elapsed.Goals as goal
 
 pub returns-then-tick : goal.returns-then-tick

@@ -1,4 +1,3 @@
-use Rattle.std.proofs.Common.{rules}
 use Rattle.state.specs.State.{timely_of}
 use Rattle.state.proofs.timely.Goals as goal
 

@@ -1,4 +1,3 @@
--- `streams::keep_rest` meets its contract, by the laws of its loop.
 use Rattle.streams.proofs.Moving.{stays, move_more}
 use Rattle.streams.proofs.keep_rest.Goals as goal
 

@@ -1,7 +1,6 @@
 -- `streams::keep_rest` meets its contract, by the laws of its loop.
 use Prim.Native.Nat.{◌+◌, ◌-◌}
-use native.Mathlib.Omega.{arith}
-use Rattle.streams.proofs.Moving.{Moving, moving, stays, move_more, moved_all}
+use Rattle.streams.proofs.Moving.{Moving}
 use Rattle.streams.proofs.keep_rest.Given as goal
 
 abbrev pub invariant-loop-i : goal.invariant-loop-i

@@ -4,7 +4,6 @@ use borrow.Author.Tests.{le-leb, lt-leb}
 use Prim.Native.Nat.{◌+◌, ◌*◌, ◌<◌}
 use Rattle.text.specs.Text.{most_of, fits_of}
 use Rattle.text.proofs.Laws.{half_test}
-use borrow.Author.Rules.{rules}
 use Rattle.text.proofs.fits.Goals as goal
 
 pub returns-then-lines-gt99999 : goal.returns-then-lines-gt99999

@@ -3,7 +3,6 @@ use native.Mathlib.Omega.{arith}
 use lib.ListN.{length}
 use Rattle.digits.proofs.Laws.{kept, then, wider}
 use Rattle.text.proofs.Going.{most_short}
-use borrow.Author.Rules.{rules}
 use Rattle.text.proofs.put_coded.Goals as goal
 
 pub put_codes-requires : goal.put_codes-requires

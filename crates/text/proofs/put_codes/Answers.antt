@@ -1,8 +1,7 @@
--- `text::put_codes` meets its contract, by the laws of its loop.
-use mathlib.Core.Path.{◌≡◌, sym, ap, ◌∙◌}
+use mathlib.Core.Path.{◌≡◌, ap, ◌∙◌}
 use mathlib.Core.List.{List}
 use Prim.Native.Nat.{ℕ, ◌+◌, ◌-◌, ◌≤◌, ◌<◌}
-use native.Mathlib.Nat.{add-zero, add_assoc}
+use native.Mathlib.Nat.{add_assoc}
 use native.Mathlib.Omega.{arith}
 use lib.ListN.{length, length-take}
 use Rattle.slices.specs.Slices.{part}
@@ -10,7 +9,7 @@ use Rattle.digits.specs.declared.Twos.{Twos}
 use Rattle.digits.specs.Digits.{packed_of, width_of}
 use Rattle.digits.proofs.Laws.{kept}
 use Rattle.text.specs.Text.{last_width}
-use Rattle.text.proofs.Going.{start, roomy, served_more, more, more_bare, more_done, ended, digits_few}
+use Rattle.text.proofs.Going.{roomy, more, more_bare, more_done, ended, digits_few}
 use Rattle.text.proofs.put_codes.Goals as goal
 
 -- the line's number has as many digits as the longest at most

@@ -1,16 +1,10 @@
 -- `text::put_codes` meets its contract, by the laws of its loop.
-use mathlib.Core.Path.{◌≡◌, sym, ap, ◌∙◌}
-use Prim.Native.Nat.{◌+◌, ◌-◌, ◌≤◌}
-use native.Mathlib.Nat.{add-zero, add_assoc}
-use native.Mathlib.Omega.{arith}
-use lib.ListN.{length, length-take}
-use lib.Seq.{length-take-le}
-use Rattle.slices.specs.Slices.{part}
-use Rattle.digits.specs.Digits.{packed_of, width_of}
-use Rattle.digits.proofs.Laws.{kept}
+use mathlib.Core.Path.{◌≡◌}
+use Prim.Native.Nat.{◌+◌, ◌-◌}
+use lib.ListN.{length}
+use Rattle.digits.specs.Digits.{packed_of}
 use Rattle.text.specs.Text.{last_width}
-use Rattle.text.proofs.Going.{Going, start, roomy, served_more, more, more_bare, more_done, ended, digits_few}
-use borrow.Author.Rules.{rules}
+use Rattle.text.proofs.Going.{Going}
 use Rattle.text.proofs.put_codes.Given as goal
 
 abbrev pub invariant-loop-i : goal.invariant-loop-i

@@ -1,7 +1,6 @@
 -- `text::put_fields` meets its contract, by joining its pieces.
 use native.Mathlib.Omega.{arith}
 use Rattle.digits.proofs.Laws.{then, narrow, three}
-use borrow.Author.Rules.{rules}
 use Rattle.text.proofs.put_fields.Goals as goal
 
 pub returns : goal.returns

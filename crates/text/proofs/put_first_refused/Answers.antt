@@ -1,9 +1,6 @@
--- `text::put_first_refused` meets its contract. The invariant: nothing is written yet, and the first from here on is the first of all.
-use mathlib.Core.Path.{◌≡◌, refl, sym, ap, ◌∙◌}
-use Prim.Native.Nat.{◌+◌, ◌-◌, ◌≤◌}
+use mathlib.Core.Path.{refl, sym, ap, ◌∙◌}
 use native.Mathlib.Omega.{arith}
-use lib.ListN.{length, drop}
-use Rattle.text.specs.Text.{first_coded}
+use lib.ListN.{length}
 use Rattle.text.proofs.Refused.{first_later, first_found, first_none}
 use borrow.Author.Rules.{rules}
 use Rattle.text.proofs.put_first_refused.Goals as goal

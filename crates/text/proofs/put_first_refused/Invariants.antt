@@ -1,11 +1,8 @@
 -- `text::put_first_refused` meets its contract. The invariant: nothing is written yet, and the first from here on is the first of all.
-use mathlib.Core.Path.{◌≡◌, refl, sym, ap, ◌∙◌}
+use mathlib.Core.Path.{◌≡◌}
 use Prim.Native.Nat.{◌+◌, ◌-◌, ◌≤◌}
-use native.Mathlib.Omega.{arith}
 use lib.ListN.{length, drop}
 use Rattle.text.specs.Text.{first_coded}
-use Rattle.text.proofs.Refused.{first_later, first_found, first_none}
-use borrow.Author.Rules.{rules}
 use Rattle.text.proofs.put_first_refused.Given as goal
 
 abbrev pub invariant-loop-i : goal.invariant-loop-i

@@ -1,7 +1,6 @@
 -- `text::put_no_image` meets its contract, by joining its pieces.
-use mathlib.Core.Path.{refl, sym, ◌∙◌}
+use mathlib.Core.Path.{refl, ◌∙◌}
 use native.Mathlib.Nat.{zero-add}
-use native.Mathlib.Omega.{arith}
 use Rattle.digits.proofs.Laws.{then}
 use Rattle.text.proofs.Laws.{cut}
 use Rattle.text.proofs.put_no_image.Goals as goal

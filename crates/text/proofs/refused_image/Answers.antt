@@ -1,6 +1,5 @@
 -- `text::refused_image` meets its contract.
 use Rattle.text.specs.Text.{refused_image}
-use borrow.Author.Rules.{rules}
 use Rattle.text.proofs.refused_image.Goals as goal
 
 pub returns : goal.returns

@@ -1,9 +1,7 @@
--- `tray_image::is_number` meets its contract. The invariant: the bytes that are left are all digits exactly where all are.
 use mathlib.Core.Path.{◌≡◌, sym, ◌∙◌}
 use mathlib.Core.Bool.{true}
-use Prim.Native.Nat.{◌≤◌, ◌-◌}
 use native.Mathlib.Omega.{arith}
-use lib.ListN.{length, drop, drop_of_length-le}
+use lib.ListN.{drop_of_length-le}
 use Rattle.tray_image.specs.TrayImage.{is_digit, all_digits}
 use Rattle.tray_image.proofs.Words.{digit_more, no_digit, number_told, no_number}
 use Rattle.tray_image.proofs.is_number.Goals as goal

@@ -1,12 +1,8 @@
 -- `tray_image::is_number` meets its contract. The invariant: the bytes that are left are all digits exactly where all are.
-use mathlib.Core.Path.{◌≡◌, sym, ◌∙◌}
-use mathlib.Core.Bool.{true}
+use mathlib.Core.Path.{◌≡◌}
 use Prim.Native.Nat.{◌≤◌, ◌-◌}
-use native.Mathlib.Omega.{arith}
-use lib.ListN.{length, drop, drop_of_length-le}
-use Rattle.tray_image.specs.TrayImage.{is_digit, all_digits}
-use Rattle.tray_image.proofs.Words.{digit_more, no_digit, number_told, no_number}
-use borrow.Author.Rules.{rules}
+use lib.ListN.{length, drop}
+use Rattle.tray_image.specs.TrayImage.{all_digits}
 use Rattle.tray_image.proofs.is_number.Given as goal
 
 abbrev pub invariant-loop-i : goal.invariant-loop-i

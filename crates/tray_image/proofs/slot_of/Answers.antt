@@ -1,9 +1,8 @@
--- `tray_image::slot_of` meets its contract. The invariant: the number, carried on through the digits that are left, is the slot.
 use mathlib.Core.Path.{◌≡◌, refl, sym, ◌∙◌}
-use Prim.Native.Nat.{◌≤◌, ◌-◌, min}
+use Prim.Native.Nat.{min}
 use native.Mathlib.Omega.{arith}
-use lib.ListN.{length, drop, drop_of_length-le}
-use Rattle.tray_image.specs.TrayImage.{value_from, slot_of}
+use lib.ListN.{drop_of_length-le}
+use Rattle.tray_image.specs.TrayImage.{slot_of}
 use Rattle.tray_image.proofs.Words.{value_more}
 use Rattle.tray_image.proofs.slot_of.Goals as goal
 

@@ -1,11 +1,8 @@
 -- `tray_image::slot_of` meets its contract. The invariant: the number, carried on through the digits that are left, is the slot.
-use mathlib.Core.Path.{◌≡◌, sym, ◌∙◌}
+use mathlib.Core.Path.{◌≡◌}
 use Prim.Native.Nat.{◌≤◌, ◌-◌, min}
-use native.Mathlib.Omega.{arith}
-use lib.ListN.{length, drop, drop_of_length-le}
+use lib.ListN.{length, drop}
 use Rattle.tray_image.specs.TrayImage.{value_from, slot_of}
-use Rattle.tray_image.proofs.Words.{value_more}
-use borrow.Author.Rules.{rules}
 use Rattle.tray_image.proofs.slot_of.Given as goal
 
 abbrev pub invariant-loop-i : goal.invariant-loop-i

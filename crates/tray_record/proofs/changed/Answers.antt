@@ -1,5 +1,4 @@
 use mathlib.Core.Path.{ap, ◌∙◌}
-use Prim.Native.Nat.{◌-◌}
 use native.Mathlib.Omega.{arith}
 use Rattle.tray_record.specs.declared.Span.{Span}
 use Rattle.tray_record.proofs.Laws.{pack_wf}

@@ -3,7 +3,6 @@ use Prim.Native.Nat.{ℕ}
 use Rattle.conversion.specs.Conversion.{convert_of}
 use Rattle.gauge.specs.declared.Gauge.{Gauge}
 use Rattle.gauge.specs.Gauge.{with_meter, conversion_of}
-use borrow.Author.Rules.{rules}
 use Rattle.gauge.proofs.Gauge.convert.Goals as goal
 
 found : (g : Gauge) (raw : ℕ) → with_meter g (convert_of g.meter raw) ≡ conversion_of g raw

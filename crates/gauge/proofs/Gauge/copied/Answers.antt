@@ -1,5 +1,4 @@
 use Rattle.gauge.specs.Gauge.{copied_of}
-use borrow.Author.Rules.{rules}
 use Rattle.gauge.proofs.Gauge.copied.Goals as goal
 
 pub returns : goal.returns

@@ -4,7 +4,6 @@ use Rattle.label.specs.Label.{common_locked_of}
 use Rattle.block1.specs.Block1.{meter_locked_of}
 use Rattle.gauge.specs.declared.Gauge.{Gauge}
 use Rattle.gauge.specs.Gauge.{locked_of}
-use borrow.Author.Rules.{rules}
 use Rattle.gauge.proofs.Gauge.locked.Goals as goal
 
 found : (g : Gauge) (a : ℕ) → record {

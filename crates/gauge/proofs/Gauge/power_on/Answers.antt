@@ -3,7 +3,6 @@ use Rattle.state.specs.State.{restarted_of}
 use Rattle.label.specs.Label.{label_powered_of}
 use Rattle.gauge.specs.declared.Gauge.{Gauge}
 use Rattle.gauge.specs.Gauge.{with_parts, power_on_of}
-use borrow.Author.Rules.{rules}
 use Rattle.gauge.proofs.Gauge.power_on.Goals as goal
 
 found : (g : Gauge) → with_parts g (label_powered_of g.label) (restarted_of g.meter) ≡ power_on_of g

@@ -3,7 +3,6 @@ use Rattle.bus.specs.declared.Command.TheVariants.{Write, Copy, Recall, Lock}
 use Rattle.gauge.specs.Gauge.{written_of}
 use Rattle.gauge.specs.Act.{ran_of}
 use Rattle.gauge.proofs.Acting.{ran_by_lem, bytes_after}
-use borrow.Author.Rules.{rules}
 use Rattle.gauge.proofs.Gauge.ran.Goals as goal
 
 pub returns-in-Read : goal.returns-in-Read

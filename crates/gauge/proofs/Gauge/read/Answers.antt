@@ -1,5 +1,4 @@
 use Rattle.gauge.specs.Gauge.{reading_of}
-use borrow.Author.Rules.{rules}
 use Rattle.gauge.proofs.Gauge.read.Goals as goal
 
 pub returns : goal.returns

@@ -1,5 +1,4 @@
 use Rattle.gauge.specs.Gauge.{recalled_of}
-use borrow.Author.Rules.{rules}
 use Rattle.gauge.proofs.Gauge.recalled.Goals as goal
 
 pub returns : goal.returns

@@ -1,5 +1,4 @@
 use Rattle.gauge.specs.Gauge.{sampling_of}
-use borrow.Author.Rules.{rules}
 use Rattle.gauge.proofs.Gauge.sample.Goals as goal
 
 pub returns : goal.returns

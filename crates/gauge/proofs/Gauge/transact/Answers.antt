@@ -3,7 +3,6 @@ use Rattle.numbers.specs.Choice.{both}
 use Rattle.replies.specs.Reply.{selected_of}
 use Rattle.gauge.specs.Act.{can_change}
 use Rattle.gauge.proofs.Acting.{acts, replies, act_idle}
-use borrow.Author.Rules.{rules}
 use Rattle.gauge.proofs.Gauge.transact.Goals as goal
 
 pub returns-then-and : goal.returns-then-and

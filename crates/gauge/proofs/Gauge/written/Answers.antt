@@ -1,5 +1,4 @@
 use Rattle.gauge.specs.Gauge.{written_of}
-use borrow.Author.Rules.{rules}
 use Rattle.gauge.proofs.Gauge.written.Goals as goal
 
 pub returns : goal.returns

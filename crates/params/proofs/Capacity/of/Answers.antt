@@ -1,4 +1,3 @@
-use borrow.Author.Rules.{rules}
 use Rattle.params.proofs.Capacity.of.Goals as goal
 
 pub returns : goal.returns

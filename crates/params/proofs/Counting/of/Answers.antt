@@ -1,5 +1,4 @@
 use Rattle.params.proofs.Laws.{last_of_four}
-use borrow.Author.Rules.{rules}
 use Rattle.params.proofs.Counting.of.Goals as goal
 
 pub returns : goal.returns

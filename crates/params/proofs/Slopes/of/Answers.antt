@@ -1,6 +1,5 @@
 use mathlib.Core.Path.{sym}
 use Rattle.params.proofs.Laws.{slopes_at}
-use borrow.Author.Rules.{rules}
 use Rattle.params.proofs.Slopes.of.Goals as goal
 
 pub returns : goal.returns

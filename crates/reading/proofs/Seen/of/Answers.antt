@@ -1,7 +1,6 @@
 use Rattle.std.proofs.Common.{sym, subst}
 use Rattle.reading.specs.Reading.{SeenWf, seen_of}
 use Rattle.reading.proofs.Laws.{seen_wf}
-use borrow.Author.Rules.{rules}
 use Rattle.reading.proofs.Seen.of.Goals as goal
 
 pub returns : goal.returns

@@ -1,5 +1,4 @@
 use Rattle.std.proofs.Common.{sym, subst}
-use Rattle.numbers.proofs.Bounds.{also}
 use Rattle.state.specs.State.{MeterWf, powered_of}
 use Rattle.state.proofs.Laws.{power_wf}
 use Rattle.std.proofs.Common.{rules}
