@@ -319,7 +319,7 @@ fn put_fifteen(n: usize, out: &mut [u8], at: usize) -> usize
 
 // A number of which the last four digits are packed, and which may have more than five.
 fn put_long(high: u16, low: u16, n: usize, out: &mut [u8], at: usize) -> usize
-    requires fact { ◌≡◌ {A = Twos} (record { high = high; low = low }) (packed_of n) }
+    requires twos_value { ◌≡◌ {A = Twos} (record { high = high; low = low }) (packed_of n) }
     requires n_in_bounds { at + width_of n ≤ length out.old }
     ensures { Writing (width_of n) (decimal_text n) out.old at result out.new }
 {
@@ -338,7 +338,7 @@ fn put_long(high: u16, low: u16, n: usize, out: &mut [u8], at: usize) -> usize
 // A number of which the last four digits are packed, the two halves handed over by themselves: as one struct they would be packed once more. Most numbers
 // have no more digits, and for these no other is worked out.
 pub fn put_counted(high: u16, low: u16, n: usize, out: &mut [u8], at: usize) -> usize
-    requires fact { ◌≡◌ {A = Twos} (record { high = high; low = low }) (packed_of n) }
+    requires twos_value { ◌≡◌ {A = Twos} (record { high = high; low = low }) (packed_of n) }
     requires n_in_bounds { at + width_of n ≤ length out.old }
     ensures { Writing (width_of n) (decimal_text n) out.old at result out.new }
 {

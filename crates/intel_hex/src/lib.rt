@@ -411,9 +411,9 @@ fn put_found(text: &[u8], address: u16, room: &mut [u8], to: usize)
 
 // The label, and the two halves of block 1.
 fn put_imported(text: &[u8], room: &mut [u8])
-    requires text_len { length (data_at 0x20 (text_lines text.now)) ≡ 16 }
-    requires text_len_2 { length (data_at 0x60 (text_lines text.now)) ≡ 16 }
-    requires text_len_3 { length (data_at 0x70 (text_lines text.now)) ≡ 16 }
+    requires label_len { length (data_at 0x20 (text_lines text.now)) ≡ 16 }
+    requires low_len { length (data_at 0x60 (text_lines text.now)) ≡ 16 }
+    requires high_len { length (data_at 0x70 (text_lines text.now)) ≡ 16 }
     requires import_size_in_bounds { import_size ≤ length room.old }
     ensures { room.new ≡ imported_of (text_lines text.now) ++ drop import_size room.old }
 {

@@ -193,8 +193,8 @@ fn put_change(table: &[u8; 512], offset: u8, old: u8, new: u8, room: &mut [u8], 
 
 // The lines of two images, at the front of the room.
 fn put_changes(old: &[u8], new: &[u8], room: &mut [u8]) -> usize
-    requires len { length old.now ≡ 60 }
-    requires len_2 { length new.now ≡ 60 }
+    requires old_len { length old.now ≡ 60 }
+    requires new_len { length new.now ≡ 60 }
     requires changes_size_in_bounds { changes_size ≤ length room.old }
     ensures { Writing changes_size (changes_from 0 old.now new.now) room.old 0 result room.new }
 {

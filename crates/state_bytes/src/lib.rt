@@ -1096,8 +1096,8 @@ fn heard_at(
     room: &mut [u8],
 )
     requires placed { Placed state.now at }
-    requires count_in_bounds { transaction.count ≤ length scratch.old }
-    requires count_in_bounds_2 { transaction.count ≤ length room.old }
+    requires count_in_scratch { transaction.count ≤ length scratch.old }
+    requires count_in_room { transaction.count ≤ length room.old }
     ensures room_after { room.new ≡ on_line transaction first (answer_by transaction (gauge_at state.now at)) room.old }
     ensures bytes { and_bytes (line_high transaction) (answer_by transaction (gauge_at state.now at))
         ≡ answer_by transaction (gauge_at state.now at) }
@@ -1140,7 +1140,7 @@ fn tray_transacted_in(state: &mut [u8], transaction: Transaction, master: &[u8],
     requires state_value { (tray_state_in state.old).number ≡ 0 }
     requires count_bound { transaction.count ≤ 256 }
     requires count_in_bounds { transaction.count ≤ length room.old }
-    ensures fact { let tray = tray_at state.old in
+    ensures became { let tray = tray_at state.old in
         TrayBecame (closed_of (tray_acted transaction master.now (tray_reach tray transaction master.now) tray)) state.new }
     ensures replied { room.new ≡ (let tray = tray_at state.old in
         tray_reply transaction master.now (tray_reach tray transaction master.now) tray

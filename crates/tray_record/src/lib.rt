@@ -354,8 +354,8 @@ pub fn heard(
     room: &mut [u8],
 )
     requires meter_wf { MeterWf meter }
-    requires count_in_bounds { transaction.count ≤ length scratch.old }
-    requires count_in_bounds_2 { transaction.count ≤ length room.old }
+    requires count_in_scratch { transaction.count ≤ length scratch.old }
+    requires count_in_room { transaction.count ≤ length room.old }
     ensures room_after { room.new ≡ on_line transaction first (answer_of transaction common label meter) room.old }
     ensures aside { scratch.new ≡ beside_line transaction first (answer_of transaction common label meter) scratch.old }
     ensures bytes { and_bytes (line_high transaction) (answer_of transaction common label meter) ≡ answer_of transaction common label meter }

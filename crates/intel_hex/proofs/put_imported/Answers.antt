@@ -10,5 +10,5 @@ returns c = let ls = text_lines c.args.text.now in
     c.put_found-3.ensures
     ∙ ap (λ (l : List ℕ). put l 32 (data_at 0x70 ls))
     (c.put_found-2.ensures ∙ ap (λ (l : List ℕ). put l 16 (data_at 0x60 ls)) c.put_found.ensures)
-    ∙ three_put (data_at 0x20 ls) (data_at 0x60 ls) (data_at 0x70 ls) c.args.room.now c.requires.text_len
-    c.requires.text_len_2 c.requires.text_len_3 c.requires.import_size_in_bounds
+    ∙ three_put (data_at 0x20 ls) (data_at 0x60 ls) (data_at 0x70 ls) c.args.room.now c.requires.label_len
+    c.requires.low_len c.requires.high_len c.requires.import_size_in_bounds

@@ -21,7 +21,7 @@ pub put_changes-requires : goal.put_changes-requires
 put_changes-requires c = let done : mending_answer c.args.image.now image_size ≡ Done = sym c.answer-found.ensures ∙ c.in-Done.is in
     let image = c.args.image.now in
     let size = (granted image image_size done).sized in
-    record { len = size; len_2 = ap length c.mended_image-mended.ensures ∙ mended_length image ∙ size; changes_size_in_bounds = omega arith }
+    record { old_len = size; new_len = ap length c.mended_image-mended.ensures ∙ mended_length image ∙ size; changes_size_in_bounds = omega arith }
 
 pub returns-in-Done : goal.returns-in-Done
 returns-in-Done c = let done : mending_answer c.args.image.now image_size ≡ Done = sym c.answer-found.ensures ∙ c.in-Done.is in

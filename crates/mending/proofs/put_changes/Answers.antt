@@ -7,6 +7,6 @@ pub loop-i-preserved : goal.loop-i-preserved
 loop-i-preserved c = (
   omega arith,
   changes_then _ _ _ c.loop-i-test.true
-      (c.requires.len ∙ sym c.requires.len_2) c.loop-i.invariant.1
+      (c.requires.old_len ∙ sym c.requires.new_len) c.loop-i.invariant.1
       c.put_change-next.ensures,
 )

@@ -34,8 +34,8 @@ heard_at-requires c = let l = c.loop-i in
         c.wide-stop.ensures.0,
         c.reached-span.ensures.inside.1,
       )) c.loop-i-test.true);
-      count_in_bounds = omega (arith, c.requires.count_bound, l.invariant.0);
-      count_in_bounds_2 = omega (arith, c.requires.count_in_bounds, l.invariant.1);
+      count_in_scratch = omega (arith, c.requires.count_bound, l.invariant.0);
+      count_in_room = omega (arith, c.requires.count_in_bounds, l.invariant.1);
     }
 
 pub loop-i-preserved : goal.loop-i-preserved

@@ -129,4 +129,4 @@ returns-in-Transact c = let is_state : (tray_state_in c.args.state.now).number â
     Ran of_tray (tray_at a.state.now) (length a.room.now) a.bytes.now c.tray_asked_in-first.result.used (Transact c.in-Transact.transaction) =
     ran of_tray (at_front) (c.in-Run.is âˆ™ ap Run c.in-Transact.is) in
     let told = c.tray_transacted_in.ensures in
-    rw c.stepped-in-Transact.ensures (tray_step_reply _ is_state _ _ at_front transact told.fact told.replied)
+    rw c.stepped-in-Transact.ensures (tray_step_reply _ is_state _ _ at_front transact told.became told.replied)

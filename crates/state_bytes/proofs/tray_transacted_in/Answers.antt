@@ -37,4 +37,4 @@ returns c =
           ∙ ap (λ (l : List ℕ). l ++ drop a.transaction.count a.room.now) (high (test ∙ w.if-changing.true))
       | else-changing w ↦ w.room-is ∙ w.packs_heard_in.ensures
     ] in
-    record { fact = closes acted; replied = replied }
+    record { became = closes acted; replied = replied }

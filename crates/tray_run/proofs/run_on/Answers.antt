@@ -120,8 +120,8 @@ heard-requires c = let l = c.loop-scratch in
         c.reached-span.ensures.inside.1,
         c.loop-scratch.invariant.0.wf.few,
       ))).meter;
-      count_in_bounds = omega (arith, (ran_taking x).1.few, k.invariant.0);
-      count_in_bounds_2 = omega (arith, x.held, room_left l.room l.used, k.invariant.1);
+      count_in_scratch = omega (arith, (ran_taking x).1.few, k.invariant.0);
+      count_in_room = omega (arith, x.held, room_left l.room l.used, k.invariant.1);
     }
 
 pub loop-i-preserved : goal.loop-i-preserved
