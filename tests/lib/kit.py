@@ -3,6 +3,7 @@ import collections
 import functools
 import hashlib
 import os
+import re
 import shutil
 import subprocess
 
@@ -40,6 +41,15 @@ def below(name, top=TOP):
         if dep in crates(top):
             found += [one for one in [*below(dep, top), dep] if one not in found]
     return found
+
+
+def implemented(line):
+    """What a line opens an `impl` of, (the name that rattle gives it, its type): `Breaks`, or of a trait `U8FromRefusal`. Or None."""
+    opened = re.match(r"impl(?:<[^>]*>)? (?:(\w+)(?:<(\w+)>)? for )?(\w+)(?:<[^>]*>)? \{$", line)
+    if not opened:
+        return None
+    trait, of, kind = opened.groups()
+    return "".join(part[0].upper() + part[1:] for part in (kind, trait, of) if part), kind
 
 
 def root(name, top=TOP):

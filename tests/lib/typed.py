@@ -61,14 +61,16 @@ class Function:
 
 
 def functions(crate, source):
-    owners = [(m.start(), m.group(1)) for m in re.finditer(r"(?m)^impl(?:<[^>]*>)? (\w+)", source)]
+    owners = [(m.start(), m.group(1)) for m in re.finditer(r"(?m)^(?:impl(?:<[^>]*>)? (?:\w+(?:<\w+>)? for )?(\w+)|(?:pub )?trait \w+)", source)]
     for head in re.finditer(r"(?m)^( *)(?:pub )?(?:extern \"C\" )?fn (\w+)(?:<[^>]*>)?\(", source):
+        owner = [name for at, name in owners if at < head.start()][-1] if head.group(1) else None
+        if head.group(1) and not owner:
+            continue  # a trait's own, which has no body
         behind = closing(source, head.end() - 1)
         result = re.match(r"\s*->\s*([^\n{]+?)\s*(?=\n|\{)", source[behind:])
         empty = source[behind:source.find("\n", behind)].endswith("{}")
         end = re.compile(r"\{\}" if empty else rf"(?m)^{head.group(1)}(\}}|\{{\}})$").search(source, behind)
         opened = re.compile(rf"(?m)(^{head.group(1)}| )\{{(\}}?)$").search(source, behind)
-        owner = [name for at, name in owners if at < head.start()][-1] if head.group(1) else None
         parameters = []
         for part in cut(source[head.end():behind - 1]):
             name, _, kind = part.partition(":")
@@ -134,7 +136,7 @@ class Sources:
             return None, ""
         names, rest = named.group(1).split("::"), said[named.end(1):]
         called = said[closing(said, named.start(2)):] if named.group(2) else rest
-        if len(names) == 2 and names[0] in self.enums:
+        if len(names) == 2 and (names[0] in self.enums or names[0] in NUMBERS):
             return names[0], called
         if named.group(2) == "(":
             kit = "[u8]" if names[-1] == "buffer" else "u64"
@@ -157,18 +159,28 @@ class Sources:
                 return None
             if step.group(2):
                 rest = rest[closing(rest, step.end() - 1):]
-                kind = "usize" if step.group(1) == "len" else self.results.get((plain(kind), step.group(1)))
+                known_by = plain(kind) if plain(kind) in NUMBERS else self.results.get((plain(kind), step.group(1)))  # min, wrapping_add and the like
+                kind = "usize" if step.group(1) == "len" else known_by
             else:
                 rest = rest[step.end():]
                 kind = self.structs.get(plain(kind), {}).get(step.group(1))
         return kind
 
+    def item(self, said, known, crate):
+        """The type of what a loop goes over, or None."""
+        if ".." in said:
+            return "u64"
+        element = re.match(r"\[([^;\]]+)", plain(self.kind(said, known, crate) or ""))
+        return element and element.group(1)
+
     def names(self, function):
         """[(name, type or None)] of the parameters and locals of a function, in order."""
         found = list(function.parameters)
         known, body = dict(found), function.body
-        for m in re.finditer(r"\blet (?:mut )?(\w+)(?:: ([^=]+?))? =\s*|\b(\w+)::(\w+)\(([^()]*)\) (?:=>|=(?!=))", body):
-            if m.group(1):
+        for m in re.finditer(r"\blet (?:mut )?(\w+)(?:: ([^=]+?))? =\s*|\b(\w+)::(\w+)\(([^()]*)\) (?:=>|=(?!=))|\bfor (\w+) in ([^\n]+) \{\n", body):
+            if m.group(6):
+                bound = [(m.group(6), self.item(m.group(7), known, function.crate))]
+            elif m.group(1):
                 stop = m.end()
                 while body[stop] != ";":
                     stop = closing(body, stop) if body[stop] in "([{" else stop + 1

@@ -1,21 +1,27 @@
 -- Laws of what the master's bytes ask.
 use mathlib.Core.Path.{◌≡◌, refl, sym, ap, ◌∙◌}
-use mathlib.Core.Bool.{Bool, true, false}
+use mathlib.Core.Bool.{Bool, true, false, ◌&&◌}
 use mathlib.Core.List.{List, [], ◌∷◌, ◌++◌}
 use mathlib.Core.Logic.{◌⊎◌, inl, inr, ⊎_elim}
-use Prim.Native.Nat.{ℕ, suc, ◌+◌, ◌*◌, ◌≤◌, ◌<◌}
+use Prim.Native.Nat.{ℕ, ◌+◌, ◌-◌, ◌≤◌, ◌<◌}
 use native.Mathlib.Numerals.{add-one}
 use native.Mathlib.Omega.{arith}
-use borrow.Author.Tests.{ltb-false, eqb-true, eqb-false, eq-eqb, ne_eqb, le-ltb}
+use borrow.Author.Tests.{ltb-false, eqb-true, eq-eqb, ne_eqb, le-ltb, lt-ltb}
 use lib.ListN.{length, get_or, take, drop, length-append, length-drop, drop_of_length-le}
 use lib.Seq.{drop-cons, take_at, length-take-le}
+use Rattle.std.proofs.lemmas.List.{take_rest}
 use lib.Dec.{ltb, eqb}
+use Rattle.std.specs.Array.{IsFirstChunk}
+use Rattle.std.specs.Int.{from_le_bytes, to_le_bytes, w64}
+use Rattle.std.proofs.lemmas.Bool.{false_from_ne_true}
+use Rattle.std.proofs.lemmas.Bool.Decides.{eqb_tells}
+use Rattle.std.proofs.lemmas.Nat.{le_bytes_8}
 use Rattle.numbers.specs.Choice.{both}
 use Rattle.numbers.proofs.Bounds.{picked, both_true}
 use Rattle.bus.specs.declared.Rom.{Rom}
 use Rattle.bus.specs.declared.Rom.TheVariants.{Net33, Net39, Skip, Match, Quiet}
 use Rattle.bus.specs.declared.Transaction.{Transaction}
-use Rattle.bus.specs.Ask.{rom_of, command_of, plain_of, asked_at, asked_by, asked_of, same_bytes, little_endian, AsNumber, own_of}
+use Rattle.bus.specs.Ask.{rom_of, command_of, plain_of, asked_at, asked_by, asked_of, AllBytes, same_bytes, own_of}
 
 -- ---- two lists with the same bytes
 
@@ -53,57 +59,31 @@ module _ (a b : List ℕ) (i : ℕ) (size : length a ≡ length b) (so_far : sam
       let k : length b ≤ i = omega arith in
       rw (drop_of_length-le a h, drop_of_length-le b k) at so_far
 
--- ---- bytes as a number
-
--- from one place on: the byte there, and the number from the next place on
-number_more : (s : List ℕ) (i : ℕ) → i < length s → little_endian (drop i s) ≡ get_or s i 0 + 256 * little_endian (drop (i + 1) s)
-number_more s i h = rw (drop-cons s i 0, add-one)
-
-pub number_eight : (s : List ℕ) → length s ≡ 8
-    → little_endian s ≡
-    get_or s 0 0
-    + 0x100 * get_or s 1 0
-    + 0x10000 * get_or s 2 0
-    + 0x1000000 * get_or s 3 0
-    + 0x100000000 * get_or s 4 0
-    + 0x10000000000 * get_or s 5 0
-    + 0x1000000000000 * get_or s 6 0
-    + 0x100000000000000 * get_or s 7 0
-number_eight s e =
-    let none = ap little_endian (drop_of_length-le s {i = 8} (omega arith)) in
-    omega (
-      arith,
-      none,
-      number_more s 0 (omega arith),
-      number_more s 1 (omega arith),
-      number_more s 2 (omega arith),
-      number_more s 3 (omega arith),
-      number_more s 4 (omega arith),
-      number_more s 5 (omega arith),
-      number_more s 6 (omega arith),
-      number_more s 7 (omega arith),
-    )
-
--- two numbers are equal where their low bytes are, and the numbers above them
-low_same : (x y m n : ℕ) → x < 256 → y < 256 → eqb (x + 256 * m) (y + 256 * n) ≡ both (eqb x y) (eqb m n)
-low_same x y m n p q = go (eqb x y) refl (eqb m n) refl
+-- two numbers of eight bytes are equal where the bytes are
+pub numbers_same : (a b : List ℕ) (m n : ℕ) → length a ≡ 8 → length b ≡ 8 → AllBytes a → AllBytes b → m ≡ from_le_bytes w64 a → n ≡ from_le_bytes w64 b
+    → eqb m n ≡ same_bytes b a
+numbers_same a b m n long_a long_b bytes_a bytes_b is_a is_b =
+    ⊎_elim
+    (λ t. t.0 ∙ sym (ap (same_bytes b) (same_list t.1) ∙ equal_same b))
+    (λ t. t.0 ∙ sym (false_from_ne_true (same_bytes b a) (λ e. t.1 (other e))))
+    (eqb_tells m n)
   where
-    go : (s : Bool) → eqb x y ≡ s → (t : Bool) → eqb m n ≡ t → eqb (x + 256 * m) (y + 256 * n) ≡ both s t
-    go true e true f = eq-eqb (x + 256 * m) (y + 256 * n) (omega (arith, eqb-true x y e, eqb-true m n f))
-    go true e false f = ne_eqb (x + 256 * m) (y + 256 * n) (λ h. eqb-false m n f (omega arith))
-    go false e t f = ne_eqb (x + 256 * m) (y + 256 * n) (λ h. eqb-false x y e (omega arith))
+    same_list : m ≡ n → a ≡ b
+    same_list e = sym (le_bytes_8 a m long_a bytes_a is_a) ∙ ap (to_le_bytes w64) e ∙ le_bytes_8 b n long_b bytes_b is_b
 
--- bytes are the same where their numbers are
-number_same : (a b : List ℕ) → length a ≡ length b → ((i : ℕ) → get_or a i 0 < 256) → ((i : ℕ) → get_or b i 0 < 256)
-    → eqb (little_endian a) (little_endian b) ≡ same_bytes a b
-number_same [] [] e p q = refl
-number_same [] (y ∷ ys) e p q = absurd (omega arith)
-number_same (x ∷ xs) [] e p q = absurd (omega arith)
-number_same (x ∷ xs) (y ∷ ys) e p q =
-    low_same x y (little_endian xs) (little_endian ys) (p 0) (q 0)
-    ∙ ap (both (eqb x y)) (number_same xs ys (omega arith) (λ i. p (suc i)) (λ i. q (suc i)))
+    other : same_bytes b a ≡ true → m ≡ n
+    other e = is_a ∙ ap (from_le_bytes w64) (sym (same_equal b a e)) ∙ sym is_b
 
--- ---- the own address
+-- the first 8 bytes after the first, as a number, and that of the address
+pub own_given : (address master given : List ℕ) (m n : ℕ) → length address ≡ 8 → AllBytes address → AllBytes given
+    → IsFirstChunk (take (length master - 1) (drop 1 master)) given 8 → m ≡ from_le_bytes w64 given → n ≡ from_le_bytes w64 address
+    → eqb m n ≡ own_of address master
+unfolding own_of
+own_given address master given m n long bytes bytes_given chunk is_given is_own =
+    let h = rw take_rest at chunk in
+    let far : 9 ≤ length master = omega (arith, h.enough, length-drop 1 master) in
+    let size : length given ≡ 8 = omega (arith, h.enough, ap length h.same, length-take-le 8 (drop 1 master) h.enough) in
+    simp (le-ltb _ _ far) (numbers_same given address m n size long bytes_given bytes is_given is_own ∙ ap (same_bytes address) h.same)
 
 -- 55h and the own address, with anything after them
 pub own_own : (address rest : List ℕ) → length address ≡ 8 → own_of address (0x55 ∷ (address ++ rest)) ≡ true
@@ -119,15 +99,6 @@ own_only address master =
     picked (λ (t : Bool). t ≡ true → take 8 (drop 1 master) ≡ address) (ltb (length master) 9) false (same_bytes address (take 8 (drop 1 master)))
     (λ short e. absurd (never e))
     (λ long e. sym (same_equal address (take 8 (drop 1 master)) e))
-
--- the own address is told by its number
-pub own_numbers : (address master : List ℕ) {x y : ℕ} → 9 ≤ length master → length address ≡ 8
-    → AsNumber address x → AsNumber (take 8 (drop 1 master)) y → eqb x y ≡ own_of address master
-unfolding own_of
-own_numbers address master long size of-own of-given =
-    let given : length (take 8 (drop 1 master)) ≡ 8 = length-take-le 8 (drop 1 master) (omega (arith, length-drop 1 master)) in
-    simp (le-ltb _ _ long, of-own.number, of-given.number)
-    (number_same address (take 8 (drop 1 master)) (omega arith) of-own.bytes of-given.bytes)
 
 -- ---- the transaction
 

@@ -1,5 +1,5 @@
 -- What the master's bytes ask. Each transaction starts at a bus reset.
-use Rattle.std.specs.Prelude.{◌≡◌, ℕ, ◌+◌, ◌*◌, ◌<◌, Bool, true, false, List, [], ◌∷◌, length, get_or, take, drop, ltb, eqb}
+use Rattle.std.specs.Prelude.{ℕ, ◌+◌, ◌<◌, Bool, true, false, List, [], ◌∷◌, length, get_or, take, drop, ltb, eqb}
 use Rattle.numbers.specs.Choice.{pick, both}
 use Rattle.bus.specs.declared.Rom.{Rom}
 use Rattle.bus.specs.declared.Rom.TheVariants.{Net33, Net39, Skip, Match, Quiet}
@@ -50,22 +50,16 @@ asked_by start count master Quiet = plain_of start count Quiet
 unfoldable pub asked_of : ℕ → ℕ → List ℕ → Transaction
 asked_of start count master = asked_by start count master (rom_of master)
 
+-- what stands at each place is a byte
+abbrev pub AllBytes : List ℕ → Type 0
+AllBytes a = (i : ℕ) → get_or a i 0 < 256
+
 -- two lists have the same bytes
 abbrev pub same_bytes : List ℕ → List ℕ → Bool
 same_bytes [] [] = true
 same_bytes [] (y ∷ ys) = false
 same_bytes (x ∷ xs) [] = false
 same_bytes (x ∷ xs) (y ∷ ys) = both (eqb x y) (same_bytes xs ys)
-
--- bytes as one number, the low byte first
-abbrev pub little_endian : List ℕ → ℕ
-little_endian [] = 0
-little_endian (x ∷ xs) = x + 256 * little_endian xs
-
--- r is the number of these bytes. That they are bytes is said for the proofs of callers, to which they are a list of numbers
-pub record AsNumber (s : List ℕ) (r : ℕ) : Type 0 where
-  pub number : r ≡ little_endian s
-  pub bytes : (i : ℕ) → get_or s i 0 < 256
 
 -- the 8 bytes after the first are the own address
 unfoldable pub own_of : List ℕ → List ℕ → Bool

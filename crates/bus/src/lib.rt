@@ -2,7 +2,8 @@
 #![tactic(auto)]
 
 ghost use Rattle.std.specs.Prelude.{◌≡◌, ◌<◌, length};
-ghost use Rattle.bus.specs.Ask.{rom_by, rom_of, command_of, plain_of, asked_at, asked_of, AsNumber, own_of};
+ghost use Rattle.bus.specs.Ask.{rom_by, rom_of, command_of, plain_of, asked_at, asked_of, AllBytes, own_of};
+ghost use Rattle.std.specs.Int.{from_le_bytes, w64};
 
 // What the first master byte says: a net address read by 33h or 39h, Skip, Match, or nothing.
 #[derive(Clone, Copy)]
@@ -38,52 +39,44 @@ pub struct Transaction {
     pub count: u16,
 }
 
-fn rom_by(b: u8) -> Rom
-    ensures { result ≡ rom_by b }
-{
-    if b == 0x33 {
-        return Rom::Net33;
+impl From<u8> for Rom {
+    #[tactic(auto, unfolding(crate::specs::Ask::rom_by))]
+    fn from(b: u8) -> Rom
+        ensures { result ≡ rom_by b }
+    {
+        match b {
+            0x33 => Rom::Net33,
+            0x39 => Rom::Net39,
+            0xcc => Rom::Skip,
+            0x55 => Rom::Match,
+            _ => Rom::Quiet,
+        }
     }
-    if b == 0x39 {
-        return Rom::Net39;
+}
+
+impl From<u8> for Command {
+    #[tactic(auto, unfolding(crate::specs::Ask::command_of))]
+    fn from(b: u8) -> Command
+        ensures { result ≡ command_of b }
+    {
+        match b {
+            0x69 => Command::Read,
+            0x6c => Command::Write,
+            0x48 => Command::Copy,
+            0xb8 => Command::Recall,
+            0x6a => Command::Lock,
+            _ => Command::Nothing,
+        }
     }
-    if b == 0xcc {
-        return Rom::Skip;
-    }
-    if b == 0x55 {
-        return Rom::Match;
-    }
-    Rom::Quiet
 }
 
 fn rom_of(master: &[u8]) -> Rom
     ensures { result ≡ rom_of master.now }
 {
-    if master.len() == 0 {
-        return Rom::Quiet;
+    match master {
+        [] => Rom::Quiet,
+        [b, ..] => Rom::from(*b),
     }
-    rom_by(master[0])
-}
-
-fn command_of(b: u8) -> Command
-    ensures { result ≡ command_of b }
-{
-    if b == 0x69 {
-        return Command::Read;
-    }
-    if b == 0x6c {
-        return Command::Write;
-    }
-    if b == 0x48 {
-        return Command::Copy;
-    }
-    if b == 0xb8 {
-        return Command::Recall;
-    }
-    if b == 0x6a {
-        return Command::Lock;
-    }
-    Command::Nothing
 }
 
 // A transaction with no function command.
@@ -91,12 +84,12 @@ fn plain(start: u32, count: u16, rom: Rom) -> Transaction
     ensures { result ≡ plain_of start count rom }
 {
     Transaction {
-        start: start,
+        start,
         from: 0,
         address: 0,
-        rom: rom,
+        rom,
         command: Command::Nothing,
-        count: count,
+        count,
     }
 }
 
@@ -109,12 +102,12 @@ fn asked_at(start: u32, count: u16, rom: Rom, at: u8, master: &[u8]) -> Transact
         return plain(start, count, rom);
     }
     Transaction {
-        start: start,
+        start,
         from: at + 2,
         address: master[i + 1],
-        rom: rom,
-        command: command_of(master[i]),
-        count: count,
+        rom,
+        command: Command::from(master[i]),
+        count,
     }
 }
 
@@ -122,44 +115,31 @@ fn asked_at(start: u32, count: u16, rom: Rom, at: u8, master: &[u8]) -> Transact
 pub fn asked(start: u32, count: u16, master: &[u8]) -> Transaction
     ensures { result ≡ asked_of start count master.now }
 {
-    let rom = rom_of(master);
-    match rom {
+    match rom_of(master) {
         Rom::Skip => asked_at(start, count, Rom::Skip, 1, master),
         Rom::Match => asked_at(start, count, Rom::Match, 9, master),
-        Rom::Net33 => plain(start, count, Rom::Net33),
-        Rom::Net39 => plain(start, count, Rom::Net39),
-        Rom::Quiet => plain(start, count, Rom::Quiet),
+        rom => plain(start, count, rom),
     }
 }
 
-// A byte as a number of 64 bits. That it is below 256 is said too, which an element of a slice does not say.
-fn wide8(x: u8) -> u64
-    ensures { (result ≡ x) × (result < 256) }
+// Eight bytes as one number. That each is below 256 is said too: so equal numbers have the same bytes.
+fn number(bytes: &[u8; 8]) -> u64
+    ensures value { result ≡ from_le_bytes w64 bytes.now }
+    ensures eight { length bytes.now ≡ 8 }
+    ensures bounded { AllBytes bytes.now }
 {
-    x as u64
+    u64::from_le_bytes(*bytes)
 }
 
-// Eight bytes as one number, the low byte first: the compiler makes one load of it, where a loop over the bytes stays a loop.
-fn number8(bytes: &[u8]) -> u64
-    requires { length bytes.now ≡ 8 }
-    ensures { AsNumber bytes.now result }
-{
-    wide8(bytes[0])
-        + 0x100 * wide8(bytes[1])
-        + 0x10000 * wide8(bytes[2])
-        + 0x1000000 * wide8(bytes[3])
-        + 0x100000000 * wide8(bytes[4])
-        + 0x10000000000 * wide8(bytes[5])
-        + 0x1000000000000 * wide8(bytes[6])
-        + 0x100000000000000 * wide8(bytes[7])
-}
-
-// Whether the 8 bytes after the first are the own address.
+// Whether the 8 bytes after the first are the own address. (As numbers they are compared at once; `==` of arrays goes byte by byte.)
 pub fn own(address: [u8; 8], master: &[u8]) -> bool
     ensures { result ≡ own_of address master.now }
 {
-    if master.len() < 9 {
-        return false;
+    match master {
+        [_, rest @ ..] => match rest.first_chunk() {
+            Some(named) => number(named) == number(&address),
+            None => false,
+        },
+        [] => false,
     }
-    number8(&address) == number8(&master[1..9])
 }

@@ -1,45 +1,41 @@
 -- The loop of `put_sums`: where it stands after some messages, and how it comes there.
-use mathlib.Core.Path.{◌≡◌, refl, sym, ap, ◌∙◌}
-use mathlib.Core.List.{List}
-use Prim.Native.Nat.{ℕ, ◌+◌, ◌*◌, ◌≤◌}
-use native.Mathlib.Nat.{zero-add}
+use mathlib.Core.Path.{◌≡◌, refl, ◌∙◌}
+use mathlib.Core.List.{List, [], ◌∷◌}
+use Prim.Native.Nat.{ℕ, ◌+◌, ◌-◌, ◌*◌, ◌≤◌}
 use native.Mathlib.Omega.{arith}
-use lib.ListN.{length, drop, length-append, drop_of_length-le}
-use Rattle.slices.specs.Slices.{put}
-use Rattle.slices.proofs.Laws.{put_length, put_next}
-use Rattle.digits.specs.Digits.{Writing}
+use lib.ListN.{length, drop, length-drop}
+use Rattle.slices.specs.Slices.{part}
+use Rattle.slices.proofs.Laws.{part_rest}
+use Rattle.digits.specs.declared.Page.{Page}
+use Rattle.digits.specs.Digits.{Appends}
+use Rattle.digits.proofs.Laws.{none, then, wider}
 use Rattle.checksum.specs.Sums.{sums_text, Summed}
 
--- the messages before the index at are answered: what is still to be written, after what is there, is the whole
-pub record Going (s before room : List ℕ) (at used : ℕ) : Type 0 where
-  pub within : at ≤ length s
-  pub short : used ≤ 3 * at
-  pub sized : length room ≡ length before
-  pub counted : used + length (sums_text (drop at s)) ≡ length (sums_text s)
-  pub written : put room used (sums_text (drop at s)) ≡ put before 0 (sums_text s)
+-- the messages before the rest are answered: whatever is put behind their lines as the rest makes the whole
+pub record Going (s : List ℕ) (before page : Page) (rest : List ℕ) : Type 0 where
+  pub within : length rest ≤ length s
+  pub short : page.used + 3 * length rest ≤ before.used + 3 * length s
+  pub lent : page.room.ghost_name ≡ before.room.ghost_name
+  pub sized : length page.room.now ≡ length before.room.now
+  pub whole : (m : ℕ) (after : Page) → Appends m (sums_text rest) page after → Appends (3 * (length s - length rest) + m) (sums_text s) before after
 
-pub start : {s before : List ℕ} → Going s before before 0 0
-start = record { within = omega arith; short = omega arith; sized = refl; counted = zero-add _; written = refl }
+pub start : {s : List ℕ} {before : Page} → Going s before before s
+start = record { within = omega arith; short = omega arith; lent = refl; sized = refl; whole = λ m after w. wider w (omega arith) }
 
-pub more : {s before room after line : List ℕ} {at used next : ℕ} → Going s before room at used → Summed s at line next
-    → after ≡ put room used line → Going s before after next (used + 3)
-more {s} {room = room} {line = line} {at = at} {used = used} {next = next} g a e =
-    let rest = sums_text (drop next s) in
-    let both : length (sums_text (drop at s)) ≡ 3 + length rest = ap length a.lines ∙ length-append line rest ∙ omega arith in
+pub more : {s rest line : List ℕ} {before page after : Page} {size : ℕ} → Going s before page rest → Summed rest line size
+    → Appends (length line) line page after → Going s before after (part (length rest - size) rest size)
+more {rest = rest} {line = line} {size = size} g a put =
+    let left = length-drop size rest in
+    rw (part_rest rest size)
     record {
-      within = a.within;
-      short = omega arith;
-      sized = ap length e ∙ put_length room used line ∙ g.sized;
-      counted = omega (arith, g.counted);
-      written =
-          rw e
-          (put_next room used (used + 3) line rest (omega arith)
-          ∙ ap (λ (t : List ℕ). put room used t) (sym a.lines)
-          ∙ g.written);
+      within = omega (arith, g.within, left);
+      short = omega (arith, g.short, put.writing.within, a.three, a.onward, a.within, left);
+      lent = put.lent ∙ g.lent;
+      sized = put.size ∙ g.sized;
+      whole = λ m last w.
+          wider (g.whole (length line + m) last (rw a.lines (then put w))) (omega (arith, a.three, a.onward, a.within, g.within, left));
     }
 
-pub ended : {s before room : List ℕ} {at used : ℕ} → Going s before room at used → length s ≤ at →
-    Writing (3 * length s) (sums_text s) before 0 used room
-ended {s} {at = at} g e =
-    let none = drop_of_length-le s e in
-    record { onward = omega (arith, rw none at g.counted); written = rw none at g.written; within = omega (arith, g.within, g.short) }
+pub ended : {s rest : List ℕ} {before page : Page} → Going s before page rest → length rest ≡ 0 → Appends (3 * length s) (sums_text s) before page
+ended {rest = []} {page = page} g e = wider (g.whole 0 page (none page)) (omega arith)
+ended {rest = x ∷ xs} g e = absurd (omega arith)

@@ -26,29 +26,30 @@ passed (suc k) [] = refl
 passed (suc k) (x ∷ s) = passed k s
 
 -- a length byte, and what is behind it
-opened : (s : List ℕ) (at n : ℕ) → at < length s → n ≡ get_or s at 0 → sums_text (drop at s) ≡ sums_text (n ∷ drop (at + 1) s)
-opened s at n h is = rw (add-one, drop-cons s at 0, is)
+opened : (s : List ℕ) (n : ℕ) → 0 < length s → n ≡ get_or s 0 0 → sums_text s ≡ sums_text (n ∷ drop 1 s)
+opened [] n h is = absurd (omega arith)
+opened (x ∷ s) n h is = ap (λ (k : ℕ). sums_text (k ∷ s)) (sym is)
 
--- What is written of the message that starts at the index at, with the length byte n
+-- What is written of the message at the front, with the length byte n
 
-module _ {s : List ℕ} {at n : ℕ} (h : at < length s) (is : n ≡ get_or s at 0) where
-  pub whole_answer : {c : ℕ} {line : List ℕ} → there_of n (length s - (at + 1)) ≡ true
-      → c ≡ crc_of (part (at + 1 + n - (at + 1)) s (at + 1)) → line ≡ crc_line c → Summed s at line (at + 1 + n)
+module _ {s : List ℕ} {n : ℕ} (h : 0 < length s) (is : n ≡ get_or s 0 0) where
+  pub whole_answer : {c : ℕ} {line : List ℕ} → there_of n (length s - 1) ≡ true → c ≡ crc_of (part (1 + n - 1) s 1) → line ≡ crc_line c
+      → Summed s line (1 + n)
   whole_answer w e l =
-      let k : at + 1 + n - (at + 1) ≡ n = omega arith in
+      let k : 1 + n - 1 ≡ n = omega arith in
       record {
         goes = rw (← is, w);
-        lines = rw (opened s at n h is, length-drop (at + 1) s, w, passed n (drop (at + 1) s), drop-drop n (at + 1) s, l, e, k);
+        lines = rw (opened s n h is, length-drop 1 s, w, passed n (drop 1 s), drop-drop n 1 s, l, e, k);
         three = ap length l;
         onward = omega arith;
-        within = omega (arith, there_left n (length s - (at + 1)) w);
+        within = omega (arith, there_left n (length s - 1) w);
       }
 
-  pub cut_answer : there_of n (length s - (at + 1)) ≡ false → Summed s at cut_text (length s)
+  pub cut_answer : there_of n (length s - 1) ≡ false → Summed s cut_text (length s)
   cut_answer w =
       record {
         goes = rw (← is, w);
-        lines = rw (opened s at n h is, length-drop (at + 1) s, w, drop-length s);
+        lines = rw (opened s n h is, length-drop 1 s, w, drop-length s);
         three = refl;
         onward = h;
         within = omega arith;

@@ -40,14 +40,14 @@ summed_of failed s = pick failed (error (unread_text checksum_name)) (output (ch
 
 -- ---- what the code promises of one message
 
--- where the next message starts: at the end where this one is not there whole
-abbrev pub next_message : List ℕ → ℕ → ℕ
-next_message s at = pick (there_of (get_or s at 0) (length s - (at + 1))) (at + 1 + get_or s at 0) (length s)
+-- how many bytes the message at the front takes: all where it is not there whole
+abbrev pub message_size : List ℕ → ℕ
+message_size s = pick (there_of (get_or s 0 0) (length s - 1)) (1 + get_or s 0 0) (length s)
 
--- the lines from the index at on are this line, and then the lines from the index next on. The last two fields follow, and are said for the loop
-pub record Summed (s : List ℕ) (at : ℕ) (line : List ℕ) (next : ℕ) : Type 0 where
-  pub goes : next ≡ next_message s at
-  pub lines : sums_text (drop at s) ≡ line ++ sums_text (drop next s)
+-- the lines of all are this line, and then the lines of what is behind its message. The last two fields follow, and are said for the loop
+pub record Summed (s line : List ℕ) (size : ℕ) : Type 0 where
+  pub goes : size ≡ message_size s
+  pub lines : sums_text s ≡ line ++ sums_text (drop size s)
   pub three : length line ≡ 3
-  pub onward : at < next
-  pub within : next ≤ length s
+  pub onward : 0 < size
+  pub within : size ≤ length s

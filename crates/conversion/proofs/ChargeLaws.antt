@@ -1,20 +1,18 @@
 -- What the definitions keep: a charge is well-formed after steps 1 to 5, and bounds of AF and of a share.
-use mathlib.Core.Path.{◌≡◌, refl, sym, ap, ◌∙◌}
-use mathlib.Core.Bool.{Bool, true, false, not}
-use Prim.Native.Nat.{ℕ, ◌+◌, ◌-◌, ◌*◌, ◌^◌, ◌≤◌, ◌<◌}
+use mathlib.Core.Path.{◌≡◌, refl, ap}
+use mathlib.Core.Bool.{Bool, true, false}
+use Prim.Native.Nat.{ℕ, ◌+◌, ◌*◌, ◌^◌, ◌≤◌, ◌<◌}
 use native.Mathlib.Omega.{arith}
 use lib.Dec.{eqb, ltb, leb}
-use borrow.Author.Tests.{ltb-true, ltb-false, eqb-false, ne_eqb, lt-ltb, le-ltb, lt-leb, le-leb}
-use Rattle.numbers.specs.Offset.{zero_at}
-use Rattle.numbers.specs.Choice.{pick, both, either, but_not}
-use Rattle.numbers.proofs.Bounds.{times, picked, both_true}
-use Rattle.numbers.proofs.Offset.{order}
+use borrow.Author.Tests.{ltb-true, ltb-false, eqb-false, le-leb}
+use Rattle.numbers.specs.Choice.{but_not}
+use Rattle.numbers.proofs.Bounds.{times, picked}
 use Rattle.params.specs.declared.Counting.{Counting}
 use Rattle.state.specs.declared.Profile.{Profile}
-use Rattle.state.specs.State.{blanking_edge_of, ChargeWf, acr_of}
+use Rattle.state.specs.State.{ChargeWf}
 use Rattle.state.specs.declared.Charge.{Charge}
 use Rattle.conversion.specs.declared.Age.{Age}
-use Rattle.conversion.specs.Conversion.{set_of, with_as, marked_of, turned_of, learning_of, blanked_of, grown_of, added_of, fall_of}
+use Rattle.conversion.specs.Conversion.{set_of, with_as, marked_of, blanked_of, grown_of, added_of, fall_of}
 use Rattle.conversion.specs.Conversion.{aged_of, new_count, new_age, counted_of, aged_full_of, share_of, share_up_of}
 
 pub set_wf : (g : Charge) (acr : ℕ) (learnf : Bool) → acr ≤ 65535 → ChargeWf g → ChargeWf (set_of g acr learnf)
@@ -52,27 +50,6 @@ aged_stays ac age aging e =
     picked (λ (x : Age). x.aging ≡ aging) (eqb ac 0) _ _ (λ z. refl)
     (λ z. picked (λ (x : Age). x.aging ≡ aging) (ltb age (32 * ac)) _ _ (λ y. refl)
     (λ y. let low = le-leb (32 * ac) age (ltb-false age (32 * ac) y) in cc))
-
--- steps 1 and 5: what is left of LEARNF where it is set, and where it is not
-but_first : (s t : Bool) → but_not (not s) t ≡ but_not (but_not true s) t
-but_first true t = refl
-but_first false t = refl
-
-but_never : (s t : Bool) → false ≡ but_not (but_not false s) t
-but_never true true = refl
-but_never true false = refl
-but_never false true = refl
-but_never false false = refl
-
-pub learning_on : (last c count : ℕ) → but_not (not (turned_of last c)) (eqb (acr_of count) 0) ≡ learning_of true last c count
-learning_on last c count = but_first (turned_of last c) (eqb (acr_of count) 0)
-
-pub learning_off : (last c count : ℕ) → false ≡ learning_of false last c count
-learning_off last c count = but_never (turned_of last c) (eqb (acr_of count) 0)
-
--- a counter below 32 × AC: AC is not 0
-pub counts_up : (ac age : ℕ) → age < 32 * ac → eqb ac 0 ≡ false
-counts_up ac age h = ne_eqb ac 0 (λ e. omega (arith, h, e))
 
 pub counted_wf : (f : Profile) (p : Counting) (g : Charge) (last c : ℕ) → p.ac ≤ 65535 → ChargeWf g → ChargeWf (counted_of f p g last c)
 unfolding counted_of
@@ -117,90 +94,3 @@ share_up_least x full40 acr h = omega arith
 
 pub share_up_high : (x full40 : ℕ) → x ≤ 16384 → share_up_of x full40 ≤ full40
 share_up_high x full40 p = share_up_least x full40 full40 (times x full40 16384 full40 p (omega arith))
-
-either_way : (t : Bool) {a b : ℕ} → a ≡ b → pick t a b ≡ b
-either_way true e = e
-either_way false e = refl
-
-not_both : (t : Bool) → both t false ≡ false
-not_both true = refl
-not_both false = refl
-
--- step 2 as one range: from where blanking ends below 0, or from 0 without NBEN, up to 63; in it 0 counts as 0 anyway
-module _ (edge c : ℕ) (near : edge ≤ 17) where
-  abbrev within : Bool → Bool
-  within nben = both (leb (pick nben (zero_at 15 + 1 - edge) (zero_at 15)) c) (ltb c (zero_at 15 + 64))
-
-  abbrev blank : Bool → Bool
-  blank nben = either (both (ltb (zero_at 15) c) (ltb c (zero_at 15 + 64))) (both nben (both (ltb (zero_at 15 - edge) c) (ltb c (zero_at 15))))
-
-  abbrev InRange : Bool → Type 0
-  InRange nben = pick (within nben) (zero_at 15) c ≡ pick (blank nben) (zero_at 15) c
-
-  below : (nben : Bool) → c < zero_at 15 → InRange nben
-  below true h =
-      order (zero_at 15 - edge) c _
-      (λ k. simp (
-        lt-ltb c (zero_at 15 + 64) (omega arith),
-        le-ltb (zero_at 15) c (omega arith),
-        lt-ltb c (zero_at 15) h,
-        lt-ltb (zero_at 15 - edge) c k,
-        le-leb (zero_at 15 + 1 - edge) c (omega arith),
-      ))
-      (λ k. simp (le-ltb (zero_at 15) c (omega arith), le-ltb (zero_at 15 - edge) c k, lt-leb (zero_at 15 + 1 - edge) c (omega arith)))
-  below false h = simp (le-ltb (zero_at 15) c (omega arith), lt-leb (zero_at 15) c h)
-
-  above : (nben : Bool) → zero_at 15 < c → InRange nben
-  above nben h =
-      let reached = le-leb (pick nben (zero_at 15 + 1 - edge) (zero_at 15)) c (picked (λ (x : ℕ). x ≤ c) nben _ _ (λ d. omega arith) (λ d. omega arith)) in
-      order c (zero_at 15 + 64) _
-      (λ k. simp (reached, lt-ltb (zero_at 15) c h, lt-ltb c (zero_at 15 + 64) k))
-      (λ k. simp (
-        reached,
-        le-ltb c (zero_at 15 + 64) k,
-        lt-ltb (zero_at 15 - edge) c (omega arith),
-        le-ltb c (zero_at 15) (omega arith),
-        lt-ltb (zero_at 15) c h,
-        not_both nben,
-      ))
-
-  in_range : (nben : Bool) → InRange nben
-  in_range nben =
-      order c (zero_at 15) _ (below nben)
-      (λ h. order (zero_at 15) c _ (above nben) (λ k. either_way (within nben) (omega arith) ∙ sym (either_way (blank nben) (omega arith))))
-
-edge_near : (f : Profile) → blanking_edge_of f ≤ 17
-edge_near Profile.Ds2781 = omega arith
-edge_near Profile.Ds2775 = omega arith
-
-always : (t : Bool) → both t true ≡ t
-always true = refl
-always false = refl
-
-module _ (f : Profile) (nben : Bool) (c : ℕ) where
-  abbrev lowest : ℕ
-  lowest = pick nben (zero_at 15 + 1 - blanking_edge_of f) (zero_at 15)
-
-  abbrev slight : Bool
-  slight = both (leb (zero_at 15 - 16) c) (ltb c (zero_at 15 + 64))
-
-  blanked_in_range : pick (both (leb lowest c) (ltb c (zero_at 15 + 64))) (zero_at 15) c ≡ blanked_of f nben c
-  blanked_in_range = in_range (blanking_edge_of f) c (edge_near f) nben
-
-  pub blanked_slight : slight ≡ true → pick (leb lowest c) (zero_at 15) c ≡ blanked_of f nben c
-  blanked_slight e =
-      let whole = ap (both (leb lowest c)) (both_true (leb (zero_at 15 - 16) c) (ltb c (zero_at 15 + 64)) e).1 ∙ always (leb lowest c) in
-      ap (λ (t : Bool). pick t (zero_at 15) c) (sym whole) ∙ blanked_in_range
-
-  unblanked : both (leb lowest c) (ltb c (zero_at 15 + 64)) ≡ false → c ≡ blanked_of f nben c
-  unblanked e = sym (ap (λ (t : Bool). pick t (zero_at 15) c) e) ∙ blanked_in_range
-
-  pub blanked_strong : slight ≡ false → c ≡ blanked_of f nben c
-  blanked_strong e =
-      order c (zero_at 15 - 16) _
-      (λ h.
-      let under : c < lowest = picked (λ (x : ℕ). c < x) nben _ _ (λ d. omega (arith, edge_near f)) (λ d. omega arith) in
-      unblanked (ap (λ (t : Bool). both t (ltb c (zero_at 15 + 64))) (lt-leb lowest c under)))
-      (λ h.
-      let past : ltb c (zero_at 15 + 64) ≡ false = sym (ap (λ (t : Bool). both t (ltb c (zero_at 15 + 64))) (le-leb (zero_at 15 - 16) c h)) ∙ e in
-      unblanked (ap (both (leb lowest c)) past ∙ not_both (leb lowest c)))

@@ -1,25 +1,14 @@
 -- What the definitions keep: a meter is well-formed after each event.
-use mathlib.Core.Path.{◌≡◌, refl, sym, ap, ◌∙◌}
-use mathlib.Core.Bool.{Bool, true, false}
+use mathlib.Core.Path.{◌≡◌, refl}
+use mathlib.Core.Bool.{true, false}
 use Prim.Native.Nat.{ℕ, ◌+◌, ◌≤◌}
-use native.Mathlib.Omega.{arith}
-use Rattle.numbers.specs.Choice.{pick, both}
+use Rattle.numbers.specs.Choice.{both}
 use Rattle.params.specs.declared.Limits.{Limits}
 use Rattle.state.specs.declared.Charge.{Charge}
-use Rattle.state.specs.State.{ChargeWf, MeterWf, counts_cycles}
+use Rattle.state.specs.State.{MeterWf, counts_cycles}
 use Rattle.conversion.specs.Conversion.{with_charge, with_cycles, fall_of, advanced_of, cycled_of, eighth, found_of, charged_of, flowed_of}
-use Rattle.state.specs.declared.Cycles.{Cycles}
 use Rattle.conversion.proofs.FullLaws.{settled_wf, averaged_wf}
 use Rattle.state.specs.declared.Meter.{Meter}
-
-pub charged_wf : (m : Meter) (g : Charge) (y : Cycles) → ChargeWf g → MeterWf m → MeterWf (with_cycles (with_charge m g) y)
-charged_wf m g y h w = record { charge = h; average = w.average; full = w.full; volt = w.volt; temp = w.temp }
-
--- a test that holds and does not
-pub unlike : {m n : ℕ} {t : Bool} → t ≡ true → t ≡ false → m ≤ n
-unlike h k =
-    let z : ◌≡◌ {A = ℕ} 0 1 = ap (λ (t : Bool). pick t 0 1) (sym h ∙ k) in
-    omega (arith, z)
 
 -- ---- conversion
 

@@ -3,6 +3,8 @@ use mathlib.Core.Path.{refl, sym, ◌∙◌}
 use Rattle.numbers.specs.Once.{Once}
 use Rattle.conversion.proofs.current
 use Rattle.conversion.specs.contracts.current as current'
+use Rattle.conversion.proofs.converted
+use Rattle.conversion.specs.contracts.converted as converted'
 use Rattle.conversion.proofs.blanked
 use Rattle.conversion.specs.contracts.blanked as blanked'
 use Rattle.conversion.proofs.fall
@@ -34,6 +36,9 @@ use Rattle.conversion.specs.contracts.convert as convert'
 
 pub current_once : Once current'.ended current.Reads.Pre current.Reads.Learnt
 current_once κs a r r' w w' p h h' = (h ∙ sym h', refl)
+
+pub converted_once : Once converted'.ended converted.Reads.Pre converted.Reads.Learnt
+converted_once κs a r r' w w' p h h' = (h ∙ sym h', refl)
 
 pub blanked_once : Once blanked'.ended blanked.Reads.Pre blanked.Reads.Learnt
 blanked_once κs a r r' w w' p h h' = (h ∙ sym h', refl)

@@ -4,7 +4,7 @@
 ghost use Rattle.std.specs.Prelude.{◌≡◌, ◌*◌, ◌≤◌, ◌+◌};
 ghost use Rattle.state.specs.State.{ChargeWf, AverageWf, MeterWf};
 ghost use Rattle.conversion.specs.Conversion.{current_of, traced_of, blanked_of, grown_of, added_of, fall_of, aged_of, learning_of, counted_of};
-ghost use Rattle.conversion.specs.Conversion.{stepped_of, set_of, aged_full_of, share_of, share_up_of, rest_of, advanced_of, averaged_of, tapers_of};
+ghost use Rattle.conversion.specs.Conversion.{stepped_of, set_of, aged_full_of, share_of, share_up_of, rest_of, advanced_of, averaged_of, tapers_of, taught_of};
 ghost use Rattle.conversion.specs.Conversion.{found_of, learnt_of, filled_of, converted_of, flowed_of, charged_of, convert_of};
 ghost use Rattle.params.specs.Params.{limits_of, capacity_of};
 
@@ -13,9 +13,9 @@ use state::{Average, Charge, Cycles, Flow, Meter, Profile, Since, Trace};
 
 // The age counter and AS.
 #[derive(Clone, Copy)]
-struct Age {
-    age: u32,
-    aging: u8,
+pub struct Age {
+    pub age: u32,
+    pub aging: u8,
 }
 
 // Step 1: c.
@@ -24,11 +24,11 @@ pub fn current(raw: u32, cob: u8) -> u16
 {
     let sum = (raw as u64) + (cob as u64);
     let offset = (numbers::ZERO31 as u64) + (numbers::ZERO7 as u64) - (numbers::ZERO15 as u64);
-    numbers::at_most(65535, numbers::less(sum, offset)) as u16
+    sum.saturating_sub(offset).min(65535) as u16
 }
 
-// Step 1: c.
-fn converted(flow: Flow, raw: u32, cob: u8) -> u16
+// Step 1: c, which on the 1024th is the previous one.
+pub fn converted(flow: Flow, raw: u32, cob: u8) -> u16
     ensures { result ≡ converted_of flow raw cob }
 {
     if flow.average.made == 1023 {
@@ -56,12 +56,15 @@ pub fn blanked(profile: Profile, nben: bool, c: u16) -> u16
     ensures { result ≡ blanked_of profile nben c }
 {
     let zero = numbers::ZERO15;
-    let mut counted = c;
-    if numbers::and(zero - 16 <= c, c < zero + 64) {
-        let lowest = numbers::choose16(nben, zero + 1 - state::blanking_edge(profile), zero);
-        counted = numbers::choose16(lowest <= c, zero, c);
+    if c < zero - 16 || zero + 64 <= c {
+        return c;
     }
-    counted
+    let lowest = if nben {
+        zero + 1 - state::blanking_edge(profile)
+    } else {
+        zero
+    };
+    if lowest <= c { zero } else { c }
 }
 
 // Step 3.
@@ -70,22 +73,25 @@ fn grown(count: u32, counted: u16, ab: u8) -> u32
 {
     let sum = (count as u64) + (counted as u64) + (ab as u64);
     let offset = (numbers::ZERO15 as u64) + (numbers::ZERO7 as u64);
-    numbers::at_most(268435455, numbers::less(sum, offset)) as u32
+    sum.saturating_sub(offset).min(268435455) as u32
 }
 
 // Step 3: where the mark is set nothing is added.
 fn added(mark: bool, count: u32, counted: u16, ab: u8) -> u32
     ensures { result ≡ added_of mark count counted ab }
 {
-    let sum = grown(count, counted, ab);
-    if mark { count } else { sum }
+    if mark {
+        count
+    } else {
+        grown(count, counted, ab)
+    }
 }
 
 // Step 4: how far ACR fell.
 pub fn fall(old: u32, new: u32) -> u32
     ensures { result ≡ fall_of old new }
 {
-    numbers::less((old / 4096) as u64, (new / 4096) as u64) as u32
+    (old / 4096).saturating_sub(new / 4096)
 }
 
 // Step 4.
@@ -93,31 +99,28 @@ fn aged(ac: u16, age: u32, aging: u8) -> Age
     ensures { result ≡ aged_of ac age aging }
 {
     let limit = 32 * (ac as u32);
-    let mut worn = Age {
-        age: age,
-        aging: aging,
-    };
-    if limit <= age {
-        worn.age = age - limit;
-        if ac == 0 {
-            worn.age = 0;
-        } else {
-            worn.aging = numbers::at_least(63, numbers::less(aging as u64, 1)) as u8;
+    if age < limit {
+        Age { age, aging }
+    } else if ac == 0 {
+        Age { age: 0, aging }
+    } else {
+        Age {
+            age: age - limit,
+            aging: aging.saturating_sub(1).max(63),
         }
     }
-    worn
 }
 
-// Steps 1 and 5: what is left of LEARNF. Where it is not set nothing is asked.
-fn learning(mut learnf: bool, last: u16, c: u16, count: u32) -> bool
+// Steps 1 and 5: what is left of LEARNF, which clears where c turns negative, and at ACR = 0.
+fn learning(learnf: bool, last: u16, c: u16, count: u32) -> bool
     ensures { result ≡ learning_of learnf last c count }
 {
     if learnf {
-        let was = last < numbers::ZERO15;
-        let turned = numbers::and(c < numbers::ZERO15, !was);
-        learnf = numbers::and_not(!turned, count / 4096 == 0);
+        let turned = c < numbers::ZERO15 && numbers::ZERO15 <= last;
+        !turned && 0 < count / 4096
+    } else {
+        false
     }
-    learnf
 }
 
 // What steps 1 to 5 leave: the charge, and how far ACR fell, which ageing and the cycle counter count.
@@ -142,13 +145,13 @@ pub fn counted(charge: Charge, profile: Profile, counting: Counting, last: u16, 
     let worn = aged(counting.ac, charge.age + fall, charge.aging);
     Stepped {
         charge: Charge {
-            count: count,
+            count,
             age: worn.age,
             aging: worn.aging,
             learnf: learning(charge.learnf, last, c, count),
             mark: false,
         },
-        fall: fall,
+        fall,
     }
 }
 
@@ -156,10 +159,7 @@ pub fn counted(charge: Charge, profile: Profile, counting: Counting, last: u16, 
 fn rest(full40: u16, fallen: u64) -> u32
     ensures { result ≡ rest_of full40 fallen }
 {
-    if full40 == 0 {
-        return 0;
-    }
-    (fallen % (2 * (full40 as u64))) as u32
+    fallen.checked_rem(2 * (full40 as u64)).unwrap_or(0) as u32
 }
 
 // A conversion of a pack that counts cycles, in which ACR fell so far.
@@ -167,9 +167,9 @@ pub fn advanced(cycles: Cycles, full40: u16, fall: u32) -> Cycles
     ensures { result ≡ advanced_of full40 cycles.count (cycles.rest + fall) }
 {
     let fallen = (cycles.rest as u64) + (fall as u64);
-    let steps = numbers::quotient(fallen, 2 * (full40 as u64));
+    let steps = fallen.checked_div(2 * (full40 as u64)).unwrap_or(0);
     Cycles {
-        count: numbers::at_most(255, (cycles.count as u64) + steps) as u8,
+        count: ((cycles.count as u64) + steps).min(255) as u8,
         rest: rest(full40, fallen),
     }
 }
@@ -182,12 +182,10 @@ pub fn charged(mut meter: Meter, stepped: Stepped) -> Meter
     ensures value { result ≡ charged_of meter (capacity_of meter.cells.block.shadow).full40 stepped.charge }
     ensures kept { MeterWf result }
 {
-    let cells = meter.cells;
-    let profile = cells.profile;
-    let charge = stepped.charge;
-    meter.charge = charge;
-    if state::counts_cycles(profile) {
+    meter.charge = stepped.charge;
+    if state::counts_cycles(meter.cells.profile) {
         let capacity = Capacity::of(&meter.cells.block.shadow);
+        // Field by field: at once the two would be packed into one number wherever they go.
         let cycles = advanced(meter.cycles, capacity.full40, stepped.fall);
         meter.cycles.count = cycles.count;
         meter.cycles.rest = cycles.rest;
@@ -200,7 +198,7 @@ fn tapers(imin: u8, x: u16) -> bool
     ensures { result ≡ tapers_of imin x }
 {
     let top = numbers::ZERO15 + 32 * (imin as u16);
-    numbers::and(numbers::ZERO15 < x, x < top)
+    numbers::ZERO15 < x && x < top
 }
 
 // Step 6: the run of eight goes on, or ends with IAVG.
@@ -212,17 +210,16 @@ pub fn averaged(average: Average, c: u16) -> Average
     let made = (average.made + 1) % 1024;
     if average.made % 8 == 7 {
         Average {
-            made: made,
+            made,
             sum: 0,
             iavg: (sum / 8) as u16,
             known: true,
         }
     } else {
         Average {
-            made: made,
-            sum: sum,
-            iavg: average.iavg,
-            known: average.known,
+            made,
+            sum,
+            ..average
         }
     }
 }
@@ -233,10 +230,8 @@ pub fn found(average: Average, since: Since, limits: Limits, c: u16) -> bool
     ensures { result ≡ found_of average since limits c }
 {
     let mean = ((average.sum + (c as u32)) / 8) as u16;
-    let before = numbers::and(average.known, tapers(limits.imin, average.iavg));
-    let tapering = numbers::and(tapers(limits.imin, mean), before);
-    let above = numbers::and(since.any, 4 * (limits.vchg as u16) < since.lowest);
-    numbers::and(tapering, above)
+    let tapering = tapers(limits.imin, mean) && average.known && tapers(limits.imin, average.iavg);
+    tapering && since.any && 4 * (limits.vchg as u16) < since.lowest
 }
 
 // Step 6: AS that a full charge teaches.
@@ -245,15 +240,26 @@ fn learnt(acr: u16, full: u16, full40: u16) -> u8
 {
     let n = (acr as u64) * 2097152;
     let d = (full as u64) * (full40 as u64);
-    numbers::moved_into(63, 128, numbers::quotient(n, d))
+    numbers::moved_into(63, 128, n.checked_div(d).unwrap_or(0))
+}
+
+// Step 6: that, if LEARNF and Full40 > 0.
+fn taught(charge: Charge, full: u16, full40: u16) -> u8
+    requires { ChargeWf charge }
+    ensures { result ≡ taught_of charge full full40 }
+{
+    if charge.learnf && 0 < full40 {
+        learnt((charge.count / 4096) as u16, full, full40)
+    } else {
+        charge.aging
+    }
 }
 
 // ACR is set outright, the fraction 0.
 pub fn set(mut charge: Charge, acr: u16, learnf: bool) -> Charge
     ensures { result ≡ set_of charge acr learnf }
 {
-    let count = (acr as u32) * 4096;
-    charge.count = count;
+    charge.count = (acr as u32) * 4096;
     charge.learnf = learnf;
     charge
 }
@@ -286,9 +292,7 @@ pub fn filled(mut charge: Charge, full: u16, full40: u16) -> Charge
     requires full_bound { full ≤ 16384 }
     ensures { result ≡ filled_of charge full full40 }
 {
-    let teach = numbers::and(charge.learnf, 0 < full40);
-    let before = (charge.count / 4096) as u16;
-    let aging = numbers::choose8(teach, learnt(before, full, full40), charge.aging);
+    let aging = taught(charge, full, full40);
     let acr = share_up(aged_full(full, aging), full40) as u16;
     charge.aging = aging;
     set(charge, acr, false)
@@ -325,8 +329,12 @@ pub fn convert(meter: Meter, raw: u32) -> Meter
 {
     let counting = Counting::of(&meter.cells.block.shadow);
     let c = converted(meter.flow, raw, counting.cob);
-    let cells = meter.cells;
-    let profile = cells.profile;
-    let stepped = counted(meter.charge, profile, counting, meter.flow.trace.last, c);
+    let stepped = counted(
+        meter.charge,
+        meter.cells.profile,
+        counting,
+        meter.flow.trace.last,
+        c,
+    );
     flowed(charged(meter, stepped), c)
 }

@@ -18,12 +18,12 @@ pub fn whole_table() -> [u8; 256]
 }
 
 // The CRC c after the byte b.
+// (An array and no struct with its rule: one function asks the rule.)
 fn next(table: &[u8; 256], c: u8, b: u8) -> u8
     requires { Ruled table.now }
     ensures { result ≡ next_of c b }
 {
-    let i = (c ^ b) as usize;
-    table[i]
+    table[usize::from(c ^ b)]
 }
 
 // The CRC of the message.
@@ -32,10 +32,8 @@ pub fn crc(message: &[u8]) -> u8
 {
     let table = whole_table();
     let mut c: u8 = 0;
-    let mut i = 0;
-    while i < message.len() {
-        c = next(&table, c, message[i]);
-        i += 1;
+    for b in message {
+        c = next(&table, c, *b);
     }
     c
 }

@@ -4,12 +4,11 @@ use mathlib.Core.Bool.{true, false}
 use mathlib.Core.List.{List, [], ◌∷◌}
 use Prim.Native.Nat.{ℕ, ◌-◌}
 use lib.ListN.{length}
+use Rattle.std.specs.Prelude.{Ok, Err}
 use Rattle.gauge.specs.declared.Gauge.{Gauge}
 use Rattle.gauge.proofs.Kept.{address_kept}
 use Rattle.record.specs.declared.Event.TheVariants.{Image, Change, Transact}
-use Rattle.record.specs.declared.Taken.{Taken}
-use Rattle.record.specs.declared.Taken.TheVariants.{Run, Refused}
-use Rattle.record.specs.Record.{master_of, taken_of, timed_of}
+use Rattle.record.specs.Record.{master_of, taken_of, timed_of, Taken}
 use Rattle.record.proofs.Fits.{Taking, timed_taking}
 use Rattle.runs.specs.Record.{Rec, whole, cut}
 use Rattle.runs.specs.Run.{end_after}
@@ -33,12 +32,12 @@ module _ (g : Gauge) where
   address = g.common.address
 
   pub taken_stays : (p : List ℕ) (t : Taken) → Taking false true p t → Stays address (taken_did (loaded_with g) p t).state
-  taken_stays p (Run (Image f)) h = let z = h.0 in contrary cc
-  taken_stays p (Run (Change c)) h =
+  taken_stays p (Ok (Image f)) h = let z = h.0 in contrary cc
+  taken_stays p (Ok (Change c)) h =
       record { loaded = refl; owned = (address_kept (λ f a. a ≡ address)).change g c refl }
-  taken_stays p (Run (Transact t)) h =
+  taken_stays p (Ok (Transact t)) h =
       record { loaded = refl; owned = (address_kept (λ f a. a ≡ address)).act g t (master_of t p) refl }
-  taken_stays p (Refused r) h = record { loaded = refl; owned = refl }
+  taken_stays p (Err r) h = record { loaded = refl; owned = refl }
 
   did_stays : (room : ℕ) (r : Rec) → Stays address (did_of (loaded_with g) room r).state
   unfolding did_of

@@ -6,6 +6,7 @@ use Prim.Native.Nat.{ℕ}
 use native.Mathlib.Omega.{arith}
 use borrow.Author.Tests.{eqb-true}
 use lib.Dec.{eqb}
+use Rattle.std.specs.Prelude.{Ok, Err}
 use Rattle.numbers.specs.Choice.{either}
 use Rattle.bus.specs.declared.Transaction.{Transaction}
 use Rattle.gauge.specs.Change.{changed_of}
@@ -15,9 +16,7 @@ use Rattle.record.specs.declared.Form.TheVariants.{Short, Long}
 use Rattle.record.specs.declared.Kind.{Kind}
 use Rattle.record.specs.declared.Kind.TheVariants as kind
 use Rattle.record.specs.declared.Event.TheVariants.{Image, Change, Transact}
-use Rattle.record.specs.declared.Taken.{Taken}
-use Rattle.record.specs.declared.Taken.TheVariants.{Run, Refused}
-use Rattle.record.specs.Record.{kind_of, transaction_in, master_of}
+use Rattle.record.specs.Record.{kind_of, transaction_in, master_of, Taken}
 use Rattle.runs.specs.AnyRecord.{answered_by}
 use Rattle.tray_record.specs.declared.Tray.{Tray}
 use Rattle.tray_record.specs.Tray.{pack_of, tray_kind_of, ahead_of, slot_in, Reach, one, tray_reach, tray_acted, tray_told, of_tray, tray_did}
@@ -78,21 +77,21 @@ module _ (τ : Tray) (i j : ℕ) (other : j ≡ i → ⊥) (p : List ℕ) where
   Stays t = pack_of (answered_by of_tray τ p t).state j ≡ pack_of τ j
 
   slot_stays : (k : Kind) → ahead_of k ≡ 1 → slot_in p ≡ i → (t : Taken) → Asks τ k p t → Stays t
-  slot_stays k ahead slot (Run (Image f)) a = let z : ◌≡◌ {A = ℕ} 1 0 = sym ahead ∙ ap ahead_of a.kind in absurd (omega arith)
-  slot_stays k ahead slot (Run (Change c)) a =
+  slot_stays k ahead slot (Ok (Image f)) a = let z : ◌≡◌ {A = ℕ} 1 0 = sym ahead ∙ ap ahead_of a.kind in absurd (omega arith)
+  slot_stays k ahead slot (Ok (Change c)) a =
       stored_other τ (slot_in p) j (changed_of (pack_of τ (slot_in p)) c) (λ e. other (e ∙ slot))
-  slot_stays k ahead slot (Run (Transact t)) a = let z : ◌≡◌ {A = ℕ} 1 0 = sym ahead ∙ ap ahead_of a.kind in absurd (omega arith)
-  slot_stays k ahead slot (Refused r) a = refl
+  slot_stays k ahead slot (Ok (Transact t)) a = let z : ◌≡◌ {A = ℕ} 1 0 = sym ahead ∙ ap ahead_of a.kind in absurd (omega arith)
+  slot_stays k ahead slot (Err r) a = refl
 
   acted_stays : (t : Transaction) (reach : Reach) → reach ≡ one i → pack_of (tray_acted t (master_of t p) reach τ) j ≡ pack_of τ j
   acted_stays t reach e = rw e (stored_other τ i j (act_of (pack_of τ i) t (master_of t p)) other)
 
   matched_stays : (f : Form) (k : Kind) → k ≡ kind.Transaction f → reach_in τ f p ≡ one i → (t : Taken) → Asks τ k p t → Stays t
-  matched_stays f k is reach (Run (Image g)) a = let z = sym a.kind ∙ is in contrary cc
-  matched_stays f k is reach (Run (Change c)) a = let z : ◌≡◌ {A = ℕ} 1 0 = sym a.ahead ∙ ap ahead_of is in absurd (omega arith)
-  matched_stays f k is reach (Run (Transact t)) a =
+  matched_stays f k is reach (Ok (Image g)) a = let z = sym a.kind ∙ is in contrary cc
+  matched_stays f k is reach (Ok (Change c)) a = let z : ◌≡◌ {A = ℕ} 1 0 = sym a.ahead ∙ ap ahead_of is in absurd (omega arith)
+  matched_stays f k is reach (Ok (Transact t)) a =
       acted_stays t (tray_reach τ t (master_of t p)) (ap (λ (x : Transaction). tray_reach τ x (master_of x p)) (asked_form f is a) ∙ reach)
-  matched_stays f k is reach (Refused r) a = refl
+  matched_stays f k is reach (Err r) a = refl
 
 pub alone : Alone
 unfolding tray_did

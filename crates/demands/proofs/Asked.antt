@@ -7,6 +7,7 @@ use native.Mathlib.Omega.{arith}
 use borrow.Author.Tests.{ltb-true, leb-false, not-true}
 use lib.Dec.{ltb, leb}
 use lib.ListN.{length, take, drop}
+use Rattle.std.specs.Prelude.{Ok, Err}
 use Rattle.state.specs.declared.Profile.{Profile}
 use Rattle.numbers.specs.Choice.{pick, either}
 use Rattle.numbers.proofs.Bounds.{picked}
@@ -24,13 +25,11 @@ use Rattle.record.specs.declared.Refusal.{Refusal}
 use Rattle.record.specs.declared.Refusal.TheVariants as refusal
 use Rattle.record.specs.declared.Event.{Event}
 use Rattle.record.specs.declared.Event.TheVariants.{Image, Change, Transact}
-use Rattle.record.specs.declared.Taken.{Taken}
-use Rattle.record.specs.declared.Taken.TheVariants.{Run, Refused}
+use Rattle.record.specs.Record.{Taken}
 use Rattle.record.specs.Record.{known_of, limit_of, read_count, sized_of, due_of, judged_among, judged_by, transaction_in, event_of, event_timely, timed_of}
 use Rattle.record.proofs.Fits.{Taking, timed_by, judged_alone}
 use Rattle.tray_record.specs.declared.Tray.{Tray}
-use Rattle.tray_record.specs.declared.Found.{Found}
-use Rattle.tray_record.specs.declared.Found.TheVariants.{At, Nowhere}
+use Rattle.std.specs.Prelude.{Option, Some, None}
 use Rattle.tray_record.specs.Tray.{no_gauge, search_of, tray_kind_of, ahead_of, slot_in, accepted_for, tray_asked_by, again_of}
 use Rattle.tray_record.specs.Tray.{slot_tick, tray_told, reach_found, matched_of, reach_by, tray_reach}
 use Rattle.demands.proofs.Choice.{contrary}
@@ -38,7 +37,7 @@ use Rattle.demands.proofs.Packs.{There, FoundAt, search_found}
 
 -- Refused, or the event of its kind
 
-module _ (count : ℕ) (closed again : Bool) (last : Tick) (p : List ℕ) (P : Taken → Type 0) (refused : (r : Refusal) → P (Refused r)) where
+module _ (count : ℕ) (closed again : Bool) (last : Tick) (p : List ℕ) (P : Taken → Type 0) (refused : (r : Refusal) → P (Err r)) where
   pub asked_has : (k : Kind)
       → (sized_of k (length (drop (ahead_of k) p)) ≡ true → due_of k (accepted_for count closed k p) ≡ true →
       P (timed_of last (event_of again k (drop (ahead_of k) p))))
@@ -62,7 +61,7 @@ pub record Joins (τ : Tray) (k : Kind) (f : Profile) (p : List ℕ) : Type 0 wh
   pub before : τ.closed ≡ false
   pub few : τ.count < 8
   pub new : again_of τ p ≡ false
-  pub judged : judged_by f p ≡ Run (Image f)
+  pub judged : judged_by f p ≡ Ok (Image f)
 
 -- a slot's event: the slot has a pack
 pub record Slotted (τ : Tray) (k : Kind) (p : List ℕ) : Type 0 where
@@ -76,15 +75,15 @@ pub record Heard (τ : Tray) (k : Kind) (p : List ℕ) (t : Transaction) : Type 
   pub asked : t ≡ transaction_in form p
 
 abbrev pub Asks : Tray → Kind → List ℕ → Taken → Type 0
-Asks τ k p (Run (Image f)) = Joins τ k f p
-Asks τ k p (Run (Change c)) = Slotted τ k p
-Asks τ k p (Run (Transact t)) = Heard τ k p t
-Asks τ k p (Refused r) = Unit
+Asks τ k p (Ok (Image f)) = Joins τ k f p
+Asks τ k p (Ok (Change c)) = Slotted τ k p
+Asks τ k p (Ok (Transact t)) = Heard τ k p t
+Asks τ k p (Err r) = Unit
 
 module _ (τ : Tray) (p : List ℕ) (last : Tick) where
   image_asks : (f : Profile) (t : Taken) → Taking (again_of τ p) false p t → not (either τ.closed (leb 8 τ.count)) ≡ true →
       Asks τ (kind.Image f) p t
-  image_asks f (Run (Image g)) h due =
+  image_asks f (Ok (Image g)) h due =
       let j = judged_alone g (again_of τ p) p h.1 in
       let e = not-true (either τ.closed (leb 8 τ.count)) due in
       let s = shut τ.closed (leb 8 τ.count) e in
@@ -93,9 +92,9 @@ module _ (τ : Tray) (p : List ℕ) (last : Tick) where
       shut : (a b : Bool) → either a b ≡ false → (a ≡ false) × (b ≡ false)
       shut true b e = contrary cc
       shut false b e = (refl, e)
-  image_asks f (Run (Change c)) h due = contrary cc
-  image_asks f (Run (Transact t)) h due = let z = h.0 in contrary cc
-  image_asks f (Refused r) h due = tt
+  image_asks f (Ok (Change c)) h due = contrary cc
+  image_asks f (Ok (Transact t)) h due = let z = h.0 in contrary cc
+  image_asks f (Err r) h due = tt
 
   slotted : (k : Kind) → ahead_of k ≡ 1 → ltb (slot_in p) τ.count ≡ true → Slotted τ k p
   slotted k ahead due = record { ahead = ahead; pack = ltb-true (slot_in p) τ.count due }
@@ -126,26 +125,26 @@ tray_asks τ n p =
 abbrev pub made_of : Bool → ℕ → List ℕ → Taken
 made_of again n p = event_of again (tray_kind_of n) (drop (ahead_of (tray_kind_of n)) p)
 
-pub told_event : (τ : Tray) (n : ℕ) (p : List ℕ) (e : Event) → tray_told τ n p ≡ Run e → made_of (again_of τ p) n p ≡ Run e
+pub told_event : (τ : Tray) (n : ℕ) (p : List ℕ) (e : Event) → tray_told τ n p ≡ Ok e → made_of (again_of τ p) n p ≡ Ok e
 told_event τ n p e =
     let made = made_of (again_of τ p) n p in
-    asked_has τ.count τ.closed (again_of τ p) (slot_tick τ p) p (λ t. t ≡ Run e → made ≡ Run e) (λ r f. contrary cc) (tray_kind_of n)
+    asked_has τ.count τ.closed (again_of τ p) (slot_tick τ p) p (λ t. t ≡ Ok e → made ≡ Ok e) (λ r f. contrary cc) (tray_kind_of n)
     (λ sized due. timed made)
   where
-    timed : (t : Taken) → timed_of (slot_tick τ p) t ≡ Run e → t ≡ Run e
-    timed (Run x) =
-        picked (λ t. t ≡ Run e → Run x ≡ Run e) (event_timely (slot_tick τ p) x) (Run x) (Refused refusal.Interval) (λ timely f. f)
+    timed : (t : Taken) → timed_of (slot_tick τ p) t ≡ Ok e → t ≡ Ok e
+    timed (Ok x) =
+        picked (λ (t : Taken). t ≡ Ok e → ◌≡◌ {A = Taken} (Ok x) (Ok e)) (event_timely (slot_tick τ p) x) (Ok x) (Err refusal.Interval) (λ timely f. f)
         (λ other f. contrary cc)
-    timed (Refused r) = λ f. f
+    timed (Err r) = λ f. f
 
 -- Whom a transaction reaches
 
-pub matched_found : (commons : List Common) (count : ℕ) (master : List ℕ) (i : ℕ) → matched_of commons count master ≡ At i
+pub matched_found : (commons : List Common) (count : ℕ) (master : List ℕ) (i : ℕ) → matched_of commons count master ≡ Some i
     → (ltb (length master) 9 ≡ false) × FoundAt no_gauge.common (take 8 (drop 1 master)) commons 0 count i
 unfolding matched_of search_of
 matched_found commons count master i = go (ltb (length master) 9) refl
   where
-    go : (t : Bool) → ltb (length master) 9 ≡ t → pick t Nowhere (search_of commons count (take 8 (drop 1 master))) ≡ At i
+    go : (t : Bool) → ltb (length master) 9 ≡ t → pick t None (search_of commons count (take 8 (drop 1 master))) ≡ Some i
         → (ltb (length master) 9 ≡ false) × FoundAt no_gauge.common (take 8 (drop 1 master)) commons 0 count i
     go true s e = contrary cc
     go false s e = (s, search_found no_gauge.common (take 8 (drop 1 master)) commons 0 count i e)
@@ -153,9 +152,9 @@ matched_found commons count master i = go (ltb (length master) 9) refl
 pub reach_there : (τ : Tray) (t : Transaction) (master : List ℕ) → There (tray_reach τ t master) τ.count
 reach_there τ t master = by t.rom
   where
-    found : (f : Found) → matched_of τ.commons τ.count master ≡ f → There (reach_found f) τ.count
-    found (At i) e = omega (arith, (matched_found τ.commons τ.count master i e).1.low)
-    found Nowhere e = tt
+    found : (f : Option ℕ) → matched_of τ.commons τ.count master ≡ f → There (reach_found f) τ.count
+    found (Some i) e = omega (arith, (matched_found τ.commons τ.count master i e).1.low)
+    found None e = tt
 
     by : (r : Rom) → There (reach_by r (matched_of τ.commons τ.count master)) τ.count
     by rom.Skip = tt

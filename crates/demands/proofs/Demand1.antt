@@ -5,13 +5,12 @@ use mathlib.Core.List.{List, []}
 use Prim.Native.Nat.{ℕ, ◌≤◌}
 use native.Mathlib.Omega.{arith}
 use lib.Dec.{ltb}
+use Rattle.std.specs.Prelude.{Ok, Err}
 use Rattle.numbers.proofs.Bounds.{picked}
 use Rattle.record.specs.declared.Refusal.{Refusal}
 use Rattle.record.specs.declared.Refusal.TheVariants.{Room}
 use Rattle.record.specs.declared.Event.{Event}
-use Rattle.record.specs.declared.Taken.{Taken}
-use Rattle.record.specs.declared.Taken.TheVariants.{Run, Refused}
-use Rattle.record.specs.Record.{refusal_number, asks_of, fitted_of}
+use Rattle.record.specs.Record.{refusal_number, asks_of, fitted_of, Taken}
 use Rattle.record.proofs.Fits.{refusal_range, NumberedTo, plain_numbered}
 use Rattle.runs.specs.Record.{Rec, whole, cut}
 use Rattle.runs.specs.Run.{Did}
@@ -37,15 +36,15 @@ module _ {S : Type 0} (k : Steps S) (h : Replying k) (most : ℕ) (room-number :
     event_judged : (p : List ℕ) (e : Event) → Judged most σ (k.event σ p e)
     event_judged p e = record { number = inl (h.answer σ p e); still = λ other. absurd (other (h.answer σ p e)) }
 
-    refused_judged : (p : List ℕ) (r : Refusal) → refusal_number r ≤ most → Judged most σ (answered_by k σ p (Refused r))
+    refused_judged : (p : List ℕ) (r : Refusal) → refusal_number r ≤ most → Judged most σ (answered_by k σ p (Err r))
     refused_judged p r few = record { number = inr ((refusal_range r).0, few); still = λ other. (refl, refl) }
 
     taken_judged : (p : List ℕ) (t : Taken) → NumberedTo most t → Judged most σ (answered_by k σ p (fitted_of room t))
-    taken_judged p (Run e) n =
+    taken_judged p (Ok e) n =
         picked (λ (t : Taken). Judged most σ (answered_by k σ p t)) (ltb room (asks_of e)) _ _
         (λ full. refused_judged p Room room-number)
         (λ fits. event_judged p e)
-    taken_judged p (Refused r) n = refused_judged p r n
+    taken_judged p (Err r) n = refused_judged p r n
 
     whole_judged : (kind : ℕ) (p : List ℕ) → Judged most σ (record_by k σ room (whole kind p))
     whole_judged kind p = taken_judged p (k.told σ kind p) (told σ kind p)
@@ -75,8 +74,8 @@ demand_1 = run_sound did_of empty_of session_most session_lawful
 -- Trays
 
 numbered : (t : Taken) → NumberedTo tray_most t
-numbered (Run e) = tt
-numbered (Refused r) = (refusal_range r).1
+numbered (Ok e) = tt
+numbered (Err r) = (refusal_range r).1
 
 tray_lawful : Lawful tray_most tray_did
 unfolding tray_did

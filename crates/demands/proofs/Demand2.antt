@@ -8,6 +8,7 @@ use lib.ListN.{length, get_or, take, drop}
 use lib.Seq.{take_at}
 use lib.Dec.{eqb, leb}
 use borrow.Author.Tests.{le-leb, le-ltb, lt-ltb}
+use Rattle.std.specs.Prelude.{Ok, Err}
 use Rattle.state.specs.declared.Profile.{Profile}
 use Rattle.state.specs.State.{image_size_of}
 use Rattle.demands.specs.Images.{image_kind, profile_of}
@@ -22,7 +23,6 @@ use Rattle.gauge.proofs.Image.{image_length}
 use Rattle.gauge.proofs.Reached.{reached_sized, out_judged, out_in}
 use Rattle.record.specs.declared.Event.TheVariants.{Image}
 use Rattle.record.specs.declared.Refusal.TheVariants.{Breaks}
-use Rattle.record.specs.declared.Taken.TheVariants.{Run, Refused}
 use Rattle.record.specs.Record.{kind_of, ordered_of, judged_among, taken_of}
 use Rattle.runs.specs.Record.{Rec, whole, recs_of, record_of}
 use Rattle.runs.specs.Run.{Did, Line, silently, end_after}
@@ -45,12 +45,12 @@ use Rattle.demands.proofs.Filled.{Filled, end_filled}
 
 -- An image that is accepted first, or refused for its breakpoints, and a power-on
 
-pub did_image : (f : Profile) (p : List ℕ) (room : ℕ) → taken_of (image_kind f) false p ≡ Run (Image f)
+pub did_image : (f : Profile) (p : List ℕ) (room : ℕ) → taken_of (image_kind f) false p ≡ Ok (Image f)
     → did_of empty_of room (whole (image_kind f) p) ≡ silently (loaded_with (image_of f p)) 0
 unfolding did_of
 did_image f p room accepted = rw (accepted, le-ltb room 0 zero-le) refl
 
-did_crossed : (f : Profile) (p : List ℕ) (room : ℕ) → taken_of (image_kind f) false p ≡ Refused Breaks
+did_crossed : (f : Profile) (p : List ℕ) (room : ℕ) → taken_of (image_kind f) false p ≡ Err Breaks
     → did_of empty_of room (whole (image_kind f) p) ≡ silently empty_of 10
 unfolding did_of
 did_crossed f p room refused = rw refused refl
@@ -85,7 +85,7 @@ module _ (g : Gauge) (reached : Reached g) {after : List ℕ} (written : take (s
       ap recs_of (k.image ∙ ap (record_of (image_kind f)) written ∙ sym (append-nil (record_of (image_kind f) p)))
       ∙ recs_record (image_kind f) p []
 
-  judged : {t : Bool} → ordered_of (eeprom_breaks g) ≡ t → taken_of (image_kind f) false p ≡ pick t (Run (Image f)) (Refused Breaks)
+  judged : {t : Bool} → ordered_of (eeprom_breaks g) ≡ t → taken_of (image_kind f) false p ≡ pick t (Ok (Image f)) (Err Breaks)
   judged h = taken_image f p ∙ out_judged g reached ∙ rw h refl
 
   -- what the image does is what the fresh session does

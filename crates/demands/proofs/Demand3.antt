@@ -6,6 +6,7 @@ use Prim.Native.Nat.{ℕ, ◌-◌}
 use native.Mathlib.Omega.{arith}
 use lib.Dec.{eqb}
 use lib.ListN.{length}
+use Rattle.std.specs.Prelude.{Ok, Err}
 use Rattle.state.specs.declared.Profile.{Profile}
 use Rattle.state.specs.State.{image_size_of}
 use Rattle.demands.specs.Images.{image_kind}
@@ -14,12 +15,10 @@ use Rattle.numbers.specs.Choice.{pick}
 use Rattle.gauge.specs.declared.Gauge.{Gauge}
 use Rattle.gauge.specs.Image.{image_of}
 use Rattle.record.specs.declared.Event.TheVariants.{Image}
-use Rattle.record.specs.declared.Taken.{Taken}
-use Rattle.record.specs.declared.Taken.TheVariants.{Run, Refused}
 use Rattle.replies.specs.Reply.{selected_of}
 use Rattle.record.specs.declared.Refusal.TheVariants.{Size, Order}
 use Rattle.record.specs.Image.{image_address}
-use Rattle.record.specs.Record.{judged_by, taken_of}
+use Rattle.record.specs.Record.{judged_by, taken_of, Taken}
 use Rattle.runs.specs.Record.{Rec, whole, recs_of}
 use Rattle.runs.specs.Run.{Did, silently, Line, line_of}
 use Rattle.runs.specs.declared.Session.{Session}
@@ -92,7 +91,7 @@ module _ {S : Type 0} (did : S → ℕ → Rec → Did S) (start : S) (asked : �
 abbrev image_got : Profile → List ℕ → Rec × Line
 image_got f p = (whole (image_kind f) p, line_of (whole (image_kind f) p) (silently (loaded_with (image_of f p)) 0))
 
-module _ {f : Profile} {p : List ℕ} {rs : List Rec} {c : Call Session} (accepted : taken_of (image_kind f) false p ≡ Run (Image f))
+module _ {f : Profile} {p : List ℕ} {rs : List Rec} {c : Call Session} (accepted : taken_of (image_kind f) false p ≡ Ok (Image f))
     (s : Starts did_of empty_of session_asked (selected_of (image_address p)) (whole (image_kind f) p ∷ []) rs c) where
   freed : Free (image_of f p) (length c.room - 0) rs
   freed = free (image_of f p) (length c.room - 0) rs (omega (arith, s.room))
@@ -108,12 +107,12 @@ module _ {f : Profile} {p : List ℕ} {rs : List Rec} {c : Call Session} (accept
   gets = rw (first, did_image f p (length c.room) accepted) (ap (λ (l : List (Rec × Line)). image_got f p ∷ l) freed.got)
 
 -- the image is a fence, as the class judges it: one that comes after another
-image_class : (f : Profile) (address p : List ℕ) → taken_of (image_kind f) false p ≡ Run (Image f) → class_of address (whole (image_kind f) p) ≡ fence
+image_class : (f : Profile) (address p : List ℕ) → taken_of (image_kind f) false p ≡ Ok (Image f) → class_of address (whole (image_kind f) p) ≡ fence
 unfolding taken_of
 image_class f address p e = rw (session_image f) (go (eqb (length p) (image_size_of f)) (rw (session_image f) at e))
   where
-    go : (t : Bool) → pick t (judged_by f p) (Refused Size) ≡ Run (Image f) →
-        taken_class (selected_of address) p (pick t (Refused Order) (Refused Size)) ≡ fence
+    go : (t : Bool) → pick t (judged_by f p) (Err Size) ≡ Ok (Image f) →
+        taken_class (selected_of address) p (pick t (Err Order) (Err Size)) ≡ fence
     go true f = refl
     go false f = contrary cc
 
@@ -129,7 +128,7 @@ demand_3 f p xs ys a b accepted m =
     (ends accepted m.one ∙ ap loaded_with h.end ∙ sym (ends accepted m.other))
 
 -- so of each class the whole session's events, with what they got, are the same list
-pub demand_3_by_class : (f : Profile) (p : List ℕ) (xs ys : List Rec) (a b : Call Session) → taken_of (image_kind f) false p ≡ Run (Image f)
+pub demand_3_by_class : (f : Profile) (p : List ℕ) (xs ys : List Rec) (a b : Call Session) → taken_of (image_kind f) false p ≡ Ok (Image f)
     → SessionsMixed f p xs ys a b
     → (k : Class) → only (λ e. class_of (image_address p) e.0) k (got_of did_of empty_of a)
     ≡ only (λ e. class_of (image_address p) e.0) k (got_of did_of empty_of b)

@@ -7,6 +7,7 @@ use native.Mathlib.Omega.{arith}
 use borrow.Author.Tests.{eqb-true, eqb-false}
 use lib.Dec.{ltb, eqb}
 use lib.ListN.{length, take, drop}
+use Rattle.std.specs.Prelude.{Ok}
 use Rattle.numbers.specs.Choice.{pick}
 use Rattle.state.specs.declared.Profile.{Profile}
 use Rattle.bus.specs.declared.Rom.{Rom}
@@ -21,14 +22,12 @@ use Rattle.gauge.specs.Image.{image_of}
 use Rattle.record.specs.declared.Kind.{Kind}
 use Rattle.record.specs.declared.Event.{Event}
 use Rattle.record.specs.declared.Event.TheVariants.{Image, Change, Transact}
-use Rattle.record.specs.declared.Taken.TheVariants.{Run}
 use Rattle.record.specs.Image.{image_address}
 use Rattle.runs.specs.Record.{Rec}
 use Rattle.runs.specs.Run.{end_after}
 use Rattle.tray_record.specs.declared.Tray.{Tray}
-use Rattle.tray_record.specs.declared.Found.{Found}
-use Rattle.tray_record.specs.declared.Found.TheVariants.{At, Nowhere}
-use Rattle.tray_record.specs.Tray.{empty_tray, no_gauge, pack_of, search_of, is_found, again_of, Reach, one, every, nobody, reach_found, matched_of, reach_by}
+use Rattle.std.specs.Prelude.{Option, Some, None, is_some}
+use Rattle.tray_record.specs.Tray.{empty_tray, no_gauge, pack_of, search_of, again_of, Reach, one, every, nobody, reach_found, matched_of, reach_by}
 use Rattle.tray_record.specs.Tray.{tray_reach}
 use Rattle.tray_record.specs.Tray.{tray_event, tray_did}
 use Rattle.demands.proofs.Choice.{contrary}
@@ -51,9 +50,9 @@ module _ (τ : Tray) (h : Distinct τ) (k : Kind) (p : List ℕ) where
   unfolding search_of
   new_address new j low e = go (search_of τ.commons τ.count (image_address p)) refl new
     where
-      go : (f : Found) → search_of τ.commons τ.count (image_address p) ≡ f → is_found f ≡ false → ⊥
-      go (At i) s z = contrary cc
-      go Nowhere s z =
+      go : (f : Option ℕ) → search_of τ.commons τ.count (image_address p) ≡ f → is_some f ≡ false → ⊥
+      go (Some i) s z = contrary cc
+      go None s z =
           let no = search_none no_gauge.common (image_address p) τ.commons 0 τ.count s j zero-le (omega arith) in
           let yes : same_bytes (address_in τ j) (image_address p) ≡ true = ap (same_bytes (address_in τ j)) (sym e) ∙ equal_same (address_in τ j) in
           contrary cc
@@ -80,12 +79,12 @@ module _ (τ : Tray) (h : Distinct τ) (k : Kind) (p : List ℕ) where
       go false true a b z = absurd (new_address new i (omega (arith, eqb-false i τ.count a)) z)
       go false false a b z = h.own i j (omega (arith, eqb-false i τ.count a)) (omega (arith, eqb-false j τ.count b)) z
 
-  event_own : (e : Event) → Asks τ k p (Run e) → Own e
+  event_own : (e : Event) → Asks τ k p (Ok e) → Own e
   event_own (Image f) a = joined_own f a.new
   event_own (Change c) a = same_own (Change c) refl (λ f z. contrary cc)
   event_own (Transact t) a = same_own (Transact t) refl (λ f z. contrary cc)
 
-  event_distinct : (e : Event) → Asks τ k p (Run e) → Distinct (tray_event τ p e).state
+  event_distinct : (e : Event) → Asks τ k p (Ok e) → Distinct (tray_event τ p e).state
   event_distinct e a = record {
     eight = event_eight τ h.eight k p e a;
     own = λ i j low high z.
@@ -122,7 +121,7 @@ module _ (t : Transaction) (master : List ℕ) (τ : Tray) where
   unfolding selected_of own_of
   match_selects m long i = rw (m, long) refl
 
-  others : Distinct τ → t.rom ≡ rom.Match → (j : ℕ) → matched_of τ.commons τ.count master ≡ At j
+  others : Distinct τ → t.rom ≡ rom.Match → (j : ℕ) → matched_of τ.commons τ.count master ≡ Some j
       → (j < τ.count) × ((i : ℕ) → i < τ.count → (i ≡ j → ⊥) → selects i ≡ false)
   others h m j e =
       let found = matched_found τ.commons τ.count master j e in
@@ -137,11 +136,11 @@ module _ (t : Transaction) (master : List ℕ) (τ : Tray) where
       go i here other low has true e = absurd (other (h.own i j here low (same_equal _ _ e ∙ sym (same_equal _ _ has))))
       go i here other low has false e = refl
 
-  unmatched : t.rom ≡ rom.Match → matched_of τ.commons τ.count master ≡ Nowhere → (i : ℕ) → i < τ.count → selects i ≡ false
+  unmatched : t.rom ≡ rom.Match → matched_of τ.commons τ.count master ≡ None → (i : ℕ) → i < τ.count → selects i ≡ false
   unfolding matched_of search_of selected_of own_of
   unmatched m e i low = go (ltb (length master) 9) refl e
     where
-      go : (s : Bool) → ltb (length master) 9 ≡ s → pick s Nowhere (search_of τ.commons τ.count (take 8 (drop 1 master))) ≡ Nowhere → selects i ≡ false
+      go : (s : Bool) → ltb (length master) 9 ≡ s → pick s None (search_of τ.commons τ.count (take 8 (drop 1 master))) ≡ None → selects i ≡ false
       go true short z = rw (m, short) refl
       go false long z =
           match_selects m long i
@@ -151,9 +150,9 @@ module _ (t : Transaction) (master : List ℕ) (τ : Tray) where
   unfolding selected_of
   whom h = by t.rom refl
     where
-      found : t.rom ≡ rom.Match → (f : Found) → matched_of τ.commons τ.count master ≡ f → Whom (reach_found f)
-      found m (At j) e = let o = others h m j e in alone j o.0 (match_quiet m) o.1
-      found m Nowhere e = none (match_quiet m) (unmatched m e)
+      found : t.rom ≡ rom.Match → (f : Option ℕ) → matched_of τ.commons τ.count master ≡ f → Whom (reach_found f)
+      found m (Some j) e = let o = others h m j e in alone j o.0 (match_quiet m) o.1
+      found m None e = none (match_quiet m) (unmatched m e)
 
       by : (r : Rom) → t.rom ≡ r → Whom (reach_by r (matched_of τ.commons τ.count master))
       by rom.Skip e = all

@@ -10,6 +10,7 @@ use lib.Bits.{bit_and, and_comm, and_mask}
 use lib.Dec.{eqb}
 use lib.ListN.{length, get_or}
 use lib.Seq.{ext_get_or}
+use Rattle.std.specs.Prelude.{Ok, Err}
 use Rattle.numbers.specs.Choice.{pick}
 use Rattle.bus.specs.declared.Transaction.{Transaction}
 use Rattle.params.specs.Params.{rnaop_of}
@@ -22,9 +23,7 @@ use Rattle.record.specs.declared.Kind.TheVariants as kind
 use Rattle.record.specs.declared.Refusal.{Refusal}
 use Rattle.record.specs.declared.Refusal.TheVariants as refusal
 use Rattle.record.specs.declared.Event.TheVariants.{Image, Change, Transact}
-use Rattle.record.specs.declared.Taken.{Taken}
-use Rattle.record.specs.declared.Taken.TheVariants.{Run, Refused}
-use Rattle.record.specs.Record.{master_of, fitted_of}
+use Rattle.record.specs.Record.{master_of, fitted_of, Taken}
 use Rattle.gauge.proofs.Acting.{reply_length}
 use Rattle.runs.specs.Record.{whole, recs_of}
 use Rattle.runs.specs.Run.{Did}
@@ -163,7 +162,7 @@ module _ (s : List ℕ) (τ : Tray) (h : Distinct τ) (small : Bytes s → (i : 
   abbrev Each : Taken → Type 0
   Each t = EachAsPlain s τ (answered_by of_tray τ p t) (λ i. taken_did (loaded_with (pack_of τ i)) p t)
 
-  refused_each : (r : Refusal) → Each (Refused r)
+  refused_each : (r : Refusal) → Each (Err r)
   refused_each r = record {
     answer = λ i low. refl;
     pack = λ i low. refl;
@@ -172,7 +171,7 @@ module _ (s : List ℕ) (τ : Tray) (h : Distinct τ) (small : Bytes s → (i : 
     byte = λ bytes k less. absurd (omega arith);
   }
 
-  transact_each : (t : Transaction) → Each (Run (Transact t))
+  transact_each : (t : Transaction) → Each (Ok (Transact t))
   transact_each t =
       let master = master_of t p in
       let reach = tray_reach τ t master in
@@ -188,10 +187,10 @@ module _ (s : List ℕ) (τ : Tray) (h : Distinct τ) (small : Bytes s → (i : 
       }
 
   taken_each : (t : Taken) → Asks τ (kind.Transaction f) p t → Each t
-  taken_each (Run (Image g)) a = let z = a.kind in contrary cc
-  taken_each (Run (Change c)) a = let z = a.ahead in contrary cc
-  taken_each (Run (Transact t)) a = transact_each t
-  taken_each (Refused r) a = refused_each r
+  taken_each (Ok (Image g)) a = let z = a.kind in contrary cc
+  taken_each (Ok (Change c)) a = let z = a.ahead in contrary cc
+  taken_each (Ok (Transact t)) a = transact_each t
+  taken_each (Err r) a = refused_each r
 
   pub did_each : (room : ℕ)
       → EachAsPlain s τ (tray_did τ room (whole (form_kind f) p)) (λ i. did_of (loaded_with (pack_of τ i)) room (whole (form_kind f) p))

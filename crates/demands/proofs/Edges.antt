@@ -37,17 +37,11 @@ use Rattle.tray_record.specs.declared.Tray.{Tray}
 use Rattle.tray_record.specs.Tray.{empty_tray, pack_of, slot_in, tray_did}
 use Rattle.tray_record.specs.Tray as reach
 use Rattle.tray_run.specs.TrayRun.{SlotOut}
-use Rattle.preset_session.specs.declared.Written.{Written}
-use Rattle.preset_session.specs.PresetSession.{programming_size, Programming}
-use Rattle.mending.specs.declared.Mended.{Mended}
-use Rattle.mending.specs.declared.Mended.TheVariants as mending
-use Rattle.mending.specs.declared.Listed.{Listed}
-use Rattle.mending.specs.Mending.{mended_of, Mending, Listing}
+use Rattle.preset_session.specs.PresetSession.{Written, programming_size, Programming}
+use Rattle.mending.specs.Mending.{Mended, Listed, mend_done, mended_of, Mending, Listing}
 use Rattle.mending.specs.Worth.{Accepted, SoundImage, StaysByCalls}
 use Rattle.mending.proofs.Worth as worth
-use Rattle.intel_hex.specs.declared.Answer.{Answer}
-use Rattle.intel_hex.specs.declared.Answer.TheVariants.{Done}
-use Rattle.intel_hex.specs.Export.{Exporting}
+use Rattle.intel_hex.specs.Export.{Answer, done, Exporting}
 use Rattle.intel_hex.specs.Import.{Importing}
 use Rattle.intel_hex.specs.Theorems.{InSomeOrder, Reordered, Returned}
 use Rattle.intel_hex.proofs.RoundTrip.{round_trip}
@@ -245,18 +239,18 @@ stays_in_60 image sound room said after size mended lent heard last listed =
     (worth.listing).stays image sound room said after (omega (arith, size)) mended lent heard last listed
 
 -- and a mended image is the only record of a session
-pub mended_alone : (image room after : List ℕ) (c : Call Session) → Mending image room mending.Done after → c.bytes ≡ record_of 1 (take image_size after)
+pub mended_alone : (image room after : List ℕ) (c : Call Session) → Mending image room mend_done after → c.bytes ≡ record_of 1 (take image_size after)
     → Within did_of empty_of c → MendedFirst image room after [] c
 mended_alone image room after c mended session run =
     record { mended = mended; session = session ∙ sym (append-nil (record_of 1 (take image_size after))); run = run }
 
-pub mended_alone_accepted : (image room after : List ℕ) (c : Call Session) → Mending image room mending.Done after
+pub mended_alone_accepted : (image room after : List ℕ) (c : Call Session) → Mending image room mend_done after
     → c.bytes ≡ record_of 1 (take image_size after) → Within did_of empty_of c → lines_in did_of empty_of c ≡ record { kind = 1; answer = 0; reply = [] } ∷ []
 mended_alone_accepted image room after c mended session run =
     (mended_first image room after [] c (mended_alone image room after c mended session run)).lines
 
 -- THE ROUND TRIP: into a room of just 48 bytes
-pub returned_in_48 : (pack factory room after : List ℕ) → UpTo255 pack → UpTo255 factory → Exporting pack factory room Done after
+pub returned_in_48 : (pack factory room after : List ℕ) → UpTo255 pack → UpTo255 factory → Exporting pack factory room done after
     → (ls : List (List ℕ)) (text : List ℕ) → Reordered pack factory ls text → (lent : List ℕ) (said : Answer) (last : List ℕ) → length lent ≡ 48
     → Importing text lent said last → Returned pack factory lent said last
 returned_in_48 pack factory room after small other wrote ls text order lent said last size read =

@@ -7,14 +7,13 @@ use native.Mathlib.Omega.{arith}
 use borrow.Author.Tests.{le-ltb, eqb-true, eqb-false}
 use lib.Dec.{ltb, eqb}
 use lib.ListN.{length, take}
+use Rattle.std.specs.Prelude.{Ok, Err}
 use Rattle.state.specs.declared.Profile.{Profile}
 use Rattle.record.specs.declared.Kind.{Kind}
 use Rattle.record.specs.declared.Kind.TheVariants as kind
 use Rattle.record.specs.declared.Event.{Event}
 use Rattle.record.specs.declared.Event.TheVariants.{Image, Change, Transact}
-use Rattle.record.specs.declared.Taken.{Taken}
-use Rattle.record.specs.declared.Taken.TheVariants.{Run, Refused}
-use Rattle.record.specs.Record.{master_of}
+use Rattle.record.specs.Record.{master_of, Taken}
 use Rattle.record.proofs.Fits.{refusal_range}
 use Rattle.runs.specs.Record.{Rec, whole, cut, recs_of}
 use Rattle.runs.specs.Run.{Did, lines_after, end_after}
@@ -37,7 +36,7 @@ record Shuts (count : ℕ) (τ : Tray) : Type 0 where
   closed : τ.closed ≡ true
   same : τ.count ≡ count
 
-event_shuts : (count : ℕ) (τ : Tray) (k : Kind) (p : List ℕ) (e : Event) → Shuts count τ → Asks τ k p (Run e) → Shuts count (tray_event τ p e).state
+event_shuts : (count : ℕ) (τ : Tray) (k : Kind) (p : List ℕ) (e : Event) → Shuts count τ → Asks τ k p (Ok e) → Shuts count (tray_event τ p e).state
 event_shuts count τ k p (Image f) h a = let z = sym h.closed ∙ a.before in contrary cc
 event_shuts count τ k p (Change c) h a = record { eight = event_eight τ h.eight k p (Change c) a; closed = refl; same = h.same }
 event_shuts count τ k p (Transact t) h a = record {
@@ -83,7 +82,7 @@ module _ (τ : Tray) (room n : ℕ) (p : List ℕ) where
   abbrev does : Taken → Did Tray
   does t = answered_by of_tray τ p t
 
-  image_joins : (f : Profile) → tray_told τ n p ≡ Run (Image f) → Accepts τ room (whole n p)
+  image_joins : (f : Profile) → tray_told τ n p ≡ Ok (Image f) → Accepts τ room (whole n p)
   unfolding tray_did
   image_joins f e =
       let a = rw e at (tray_asks τ n p) in
@@ -100,16 +99,16 @@ module _ (τ : Tray) (room n : ℕ) (p : List ℕ) where
   whole_accepts = go (tray_told τ n p) refl
     where
       go : (t : Taken) → tray_told τ n p ≡ t → (tray_did τ room (whole n p)).answer ≡ 0 → Accepts τ room (whole n p)
-      go (Run (Image f)) e done = image_joins f e
-      go (Run (Change c)) e done = event_closes (Run (Change c)) (rw (e, le-ltb room 0 zero-le) refl) refl refl
-      go (Run (Transact t)) e done = fits (ltb room t.count) refl
+      go (Ok (Image f)) e done = image_joins f e
+      go (Ok (Change c)) e done = event_closes (Ok (Change c)) (rw (e, le-ltb room 0 zero-le) refl) refl refl
+      go (Ok (Transact t)) e done = fits (ltb room t.count) refl
         where
           fits : (b : Bool) → ltb room t.count ≡ b → Accepts τ room (whole n p)
           fits true full = let z = rw (e, full) at done in absurd (omega arith)
           fits false other =
-              event_closes (Run (Transact t)) (rw (e, other) refl) refl
+              event_closes (Ok (Transact t)) (rw (e, other) refl) refl
               (acted_count t (master_of t p) τ (tray_reach τ t (master_of t p)))
-      go (Refused r) e done = let z = rw e at done in absurd (omega (arith, (refusal_range r).0))
+      go (Err r) e done = let z = rw e at done in absurd (omega (arith, (refusal_range r).0))
 
 accepts : (τ : Tray) (room : ℕ) (r : Rec) → (tray_did τ room r).answer ≡ 0 → Accepts τ room r
 unfolding tray_did

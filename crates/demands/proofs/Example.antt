@@ -24,8 +24,7 @@ use Rattle.gauge.specs.Image.{image_of, size_for}
 use Rattle.gauge.proofs.Image.{size_few}
 use Rattle.record.specs.Image.{image_address}
 use Rattle.record.specs.Record.{kind_of, addressed_of, ordered_of, judged_among, taken_of}
-use Rattle.preset_session.specs.declared.Written.TheVariants as Written
-use Rattle.preset_session.specs.PresetSession.{programming_of, preset_answer, Granted}
+use Rattle.preset_session.specs.PresetSession.{write_done, programming_of, preset_answer, Granted}
 use Rattle.runs.specs.Record.{Rec, whole, whole_of, rec_of, size_of, recs_of, record_of}
 use Rattle.runs.specs.Run.{Line}
 use Rattle.runs.specs.declared.Session.{Session}
@@ -255,7 +254,7 @@ pub granted_met : Granted image wanted 120
 unfolding judged_among addressed_of ordered_of crc.bit_of crc.eight_of crc.next_of
 granted_met = record { accepted = refl; all = refl; unlocked = refl; fits = omega arith }
 
-pub bench_met : Bench image wanted (replicate 120 0) Written.Done (programming_of image wanted) programmed
+pub bench_met : Bench image wanted (replicate 120 0) write_done (programming_of image wanted) programmed
 unfolding preset_answer judged_among addressed_of ordered_of crc.bit_of crc.eight_of crc.next_of
 bench_met = record {
   wrote = record { number = refl; answer = refl; written = refl };

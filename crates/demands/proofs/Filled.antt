@@ -7,6 +7,7 @@ use native.Mathlib.Omega.{arith}
 use borrow.Author.Tests.{eqb-true, eqb-false}
 use lib.Dec.{eqb}
 use lib.ListN.{length}
+use Rattle.std.specs.Prelude.{Ok, Err}
 use Rattle.state.specs.declared.Profile.{Profile}
 use Rattle.numbers.specs.Choice.{pick}
 use Rattle.numbers.proofs.Bounds.{picked}
@@ -19,9 +20,7 @@ use Rattle.gauge.specs.Reach.{Reached, accepted, changed, acted_on}
 use Rattle.record.specs.declared.Kind.{Kind}
 use Rattle.record.specs.declared.Event.{Event}
 use Rattle.record.specs.declared.Event.TheVariants.{Image, Change, Transact}
-use Rattle.record.specs.declared.Taken.{Taken}
-use Rattle.record.specs.declared.Taken.TheVariants.{Run, Refused}
-use Rattle.record.specs.Record.{master_of}
+use Rattle.record.specs.Record.{master_of, Taken}
 use Rattle.runs.specs.Record.{Rec, whole, cut}
 use Rattle.runs.specs.Run.{end_after}
 use Rattle.runs.specs.AnyRecord.{answered_by}
@@ -46,7 +45,7 @@ count_after τ (Change c) = τ.count
 count_after τ (Transact t) = τ.count
 
 module _ (τ : Tray) (h : Eight τ) (k : Kind) (p : List ℕ) where
-  pub event_pack : (e : Event) → Asks τ k p (Run e) → (j : ℕ) → pack_of (tray_event τ p e).state j ≡ pack_after τ p e j
+  pub event_pack : (e : Event) → Asks τ k p (Ok e) → (j : ℕ) → pack_of (tray_event τ p e).state j ≡ pack_after τ p e j
   event_pack (Image f) a j = stored_pack τ τ.count j (image_of f p) h a.few
   event_pack (Change c) a j =
       stored_pack τ (slot_in p) j (changed_of (pack_of τ (slot_in p)) c) h (omega (arith, a.pack, h.few)) ∙ here (eqb j (slot_in p)) refl
@@ -62,7 +61,7 @@ module _ (τ : Tray) (h : Eight τ) (k : Kind) (p : List ℕ) where
   event_count (Change c) = refl
   event_count (Transact t) = acted_count t (master_of t p) τ (tray_reach τ t (master_of t p))
 
-  pub event_eight : (e : Event) → Asks τ k p (Run e) → Eight (tray_event τ p e).state
+  pub event_eight : (e : Event) → Asks τ k p (Ok e) → Eight (tray_event τ p e).state
   event_eight (Image f) a =
       let s = stored_eight τ τ.count (image_of f p) h in
       record { few = omega (arith, a.few); commons = s.commons; labels = s.labels; meters = s.meters }
@@ -90,10 +89,10 @@ address_after_lem τ p (Transact t) j old =
 
 -- What each event keeps, a run keeps
 
-module _ (P : Tray → Type 0) (kept : (τ : Tray) (k : Kind) (p : List ℕ) (e : Event) → P τ → Asks τ k p (Run e) → P (tray_event τ p e).state) where
+module _ (P : Tray → Type 0) (kept : (τ : Tray) (k : Kind) (p : List ℕ) (e : Event) → P τ → Asks τ k p (Ok e) → P (tray_event τ p e).state) where
   taken_keeps : (τ : Tray) (k : Kind) (p : List ℕ) (t : Taken) → P τ → Asks τ k p t → P (answered_by of_tray τ p t).state
-  taken_keeps τ k p (Run e) h a = kept τ k p e h a
-  taken_keeps τ k p (Refused r) h a = h
+  taken_keeps τ k p (Ok e) h a = kept τ k p e h a
+  taken_keeps τ k p (Err r) h a = h
 
   pub did_keeps : (τ : Tray) (room : ℕ) (r : Rec) → P τ → P (tray_did τ room r).state
   unfolding tray_did
@@ -117,7 +116,7 @@ pub record Filled (τ : Tray) : Type 0 where
   pub reached : (i : ℕ) → i < τ.count → Reached (pack_of τ i)
 
 module _ (τ : Tray) (k : Kind) (p : List ℕ) (h : Filled τ) where
-  event_reached : (e : Event) → Asks τ k p (Run e) → (i : ℕ) → i < count_after τ e → Reached (pack_after τ p e i)
+  event_reached : (e : Event) → Asks τ k p (Ok e) → (i : ℕ) → i < count_after τ e → Reached (pack_after τ p e i)
   event_reached (Image f) a i low =
       picked Reached (eqb i τ.count) _ _ (λ e. accepted f p a.judged) (λ e. h.reached i (omega (arith, eqb-false i τ.count e)))
   event_reached (Change c) a i low =
@@ -127,7 +126,7 @@ module _ (τ : Tray) (k : Kind) (p : List ℕ) (h : Filled τ) where
       (λ e. acted_on (pack_of τ i) t (master_of t p) (h.reached i low))
       (λ e. h.reached i low)
 
-  event_filled : (e : Event) → Asks τ k p (Run e) → Filled (tray_event τ p e).state
+  event_filled : (e : Event) → Asks τ k p (Ok e) → Filled (tray_event τ p e).state
   event_filled e a = record {
     eight = event_eight τ h.eight k p e a;
     reached = λ i low. rw (event_pack τ h.eight k p e a i) (event_reached e a i (rw (event_count τ h.eight k p e) at low));

@@ -7,6 +7,7 @@ use Prim.Native.Nat.{ℕ, zero, suc, ◌+◌, ◌≤◌, ◌<◌}
 use native.Mathlib.Omega.{arith}
 use lib.Dec.{eqb}
 use lib.ListN.{length, drop}
+use Rattle.std.specs.Prelude.{Ok, Err}
 use Rattle.numbers.specs.Choice.{pick, either}
 use Rattle.state.specs.declared.Meter.{Meter}
 use Rattle.params.specs.Params.{rnaop_of}
@@ -37,13 +38,11 @@ use Rattle.record.specs.declared.Change.{Change}
 use Rattle.record.specs.declared.Change.TheVariants as change
 use Rattle.record.specs.declared.Event.TheVariants.{Image, Change as Changed, Transact}
 use Rattle.record.specs.declared.Refusal.TheVariants.{Interval}
-use Rattle.record.specs.declared.Taken.{Taken}
-use Rattle.record.specs.declared.Taken.TheVariants.{Run, Refused}
 use Rattle.runs.specs.Record.{Rec, whole, cut}
 use Rattle.runs.specs.Run.{Did}
 use Rattle.runs.specs.declared.Session.{Session}
 use Rattle.runs.specs.SessionRecord.{loaded_with, taken_did}
-use Rattle.record.specs.Record.{refusal_number, master_of, taken_of}
+use Rattle.record.specs.Record.{refusal_number, master_of, taken_of, Taken}
 use Rattle.demands.specs.Sections.{Class, labelling, gauging, fence}
 use Rattle.demands.specs.Class.{touched_by, touched_of, touched_class, change_class, taken_class, class_of}
 use Rattle.demands.proofs.Choice.{contrary, pick_of}
@@ -106,7 +105,7 @@ asked selected command rom a n bytes g =
     (listed (bytes_from g (pick selected (read_source_of command a) (net_source_of rom (rnaop_of g.meter.cells.block.shadow)))) 0 n)
 
 asked_is : (g : Gauge) (p : List ℕ) (t : Transaction)
-    → taken_did (loaded_with g) p (Run (Transact t))
+    → taken_did (loaded_with g) p (Ok (Transact t))
     ≡ asked (selected_of g.common.address t (master_of t p)) t.command t.rom t.address t.count (drop t.from (master_of t p)) g
 unfolding act_of ran_of reply_of
 asked_is g p t = refl
@@ -192,7 +191,7 @@ module _ (c : Common) where
 -- A record, of a class that is judged by the gauge's own address
 
 module _ (c : Common) where
-  transact_class : {k : Class} (p : List ℕ) (t : Transaction) → taken_class (selected_of c.address) p (Run (Transact t)) ≡ k
+  transact_class : {k : Class} (p : List ℕ) (t : Transaction) → taken_class (selected_of c.address) p (Ok (Transact t)) ≡ k
       → touched_class t.command
       (pick (selected_of c.address t (master_of t p)) (touched_by t.command t.address t.count (length (drop t.from (master_of t p)))) [])
       ≡ k
@@ -207,12 +206,12 @@ module _ (c : Common) where
 
   pub label_taken : (l : Label) (p : List ℕ) (t : Taken) → taken_class (selected_of c.address) p t ≡ labelling
       → Form (labelled c) l (timed_did p t)
-  label_taken l p (Run (Image f)) e = contrary cc
-  label_taken l p (Run (Changed x)) e = no_label x e
-  label_taken l p (Run (Transact t)) e =
+  label_taken l p (Ok (Image f)) e = contrary cc
+  label_taken l p (Ok (Changed x)) e = no_label x e
+  label_taken l p (Ok (Transact t)) e =
       same_form (λ m. asked_is (labelled c l m) p t)
       (label_asked c l (selected_of c.address t (master_of t p)) t.command t.rom t.address t.count _ (transact_class p t e))
-  label_taken l p (Refused r) e = refused (either (eqb (refusal_number r) 3) (either (eqb (refusal_number r) 4) (eqb (refusal_number r) 8))) e
+  label_taken l p (Err r) e = refused (either (eqb (refusal_number r) 3) (either (eqb (refusal_number r) 4) (eqb (refusal_number r) 8))) e
     where
       refused : {A : Type 0} (t : Bool) → pick t gauging fence ≡ labelling → A
       refused true f = contrary cc
@@ -220,12 +219,12 @@ module _ (c : Common) where
 
   -- a sample: the tick is the meter's
   sample_form : (m : Meter) (p : List ℕ) (raw tick : ℕ) (timely : Bool)
-      → Form (metered c) m (λ g. taken_did (loaded_with g) p (pick timely (Run (Changed (change.Sample raw tick))) (Refused Interval)))
+      → Form (metered c) m (λ g. taken_did (loaded_with g) p (pick timely (Ok (Changed (change.Sample raw tick))) (Err Interval)))
   unfolding sampling_of
   sample_form m p raw tick true = record { part = sample_of m raw tick; answer = 0; reply = []; form = λ l. refl }
   sample_form m p raw tick false = record { part = m; answer = refusal_number Interval; reply = []; form = λ l. refl }
 
-  change_form : (m : Meter) (p : List ℕ) (x : Change) → change_class x ≡ gauging → Form (metered c) m (timed_did p (Run (Changed x)))
+  change_form : (m : Meter) (p : List ℕ) (x : Change) → change_class x ≡ gauging → Form (metered c) m (timed_did p (Ok (Changed x)))
   unfolding reading_of conversion_of
   change_form m p (change.Reading volt temp) e = record { part = read_of m volt temp; answer = 0; reply = []; form = λ l. refl }
   change_form m p (change.Conversion raw) e = record { part = convert_of m raw; answer = 0; reply = []; form = λ l. refl }
@@ -234,12 +233,12 @@ module _ (c : Common) where
 
   pub gauge_taken : (m : Meter) (p : List ℕ) (t : Taken) → taken_class (selected_of c.address) p t ≡ gauging
       → Form (metered c) m (timed_did p t)
-  gauge_taken m p (Run (Image f)) e = contrary cc
-  gauge_taken m p (Run (Changed x)) e = change_form m p x e
-  gauge_taken m p (Run (Transact t)) e =
+  gauge_taken m p (Ok (Image f)) e = contrary cc
+  gauge_taken m p (Ok (Changed x)) e = change_form m p x e
+  gauge_taken m p (Ok (Transact t)) e =
       same_form (λ l. asked_is (metered c m l) p t)
       (gauge_asked c m (selected_of c.address t (master_of t p)) t.command t.rom t.address t.count _ (transact_class p t e))
-  gauge_taken m p (Refused r) e = record { part = m; answer = refusal_number r; reply = []; form = λ l. refl }
+  gauge_taken m p (Err r) e = record { part = m; answer = refusal_number r; reply = []; form = λ l. refl }
 
   -- a cut record is a fence
   free_form : {A B : Type 0} {make : A → B → Gauge} {x : A} (k : Class) → (fence ≡ k → ⊥)

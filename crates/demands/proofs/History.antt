@@ -8,6 +8,7 @@ use borrow.Author.Tests.{ltb-true, ltb-false, lt-ltb, le-ltb, eqb-true, eqb-fals
 use lib.Dec.{ltb, eqb}
 use lib.IntN.{◌-ℤ◌}
 use lib.ListN.{length, take, drop, take-append-drop}
+use Rattle.std.specs.Prelude.{Ok, Err}
 use Rattle.numbers.specs.Choice.{pick}
 use Rattle.numbers.proofs.Bounds.{picked, through}
 use Rattle.state.specs.declared.Profile.{Profile}
@@ -15,9 +16,7 @@ use Rattle.gauge.specs.declared.Gauge.{Gauge}
 use Rattle.gauge.specs.Image.{image_of}
 use Rattle.record.specs.declared.Event.{Event}
 use Rattle.record.specs.declared.Event.TheVariants.{Image, Change, Transact}
-use Rattle.record.specs.declared.Taken.{Taken}
-use Rattle.record.specs.declared.Taken.TheVariants.{Run, Refused}
-use Rattle.record.specs.Record.{master_of, taken_of, timed_of, fitted_of}
+use Rattle.record.specs.Record.{master_of, taken_of, timed_of, fitted_of, Taken}
 use Rattle.record.proofs.Fits.{Taking, timed_taking}
 use Rattle.runs.specs.Record.{Rec, whole, cut, recs_of}
 use Rattle.runs.specs.Run.{Did, end_after}
@@ -221,10 +220,10 @@ module _ (σ : Session) (room : ℕ) where
   session_goes (whole kind p) = by (fitted_of room (of_session.told σ kind p))
     where
       by : (t : Taken) → (answered_by of_session σ p t).state.gauge ≡ lived σ.gauge (heard_by of_gauge σ p t)
-      by (Run (Image f)) = refl
-      by (Run (Change c)) = refl
-      by (Run (Transact t)) = refl
-      by (Refused r) = refl
+      by (Ok (Image f)) = refl
+      by (Ok (Change c)) = refl
+      by (Ok (Transact t)) = refl
+      by (Err r) = refl
   session_goes cut = refl
 
   abbrev Stays : List ℕ → Taken → Type 0
@@ -238,10 +237,10 @@ module _ (σ : Session) (room : ℕ) where
       asks = timed_of (last_tick σ) (taken_of kind σ.loaded p)
 
       by : (t : Taken) → Taking false σ.loaded p t → Stays p t
-      by (Run (Image f)) h = let z : ◌≡◌ {A = Bool} true false = sym there ∙ h.0 in contrary cc
-      by (Run (Change c)) h = (refl, (tt, tt))
-      by (Run (Transact t)) h = (refl, (tt, tt))
-      by (Refused r) h = (there, tt)
+      by (Ok (Image f)) h = let z : ◌≡◌ {A = Bool} true false = sym there ∙ h.0 in contrary cc
+      by (Ok (Change c)) h = (refl, (tt, tt))
+      by (Ok (Transact t)) h = (refl, (tt, tt))
+      by (Err r) h = (there, tt)
   session_stays cut there = (there, tt)
 
   session_comes : (r : Rec) → σ.loaded ≡ false → Brings (did_of σ room r).state.loaded (heard_in of_gauge σ room r)
@@ -255,10 +254,10 @@ module _ (σ : Session) (room : ℕ) where
       Comes t = Brings (answered_by of_session σ p t).state.loaded (heard_by of_gauge σ p t)
 
       by : (t : Taken) → Taking false σ.loaded p t → Comes t
-      by (Run (Image f)) h = (f, (p, refl))
-      by (Run (Change c)) h = let z : ◌≡◌ {A = Bool} true false = sym h ∙ none in contrary cc
-      by (Run (Transact t)) h = let z : ◌≡◌ {A = Bool} true false = sym h.0 ∙ none in contrary cc
-      by (Refused r) h = rw none refl
+      by (Ok (Image f)) h = (f, (p, refl))
+      by (Ok (Change c)) h = let z : ◌≡◌ {A = Bool} true false = sym h ∙ none in contrary cc
+      by (Ok (Transact t)) h = let z : ◌≡◌ {A = Bool} true false = sym h.0 ∙ none in contrary cc
+      by (Err r) h = rw none refl
   session_comes cut none = rw none refl
 
 pub session_follows : Follows did_of empty_of of_gauge (λ σ. Unit)
@@ -300,8 +299,8 @@ module _ (τ : Tray) (eight : Eight τ) (j : ℕ) where
   slot_goes room (whole n p) = fitted_has (SlotGoes p) refl room (tray_told τ n p) (by (tray_told τ n p) (tray_asks τ n p))
     where
       by : (t : Taken) → Asks τ (tray_kind_of n) p t → SlotGoes p t
-      by (Run e) a = event_pack τ eight (tray_kind_of n) p e a j ∙ heard_lives p e
-      by (Refused r) a = refl
+      by (Ok e) a = event_pack τ eight (tray_kind_of n) p e a j ∙ heard_lives p e
+      by (Err r) a = refl
   slot_goes room cut = refl
 
   abbrev SlotStays : List ℕ → Taken → Type 0
@@ -327,8 +326,8 @@ module _ (τ : Tray) (eight : Eight τ) (j : ℕ) where
       quiet (Transact t) = picked Imageless (hears_of (tray_reach τ t (master_of t p)) τ.count j) _ _ (λ e. (tt, tt)) (λ e. tt)
 
       by : (t : Taken) → SlotStays p t
-      by (Run e) = (grows e, quiet e)
-      by (Refused r) = (there, tt)
+      by (Ok e) = (grows e, quiet e)
+      by (Err r) = (there, tt)
   slot_stays room cut there = (there, tt)
 
   slot_comes : (room : ℕ) (r : Rec) → ltb j τ.count ≡ false → Brings (ltb j (tray_did τ room r).state.count) (heard_in (of_slot j) τ room r)
@@ -353,13 +352,13 @@ module _ (τ : Tray) (eight : Eight τ) (j : ℕ) where
       deaf nobody low = refl
 
       by : (t : Taken) → Asks τ (tray_kind_of n) p t → Comes t
-      by (Run (Image f)) a = joins f (eqb j τ.count) refl
-      by (Run (Change c)) a = rw (none, ne_eqb j (slot_in p) (λ e. omega (arith, high, a.pack))) refl
-      by (Run (Transact t)) a =
+      by (Ok (Image f)) a = joins f (eqb j τ.count) refl
+      by (Ok (Change c)) a = rw (none, ne_eqb j (slot_in p) (λ e. omega (arith, high, a.pack))) refl
+      by (Ok (Transact t)) a =
           let master = master_of t p in
           let reach = tray_reach τ t master in
           rw (acted_count t master τ reach, none, deaf reach (reach_there τ t master)) refl
-      by (Refused r) a = rw none refl
+      by (Err r) a = rw none refl
   slot_comes room cut none = rw none refl
 
 pub slot_follows : (j : ℕ) → Follows tray_did empty_tray (of_slot j) Eight

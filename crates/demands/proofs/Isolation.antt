@@ -5,6 +5,7 @@ use Prim.Native.Nat.{ℕ, zero, suc, ◌-◌}
 use native.Mathlib.Omega.{arith}
 use lib.Dec.{ltb, leb, eqb}
 use lib.ListN.{length, take}
+use Rattle.std.specs.Prelude.{Ok, Err}
 use Rattle.numbers.specs.Choice.{pick}
 use Rattle.bus.specs.declared.Transaction.{Transaction}
 use Rattle.gauge.specs.declared.Gauge.{Gauge}
@@ -12,9 +13,7 @@ use Rattle.gauge.specs.Act.{reply_of}
 use Rattle.record.specs.declared.Form.{Form}
 use Rattle.record.specs.declared.Refusal.TheVariants as refusal
 use Rattle.record.specs.declared.Event.TheVariants.{Image, Change, Transact}
-use Rattle.record.specs.declared.Taken.{Taken}
-use Rattle.record.specs.declared.Taken.TheVariants.{Run, Refused}
-use Rattle.record.specs.Record.{master_of, fitted_of}
+use Rattle.record.specs.Record.{master_of, fitted_of, Taken}
 use Rattle.record.proofs.Fits.{transaction_timely}
 use Rattle.runs.specs.Record.{Rec, whole, recs_of}
 use Rattle.runs.specs.Run.{Line, line_of, lines_after, end_after}
@@ -128,7 +127,7 @@ twins_end {k} {c} {d} t =
 told_others : {k : ℕ} {τ σ : Tray} → Others k τ σ → (f : Form) (p : List ℕ) → tray_told τ (form_kind f) p ≡ tray_told σ (form_kind f) p
 told_others {k} {τ} {σ} h f p =
     rw (transaction_kind f)
-    (ap (λ (t : Taken). pick (leb 0 (length p)) t (Refused refusal.Size))
+    (ap (λ (t : Taken). pick (leb 0 (length p)) t (Err refusal.Size))
     (sym (transaction_timely (slot_tick τ p) (again_of τ p) (ltb 0 τ.count) p f)
     ∙ rw h.count refl
     ∙ transaction_timely (slot_tick σ p) (again_of σ p) (ltb 0 σ.count) p f))
@@ -145,12 +144,12 @@ module _ {k : ℕ} {τ σ : Tray} (h : Others k τ σ) (j : ℕ) (away : j ≡ k
   replied t e = rw (← (reach_others h t (master_of t p)), e) (ap (λ (g : Gauge). reply_of g t (master_of t p)) (h.packs j away))
 
   line_same : (t : Taken) → Asks τ (tray_kind_of n) p t → Same t
-  line_same (Run (Image f)) a = refl
-  line_same (Run (Change c)) a = refl
-  line_same (Run (Transact t)) a =
+  line_same (Ok (Image f)) a = refl
+  line_same (Ok (Change c)) a = refl
+  line_same (Ok (Transact t)) a =
       ap (λ (l : List ℕ). record { kind = n; answer = 0; reply = l })
       (replied t (ap (λ (y : Transaction). tray_reach τ y (master_of y p)) (asked_form f (transaction_kind f) a) ∙ reach))
-  line_same (Refused r) a = refl
+  line_same (Err r) a = refl
 
   matched_same : (room : ℕ) → line_of (whole n p) (tray_did τ room (whole n p)) ≡ line_of (whole n p) (tray_did σ room (whole n p))
   unfolding tray_did

@@ -7,6 +7,7 @@ use native.Mathlib.Omega.{arith}
 use borrow.Author.Tests.{le-ltb, le-leb}
 use lib.Dec.{ltb}
 use lib.ListN.{length, drop, replicate}
+use Rattle.std.specs.Prelude.{Ok, Err}
 use Rattle.numbers.specs.Choice.{pick, either}
 use Rattle.state.specs.State.{no_tick}
 use Rattle.bus.specs.declared.Rom.{Rom}
@@ -24,9 +25,7 @@ use Rattle.record.specs.declared.Kind.{Kind}
 use Rattle.record.specs.declared.Kind.TheVariants as kind
 use Rattle.record.specs.declared.Refusal.TheVariants as refusal
 use Rattle.record.specs.declared.Event.TheVariants.{Transact}
-use Rattle.record.specs.declared.Taken.{Taken}
-use Rattle.record.specs.declared.Taken.TheVariants.{Run, Refused}
-use Rattle.record.specs.Record.{head_of, limit_of, read_count, kind_of, master_of, taken_by, taken_of, fitted_of}
+use Rattle.record.specs.Record.{head_of, limit_of, read_count, kind_of, master_of, taken_by, taken_of, fitted_of, Taken}
 use Rattle.record.proofs.Fits.{transaction_timely}
 use Rattle.runs.specs.Record.{Rec, kind_in}
 use Rattle.runs.specs.Run.{Did, lines_after, end_after, replies_of}
@@ -86,7 +85,7 @@ module _ (count : ℕ) (master : List ℕ) where
   module _ (told : ℕ → List ℕ → Taken) (ready : Bool)
       (tells : (f : Form) (p : List ℕ) → told (form_kind f) p ≡ taken_by false (kind.Transaction f) ready p) where
     asks : (f : Form) → AllowedIn f count master →
-        told (form_kind f) (payload_of f count master) ≡ pick ready (Run (Transact (asking f))) (Refused refusal.Order)
+        told (form_kind f) (payload_of f count master) ≡ pick ready (Ok (Transact (asking f))) (Err refusal.Order)
     asks f a =
         let some : head_of f ≤ length (payload_of f count master) = omega (arith, payload_length count master f) in
         let few : length (payload_of f count master) ≤ head_of f + limit_of f = omega (arith, payload_length count master f, a.sends) in
@@ -113,22 +112,22 @@ module _ {S : Type 0} (k : Steps S) (h : Hears k) (count : ℕ) (master : List �
   abbrev said : Form → Taken → Did S
   said x t = answered_by k σ (payload_of x count master) t
 
-  event_same : said f (Run (Transact (asking count master f))) ≡ said g (Run (Transact (asking count master g)))
+  event_same : said f (Ok (Transact (asking count master f))) ≡ said g (Ok (Transact (asking count master g)))
   event_same =
       h.event σ (payload_of f count master) (payload_of g count master) (head_of g) (asking count master f) (master_sent count master f g)
-      ∙ ap (λ (t : Transaction). said g (Run (Transact t))) (asked_started (head_of g) (head_of f) count master)
+      ∙ ap (λ (t : Transaction). said g (Ok (Transact t))) (asked_started (head_of g) (head_of f) count master)
 
   counts : (x : Form) (b : Bool) → ltb room count ≡ b → ltb room (asking count master x).count ≡ b
   counts x b e = ap (ltb room) (asked_placed (head_of x) count master).counts ∙ e
 
   fits : (b : Bool) → ltb room count ≡ b →
-      said f (fitted_of room (Run (Transact (asking count master f)))) ≡ said g (fitted_of room (Run (Transact (asking count master g))))
+      said f (fitted_of room (Ok (Transact (asking count master f)))) ≡ said g (fitted_of room (Ok (Transact (asking count master g))))
   fits true e = rw (counts f true e, counts g true e) refl
   fits false e = rw (counts f false e, counts g false e) event_same
 
   taken : (ready : Bool)
-      → said f (fitted_of room (pick ready (Run (Transact (asking count master f))) (Refused refusal.Order)))
-      ≡ said g (fitted_of room (pick ready (Run (Transact (asking count master g))) (Refused refusal.Order)))
+      → said f (fitted_of room (pick ready (Ok (Transact (asking count master f))) (Err refusal.Order)))
+      ≡ said g (fitted_of room (pick ready (Ok (Transact (asking count master g))) (Err refusal.Order)))
   taken true = fits (ltb room count) refl
   taken false = refl
 
@@ -239,16 +238,16 @@ module _ (asked : ℕ → List ℕ → Taken) (ready : Bool)
     (tells : (f : Form) (p : List ℕ) → asked (form_kind f) p ≡ taken_by false (kind.Transaction f) ready p)
     (selects : Selects) (hears : (t : Transaction) (s : ℕ) (master : List ℕ) → selects t master ≡ selects (started_at s t) master) where
   event_class_lem : (t : Transaction) (s : ℕ) (p q : List ℕ) → master_of t p ≡ drop s q →
-      taken_class selects p (Run (Transact t)) ≡ taken_class selects q (Run (Transact (started_at s t)))
+      taken_class selects p (Ok (Transact t)) ≡ taken_class selects q (Ok (Transact (started_at s t)))
   unfolding touched_of
   event_class_lem t s p q e = rw (e, hears t s (drop s q)) refl
 
   taken_class_lem : (b : Bool) (count : ℕ) (master : List ℕ) (f g : Form)
-      → taken_class selects (payload_of f count master) (pick b (Run (Transact (asking count master f))) (Refused refusal.Order))
-      ≡ taken_class selects (payload_of g count master) (pick b (Run (Transact (asking count master g))) (Refused refusal.Order))
+      → taken_class selects (payload_of f count master) (pick b (Ok (Transact (asking count master f))) (Err refusal.Order))
+      ≡ taken_class selects (payload_of g count master) (pick b (Ok (Transact (asking count master g))) (Err refusal.Order))
   taken_class_lem true count master f g =
       event_class_lem (asking count master f) (head_of g) (payload_of f count master) (payload_of g count master) (master_sent count master f g)
-      ∙ ap (λ (t : Transaction). taken_class selects (payload_of g count master) (Run (Transact t))) (asked_started (head_of g) (head_of f) count master)
+      ∙ ap (λ (t : Transaction). taken_class selects (payload_of g count master) (Ok (Transact t))) (asked_started (head_of g) (head_of f) count master)
   taken_class_lem false count master f g = refl
 
   class_same : OneClass (class_by asked selects)

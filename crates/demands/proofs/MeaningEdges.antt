@@ -21,8 +21,7 @@ use Rattle.record.specs.Image.{image_breaks}
 use Rattle.record.specs.Record.{count_at, ordered_of, ordered_z}
 use Rattle.record.proofs.Meaning.{record_means}
 use Rattle.gauge.specs.Image.{size_for}
-use Rattle.intel_hex.specs.declared.CheckedLine.TheVariants.{Good}
-use Rattle.intel_hex.specs.Line.{hex_line_text, data_record, placed_of, checked_line_of}
+use Rattle.intel_hex.specs.Line.{good, hex_line_text, data_record, placed_of, checked_line_of}
 use Rattle.intel_hex.proofs.RoundTrip.{good_lines}
 use Rattle.runs.specs.declared.Session.{Session}
 use Rattle.session_run.specs.SessionRun.{TakenOut}
@@ -61,7 +60,7 @@ breaks_to_255 image bytes = record_means.image_ordered image (λ j. omega (arith
 
 -- GOOD LINES: bytes up to 255
 pub good_to_255 : (address : ℕ) (bytes l : List ℕ) → placed_of address ≡ true → length bytes ≡ 16 → UpTo255 bytes
-    → l ≡ hex_line_text (data_record address bytes) → checked_line_of l ≡ Good
+    → l ≡ hex_line_text (data_record address bytes) → checked_line_of l ≡ good
 good_to_255 address bytes l placed sized small written =
     (good_lines.sixteen address bytes l (record { placed = placed; sized = sized; small = λ i. omega (arith, small i); written = written })).0
 

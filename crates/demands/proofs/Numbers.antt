@@ -8,6 +8,7 @@ use borrow.Author.Tests.{ltb-true, ltb-false, eqb-true, eqb-false, le-ltb, le-le
 use lib.Dec.{ltb, leb, eqb}
 use lib.ListN.{length, get_or, take, drop}
 use lib.Seq.{get_or-take, get_or-drop, take-take}
+use Rattle.std.specs.Prelude.{Ok, Err}
 use Rattle.numbers.specs.Choice.{pick, both, either}
 use Rattle.numbers.specs.Offset.{offset8_of}
 use Rattle.numbers.proofs.Bounds.{through, both_true}
@@ -30,12 +31,10 @@ use Rattle.record.specs.declared.Event.{Event}
 use Rattle.record.specs.declared.Event.TheVariants.{Image, Change, Transact}
 use Rattle.record.specs.declared.Change.{Change as Changes}
 use Rattle.record.specs.declared.Change.TheVariants.{Reading, Conversion, Sample, PowerOn}
-use Rattle.record.specs.declared.Taken.{Taken}
-use Rattle.record.specs.declared.Taken.TheVariants.{Run, Refused}
 use Rattle.record.specs.Image.{image_address, image_breaks}
 use Rattle.record.specs.Record.{refusal_number, taken_number, kind_of, head_of, limit_of, read_count, addressed_of, lockable_of, ordered_of, judged_among}
 use Rattle.record.specs.Record.{count_at}
-use Rattle.record.specs.Record.{transaction_in, transaction_of, sized_of, taken_of, change_timely, event_timely, timed_of, asks_of, fitted_of}
+use Rattle.record.specs.Record.{transaction_in, transaction_of, sized_of, taken_of, change_timely, event_timely, timed_of, asks_of, fitted_of, Taken}
 use Rattle.runs.specs.Record.{Rec, whole, cut, whole_of, rec_of}
 use Rattle.runs.specs.Run.{Did, Line, outcome_number, Running}
 use Rattle.runs.specs.AnyRecord.{Steps, answered_by}
@@ -45,8 +44,8 @@ use Rattle.runs.proofs.Ends.{within_done}
 use Rattle.runs.proofs.AnyRecord.{Replying, session_replying}
 use Rattle.session_run.specs.SessionRun.{empty_of}
 use Rattle.tray_record.specs.declared.Tray.{Tray}
-use Rattle.tray_record.specs.declared.Found.TheVariants.{At}
-use Rattle.tray_record.specs.Tray.{empty_tray, pack_of, search_from, search_of, is_found, no_gauge, tray_kind_of, slot_in, again_of, slot_tick, tray_told}
+use Rattle.std.specs.Prelude.{Some, is_some}
+use Rattle.tray_record.specs.Tray.{empty_tray, pack_of, search_from, search_of, no_gauge, tray_kind_of, slot_in, again_of, slot_tick, tray_told}
 use Rattle.tray_record.specs.Tray.{of_tray, tray_did}
 use Rattle.tray_record.proofs.Hearing.{tray_replying}
 use Rattle.demands.specs.Call.{Call, Allowed}
@@ -110,7 +109,7 @@ number_in room last t = taken_number (fitted_of room (timed_of last t))
 module _ (room : ℕ) (last : Tick) where
   -- a test and the refusal where it fails
   tested : (b : Bool) (t : Taken) (r : Refusal) (n : ℕ) → number_in room last t ≡ n
-      → number_in room last (pick b t (Refused r)) ≡ pick (not b) (refusal_number r) n
+      → number_in room last (pick b t (Err r)) ≡ pick (not b) (refusal_number r) n
   tested true t r n e = e
   tested false t r n e = refl
 
@@ -118,7 +117,7 @@ module _ (room : ℕ) (last : Tick) where
   no_room = le-ltb room 0 zero-le
 
   -- an event that is no sample and asks no room
-  quiet_event : (e : Event) → event_timely last e ≡ true → asks_of e ≡ 0 → number_in room last (Run e) ≡ 0
+  quiet_event : (e : Event) → event_timely last e ≡ true → asks_of e ≡ 0 → number_in room last (Ok e) ≡ 0
   quiet_event e timely asks = rw (timely, asks, no_room) refl
 
 -- tests that are said in another way
@@ -206,7 +205,7 @@ module _ (room : ℕ) (last : Tick) (p : List ℕ) where
   unfolding judged_among
   judged_number_lem f again sized =
       let done = quiet_event room last (Image f) refl refl in
-      let ordered = tested room last (ordered_of (image_breaks p)) (Run (Image f)) refusal.Breaks 0 done in
+      let ordered = tested room last (ordered_of (image_breaks p)) (Ok (Image f)) refusal.Breaks 0 done in
       let new = tested room last (not again) _ refusal.Repeated _ ordered in
       let lockable = tested room last (lockable_of p) _ refusal.Locks _ new in
       rw sized (tested room last (addressed_of f (image_address p)) _ refusal.Address _ lockable
@@ -217,13 +216,13 @@ module _ (room : ℕ) (last : Tick) (p : List ℕ) where
   turn_number sized accepted n = pick (either (not sized) false) 4 (pick accepted 5 n)
 
   image_number_lem : (f : Profile) (again accepted : Bool)
-      → number_in room last (pick (eqb (length p) (image_size_of f)) (pick (not accepted) (judged_among f again p) (Refused refusal.Order))
-      (Refused refusal.Size))
+      → number_in room last (pick (eqb (length p) (image_size_of f)) (pick (not accepted) (judged_among f again p) (Err refusal.Order))
+      (Err refusal.Size))
       ≡ turn_number (eqb (length p) (image_size_of f)) accepted (image_number f again)
   image_number_lem f again accepted = by (eqb (length p) (image_size_of f)) refl
     where
       by : (t : Bool) → eqb (length p) (image_size_of f) ≡ t
-          → number_in room last (pick t (pick (not accepted) (judged_among f again p) (Refused refusal.Order)) (Refused refusal.Size))
+          → number_in room last (pick t (pick (not accepted) (judged_among f again p) (Err refusal.Order)) (Err refusal.Size))
           ≡ turn_number t accepted (image_number f again)
       by true sized =
           tested room last (not accepted) _ refusal.Order _ (judged_number_lem f again sized) ∙
@@ -232,21 +231,21 @@ module _ (room : ℕ) (last : Tick) (p : List ℕ) where
 
   -- 4 and 5 of any other kind
   due_number : (sized due : Bool) (t : Taken) (n : ℕ) → number_in room last t ≡ n
-      → number_in room last (pick sized (pick due t (Refused refusal.Order)) (Refused refusal.Size)) ≡ turn_number sized (not due) n
+      → number_in room last (pick sized (pick due t (Err refusal.Order)) (Err refusal.Size)) ≡ turn_number sized (not due) n
   due_number sized due t n e =
       tested room last sized _ refusal.Size _ (tested room last due t refusal.Order n e)
       ∙ ap (λ (x : Bool). pick x 4 (pick (not due) 5 n)) (sym (either_none (not sized)))
 
   -- neither
-  quiet_change : (c : Changes) → change_timely last c ≡ true → number_in room last (Run (Change c)) ≡ 0
+  quiet_change : (c : Changes) → change_timely last c ≡ true → number_in room last (Ok (Change c)) ≡ 0
   quiet_change c timely = quiet_event room last (Change c) timely refl
 
   -- 11
-  sample_number : (raw tick : ℕ) → number_in room last (Run (Change (Sample raw tick)))
+  sample_number : (raw tick : ℕ) → number_in room last (Ok (Change (Sample raw tick)))
       ≡ pick (either (eqb (elapsed_of last tick) 0) (ltb 64 (elapsed_of last tick))) 11 0
   sample_number raw tick = by (timely_of last tick) ∙ ap (λ (x : Bool). pick x 11 0) (untimely_is last tick)
     where
-      by : (t : Bool) → taken_number (fitted_of room (pick t (Run (Change (Sample raw tick))) (Refused refusal.Interval))) ≡ pick (not t) 11 0
+      by : (t : Bool) → taken_number (fitted_of room (pick t (Ok (Change (Sample raw tick))) (Err refusal.Interval))) ≡ pick (not t) 11 0
       by true = rw (no_room room last) refl
       by false = refl
 
@@ -255,8 +254,8 @@ module _ (room : ℕ) (last : Tick) (p : List ℕ) where
   transaction_number f =
       let t = transaction_in f p in
       let counts = (asked_placed (head_of f) (read_count f p) (drop (head_of f) p)).counts in
-      let fits : number_in room last (Run (Transact t)) ≡ pick (ltb room (read_count f p)) 9 0 =
-      through taken_number (ltb room t.count) (Refused refusal.Room) (Run (Transact t)) ∙ ap (λ (n : ℕ). pick (ltb room n) 9 0) counts in
+      let fits : number_in room last (Ok (Transact t)) ≡ pick (ltb room (read_count f p)) 9 0 =
+      through taken_number (ltb room t.count) (Err refusal.Room) (Ok (Transact t)) ∙ ap (λ (n : ℕ). pick (ltb room n) 9 0) counts in
       tested room last (leb (read_count f p) (limit_of f)) _ refusal.Count _ fits
       ∙ ap (λ (x : Bool). pick x 8 (pick (ltb room (read_count f p)) 9 0)) (not_leb (read_count f p) (limit_of f))
 
@@ -268,8 +267,8 @@ module _ (room : ℕ) (last : Tick) (p : List ℕ) where
 
 -- the answer is the number of what is asked
 answered_number : {S : Type 0} (k : Steps S) → Replying k → (σ : S) (p : List ℕ) (t : Taken) → (answered_by k σ p t).answer ≡ taken_number t
-answered_number k r σ p (Run e) = r.answer σ p e
-answered_number k r σ p (Refused x) = refl
+answered_number k r σ p (Ok e) = r.answer σ p e
+answered_number k r σ p (Err x) = refl
 
 -- Sessions
 
@@ -323,15 +322,15 @@ module _ (σ : Session) (room : ℕ) (p : List ℕ) where
 
 -- 12: the search finds the address where some slot has it
 search_some : (commons : List Common) (none : Common) (address : List ℕ) (i n : ℕ)
-    → is_found (search_from commons none address i n) ≡ some_slot (λ j. same_bytes (get_or commons j none).address address) i n
+    → is_some (search_from commons none address i n) ≡ some_slot (λ j. same_bytes (get_or commons j none).address address) i n
 search_some commons none address i zero = refl
 search_some commons none address i (suc n) = by (same_bytes (get_or commons i none).address address) (search_some commons none address (i + 1) n)
   where
     later : Bool
     later = some_slot (λ j. same_bytes (get_or commons j none).address address) (i + 1) n
 
-    by : (t : Bool) → is_found (search_from commons none address (i + 1) n) ≡ later
-        → is_found (pick t (At i) (search_from commons none address (i + 1) n)) ≡ either t later
+    by : (t : Bool) → is_some (search_from commons none address (i + 1) n) ≡ later
+        → is_some (pick t (Some i) (search_from commons none address (i + 1) n)) ≡ either t later
     by true e = refl
     by false e = e
 
@@ -371,7 +370,7 @@ module _ (τ : Tray) (room : ℕ) (p : List ℕ) where
   unknown_tray n (a, (b, (c, (d, (e, (f, (g, (h, u)))))))) = rw (a, b, c, d, e, f, g, h, le-leb 0 (length p) zero-le) refl
 
   -- no slot byte is ahead
-  plain_ahead : (t : Taken) → taken_number (fitted_of room (pick (leb 0 (length p)) t (Refused refusal.Size))) ≡ taken_number (fitted_of room t)
+  plain_ahead : (t : Taken) → taken_number (fitted_of room (pick (leb 0 (length p)) t (Err refusal.Size))) ≡ taken_number (fitted_of room t)
   plain_ahead t = rw (le-leb 0 (length p) zero-le) refl
 
   abbrev shut : Bool
@@ -380,8 +379,8 @@ module _ (τ : Tray) (room : ℕ) (p : List ℕ) where
   image_given : (f : Profile)
       → taken_number (fitted_of room (pick (leb 0 (length p))
       (timed_of slot_last (pick (eqb (length p) (image_size_of f))
-      (pick (not shut) (judged_among f (again_of τ p) p) (Refused refusal.Order)) (Refused refusal.Size)))
-      (Refused refusal.Size)))
+      (pick (not shut) (judged_among f (again_of τ p) p) (Err refusal.Order)) (Err refusal.Size)))
+      (Err refusal.Size)))
       ≡ turn_number room slot_last p (eqb (length p) (image_size_of f)) shut
       (image_number room slot_last p f (some_slot (λ i. same_bytes (pack_of τ i).common.address (take 8 p)) 0 τ.count))
   unfolding search_of
@@ -392,7 +391,7 @@ module _ (τ : Tray) (room : ℕ) (p : List ℕ) where
 
   transaction_given : (f : Form) (sized : Bool) (n : ℕ) → number_in room slot_last (transaction_of f p) ≡ n
       → taken_number (fitted_of room (pick (leb 0 (length p))
-      (timed_of slot_last (pick sized (pick (ltb 0 τ.count) (transaction_of f p) (Refused refusal.Order)) (Refused refusal.Size))) (Refused refusal.Size)))
+      (timed_of slot_last (pick sized (pick (ltb 0 τ.count) (transaction_of f p) (Err refusal.Order)) (Err refusal.Size))) (Err refusal.Size)))
       ≡ turn_number room slot_last p sized (either (eqb τ.count 0) false) n
   transaction_given f sized n e =
       plain_ahead _ ∙ due_number room slot_last p sized (ltb 0 τ.count) (transaction_of f p) n e
@@ -400,17 +399,17 @@ module _ (τ : Tray) (room : ℕ) (p : List ℕ) where
 
   slot_given : (m : ℕ) (t : Taken) (n : ℕ) → number_in room slot_last t ≡ n
       → taken_number (fitted_of room (pick (leb 1 (length p))
-      (timed_of slot_last (pick (eqb (length (drop 1 p)) m) (pick (ltb (slot_in p) τ.count) t (Refused refusal.Order)) (Refused refusal.Size)))
-      (Refused refusal.Size)))
+      (timed_of slot_last (pick (eqb (length (drop 1 p)) m) (pick (ltb (slot_in p) τ.count) t (Err refusal.Order)) (Err refusal.Size)))
+      (Err refusal.Size)))
       ≡ turn_number room slot_last p (eqb (length p) (m + 1)) (either (eqb τ.count 0) (leb τ.count (slot_in p))) n
   slot_given m t n e =
       by (leb 1 (length p))
       ∙ (λ i. turn_number room slot_last p (ahead_sized m p i) (slot_due (slot_in p) τ.count i) n)
     where
       rest : Taken
-      rest = pick (eqb (length (drop 1 p)) m) (pick (ltb (slot_in p) τ.count) t (Refused refusal.Order)) (Refused refusal.Size)
+      rest = pick (eqb (length (drop 1 p)) m) (pick (ltb (slot_in p) τ.count) t (Err refusal.Order)) (Err refusal.Size)
 
-      by : (ahead : Bool) → taken_number (fitted_of room (pick ahead (timed_of slot_last rest) (Refused refusal.Size)))
+      by : (ahead : Bool) → taken_number (fitted_of room (pick ahead (timed_of slot_last rest) (Err refusal.Size)))
           ≡ turn_number room slot_last p (both ahead (eqb (length (drop 1 p)) m)) (not (ltb (slot_in p) τ.count)) n
       by true = due_number room slot_last p (eqb (length (drop 1 p)) m) (ltb (slot_in p) τ.count) t n e
       by false = refl

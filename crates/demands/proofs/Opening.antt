@@ -9,6 +9,7 @@ use native.Mathlib.Omega.{arith}
 use borrow.Author.Tests.{le-ltb, eqb-true, eqb-false, ne_eqb}
 use lib.Dec.{ltb, eqb}
 use lib.ListN.{length}
+use Rattle.std.specs.Prelude.{Ok, Err}
 use Rattle.numbers.specs.Choice.{pick}
 use Rattle.numbers.proofs.Bounds.{picked}
 use Rattle.state.specs.declared.Profile.{Profile}
@@ -17,10 +18,8 @@ use Rattle.gauge.specs.Image.{image_of}
 use Rattle.record.specs.declared.Kind.TheVariants as kind
 use Rattle.record.specs.declared.Event.{Event}
 use Rattle.record.specs.declared.Event.TheVariants.{Image, Change, Transact}
-use Rattle.record.specs.declared.Taken.{Taken}
-use Rattle.record.specs.declared.Taken.TheVariants.{Run, Refused}
 use Rattle.record.specs.Image.{image_address, image_breaks}
-use Rattle.record.specs.Record.{refusal_number, addressed_of, lockable_of, ordered_of, judged_among, fitted_of}
+use Rattle.record.specs.Record.{refusal_number, addressed_of, lockable_of, ordered_of, judged_among, fitted_of, Taken}
 use Rattle.record.proofs.Fits.{refusal_range}
 use Rattle.runs.specs.Record.{Rec, whole, cut}
 use Rattle.runs.specs.Run.{Did, silently, Line, line_of, lines_after, end_after, replies_of}
@@ -46,13 +45,13 @@ join_all τ (x ∷ ps) = join_all (pack_joined τ (image_of x.0 x.1)) ps
 -- each is accepted in its turn
 abbrev pub Opens : Tray → List (Profile × List ℕ) → Type 0
 Opens τ [] = Unit
-Opens τ (x ∷ ps) = (tray_told τ (image_kind x.0) x.1 ≡ Run (Image x.0)) × Opens (pack_joined τ (image_of x.0 x.1)) ps
+Opens τ (x ∷ ps) = (tray_told τ (image_kind x.0) x.1 ≡ Ok (Image x.0)) × Opens (pack_joined τ (image_of x.0 x.1)) ps
 
 -- the judge of a profile accepts no image of another
-one_profile : (f g : Profile) (again : Bool) (p : List ℕ) → judged_among f again p ≡ Run (Image g) → f ≡ g
+one_profile : (f g : Profile) (again : Bool) (p : List ℕ) → judged_among f again p ≡ Ok (Image g) → f ≡ g
 unfolding judged_among
 one_profile f g again p =
-    let By : Taken → Type 0 = λ t. t ≡ Run (Image g) → f ≡ g in
+    let By : Taken → Type 0 = λ t. t ≡ Ok (Image g) → f ≡ g in
     picked By (eqb (length p) (image_size_of f)) _ _
     (λ a. picked By (addressed_of f (image_address p)) _ _
     (λ b. picked By (lockable_of p) _ _
@@ -87,20 +86,20 @@ Leaves τ room r σ n = (tray_did τ room r ≡ silently σ n) × (open_tray τ 
 
 module _ (τ : Tray) (room : ℕ) where
   -- an image that is answered 0 joins
-  accepted_told : (f : Profile) (p : List ℕ) → (tray_did τ room (whole (image_kind f) p)).answer ≡ 0 → tray_told τ (image_kind f) p ≡ Run (Image f)
+  accepted_told : (f : Profile) (p : List ℕ) → (tray_did τ room (whole (image_kind f) p)).answer ≡ 0 → tray_told τ (image_kind f) p ≡ Ok (Image f)
   unfolding tray_did
   accepted_told f p = go (tray_told τ (image_kind f) p) refl (tray_asks τ (image_kind f) p)
     where
       go : (t : Taken) → tray_told τ (image_kind f) p ≡ t → Asks τ (tray_kind_of (image_kind f)) p t → (answered_by of_tray τ p (fitted_of room t)).answer ≡ 0
-          → tray_told τ (image_kind f) p ≡ Run (Image f)
-      go (Run (Image g)) e a zero =
+          → tray_told τ (image_kind f) p ≡ Ok (Image f)
+      go (Ok (Image g)) e a zero =
           let same = one_profile f g (again_of τ p) p (rw (tray_image f) at (told_event τ (image_kind f) p (Image g) e)) in
-          e ∙ ap (λ (h : Profile). Run (Image h)) (sym same)
-      go (Run (Change c)) e a zero = contrary (ap ahead_of (sym (tray_image f)) ∙ a.ahead)
-      go (Run (Transact t)) e a zero = let z = sym (tray_image f) ∙ a.kind in contrary cc
-      go (Refused r) e a zero = absurd (omega (arith, (refusal_range r).0))
+          e ∙ ap (λ (h : Profile). Ok (Image h)) (sym same)
+      go (Ok (Change c)) e a zero = contrary (ap ahead_of (sym (tray_image f)) ∙ a.ahead)
+      go (Ok (Transact t)) e a zero = let z = sym (tray_image f) ∙ a.kind in contrary cc
+      go (Err r) e a zero = absurd (omega (arith, (refusal_range r).0))
 
-  did_join : (f : Profile) (p : List ℕ) → tray_told τ (image_kind f) p ≡ Run (Image f)
+  did_join : (f : Profile) (p : List ℕ) → tray_told τ (image_kind f) p ≡ Ok (Image f)
       → Leaves τ room (whole (image_kind f) p) (pack_joined τ (image_of f p)) 0
   unfolding tray_did
   did_join f p e = (rw (e, le-ltb room 0 zero-le) refl, rw e refl)
@@ -116,12 +115,12 @@ module _ (τ : Tray) (room : ℕ) where
   refused_open (whole n p) = go (tray_told τ n p)
     where
       go : (t : Taken) → ((answered_by of_tray τ p (fitted_of room t)).answer ≡ 0 → ⊥) → Same p t (fitted_of room t)
-      go (Run (Image f)) = λ other. absurd (other (rw (le-ltb room 0 zero-le) refl))
-      go (Run (Change c)) = λ other. absurd (other (rw (le-ltb room 0 zero-le) refl))
-      go (Run (Transact t)) =
-          picked (λ u. ((answered_by of_tray τ p u).answer ≡ 0 → ⊥) → Same p (Run (Transact t)) u) (ltb room t.count) _ _
+      go (Ok (Image f)) = λ other. absurd (other (rw (le-ltb room 0 zero-le) refl))
+      go (Ok (Change c)) = λ other. absurd (other (rw (le-ltb room 0 zero-le) refl))
+      go (Ok (Transact t)) =
+          picked (λ u. ((answered_by of_tray τ p u).answer ≡ 0 → ⊥) → Same p (Ok (Transact t)) u) (ltb room t.count) _ _
           (λ full other. (refl, refl)) (λ fits other. absurd (other refl))
-      go (Refused r) = λ other. (refl, refl)
+      go (Err r) = λ other. (refl, refl)
   refused_open cut = λ other. (refl, refl)
 
 -- The records of an opening: where they end, no reply, and what each gets
@@ -179,7 +178,7 @@ opened (r ∷ os) ps τ room e = go (eqb d.answer 0) refl (λ qs σ. opened os q
 
 module _ (addresses : List (List ℕ)) (τ : Tray) where
   -- an image that joins is a fence, as the class judges it: one that comes after the opening
-  joins_fence : (n : ℕ) (p : List ℕ) (f : Profile) → tray_told τ n p ≡ Run (Image f) → tray_class addresses (whole n p) ≡ fence
+  joins_fence : (n : ℕ) (p : List ℕ) (f : Profile) → tray_told τ n p ≡ Ok (Image f) → tray_class addresses (whole n p) ≡ fence
   joins_fence n p f e =
       let a = rw e at (tray_asks τ n p) in
       rw (a.kind, image_asked a.asked (length addresses) p, sized a.asked a.kind (eqb (length p) (image_size_of a.asked)) refl) refl
@@ -194,10 +193,10 @@ module _ (addresses : List (List ℕ)) (τ : Tray) where
   open_stays (whole n p) other = go (tray_told τ n p) refl
     where
       go : (t : Taken) → tray_told τ n p ≡ t → (answered_by of_opening τ p t).state ≡ τ
-      go (Run (Image f)) e = absurd (other (joins_fence n p f e))
-      go (Run (Change c)) e = refl
-      go (Run (Transact t)) e = refl
-      go (Refused r) e = refl
+      go (Ok (Image f)) e = absurd (other (joins_fence n p f e))
+      go (Ok (Change c)) e = refl
+      go (Ok (Transact t)) e = refl
+      go (Err r) e = refl
   open_stays cut other = refl
 
   -- and it is not accepted
@@ -205,10 +204,10 @@ module _ (addresses : List (List ℕ)) (τ : Tray) where
   open_refused (whole n p) other = go (tray_told τ n p) refl
     where
       go : (t : Taken) → tray_told τ n p ≡ t → eqb (answered_by of_opening τ p t).answer 0 ≡ false
-      go (Run (Image f)) e = absurd (other (joins_fence n p f e))
-      go (Run (Change c)) e = refl
-      go (Run (Transact t)) e = refl
-      go (Refused r) e = ne_eqb (refusal_number r) 0 (λ z. absurd (omega (arith, (refusal_range r).0)))
+      go (Ok (Image f)) e = absurd (other (joins_fence n p f e))
+      go (Ok (Change c)) e = refl
+      go (Ok (Transact t)) e = refl
+      go (Err r) e = ne_eqb (refusal_number r) 0 (λ z. absurd (omega (arith, (refusal_range r).0)))
   open_refused cut other = refl
 
   open_swaps : (a b : Rec) → tray_class addresses a ≡ labelling → tray_class addresses b ≡ gauging → Swaps open_step open_out τ a b

@@ -7,6 +7,7 @@ use native.Mathlib.Omega.{arith}
 use borrow.Author.Tests.{eqb-true, eqb-false, ne_eqb}
 use lib.Dec.{ltb, eqb}
 use lib.ListN.{length, take, drop}
+use Rattle.std.specs.Prelude.{Ok, Err}
 use Rattle.numbers.proofs.Bounds.{picked}
 use Rattle.demands.specs.Images.{image_kind, is_image}
 use Rattle.demands.proofs.Images.{tray_image}
@@ -20,10 +21,8 @@ use Rattle.record.specs.declared.Kind.TheVariants as kind
 use Rattle.record.specs.declared.Refusal.TheVariants as refusal
 use Rattle.record.specs.declared.Event.{Event}
 use Rattle.record.specs.declared.Event.TheVariants.{Image, Change, Transact}
-use Rattle.record.specs.declared.Taken.{Taken}
-use Rattle.record.specs.declared.Taken.TheVariants.{Run, Refused}
 use Rattle.record.specs.Image.{image_address}
-use Rattle.record.specs.Record.{refusal_number, master_of, asks_of}
+use Rattle.record.specs.Record.{refusal_number, master_of, asks_of, Taken}
 use Rattle.record.proofs.Fits.{refusal_range}
 use Rattle.runs.specs.Record.{Rec, whole, cut}
 use Rattle.runs.specs.Run.{Did, silently, line_of}
@@ -96,7 +95,7 @@ module _ {k : ℕ} {τ σ : Tray} (h : Others k τ σ) (p : List ℕ) where
   address_same (Transact t) =
       address_after_lem τ p (Transact t) k (λ f z. contrary cc) ∙ h.address ∙ sym (address_after_lem σ p (Transact t) k (λ f z. contrary cc))
 
-  event_others : Eight τ → Eight σ → (x : Kind) (e : Event) → Asks τ x p (Run e) → Asks σ x p (Run e) →
+  event_others : Eight τ → Eight σ → (x : Kind) (e : Event) → Asks τ x p (Ok e) → Asks σ x p (Ok e) →
       Others k (tray_event τ p e).state (tray_event σ p e).state
   event_others u v x e a b = record {
     count = event_count τ u x p e ∙ counts e ∙ sym (event_count σ v x p e);
@@ -115,20 +114,20 @@ module _ {k : ℕ} {τ σ : Tray} (h : Others k τ σ) (p : List ℕ) where
 -- One record: it is done by its event, or it is refused
 
 data Outcome (τ : Tray) (room n : ℕ) (p : List ℕ) : Type 0 where
-  ran : (e : Event) → tray_told τ n p ≡ Run e → tray_did τ room (whole n p) ≡ tray_event τ p e → Outcome τ room n p
+  ran : (e : Event) → tray_told τ n p ≡ Ok e → tray_did τ room (whole n p) ≡ tray_event τ p e → Outcome τ room n p
   stayed : (m : ℕ) → 3 ≤ m → tray_did τ room (whole n p) ≡ silently τ m → Outcome τ room n p
 
 outcome : (τ : Tray) (room n : ℕ) (p : List ℕ) → Outcome τ room n p
 unfolding tray_did
 outcome τ room n p = go (tray_told τ n p) refl
   where
-    fits : (e : Event) → tray_told τ n p ≡ Run e → (t : Bool) → ltb room (asks_of e) ≡ t → Outcome τ room n p
+    fits : (e : Event) → tray_told τ n p ≡ Ok e → (t : Bool) → ltb room (asks_of e) ≡ t → Outcome τ room n p
     fits e f true full = stayed (refusal_number refusal.Room) (omega arith) (rw (f, full) refl)
     fits e f false room = ran e f (rw (f, room) refl)
 
     go : (t : Taken) → tray_told τ n p ≡ t → Outcome τ room n p
-    go (Run e) f = fits e f (ltb room (asks_of e)) refl
-    go (Refused r) f = stayed (refusal_number r) (refusal_range r).0 (rw f refl)
+    go (Ok e) f = fits e f (ltb room (asks_of e)) refl
+    go (Err r) f = stayed (refusal_number r) (refusal_range r).0 (rw f refl)
 
 -- how many packs there are by what the line tells
 
@@ -164,7 +163,7 @@ ahead_none b kind.PowerOn e h = h
 ahead_none b kind.Sample e h = h
 ahead_none b kind.Unknown e h = h
 
-event_images : (τ : Tray) (n : ℕ) (p : List ℕ) (e : Event) → Asks τ (tray_kind_of n) p (Run e) →
+event_images : (τ : Tray) (n : ℕ) (p : List ℕ) (e : Event) → Asks τ (tray_kind_of n) p (Ok e) →
     count_after τ e ≡ pick (both (is_image n) true) (τ.count + 1) τ.count
 event_images τ n p (Image f) a = rw (subst (Imaged (is_image n)) a.kind (imaged n)) refl
 event_images τ n p (Change c) a = rw (ahead_none (is_image n) (tray_kind_of n) a.ahead (imaged n)) refl
@@ -203,7 +202,7 @@ module _ {k : ℕ} {τ σ : Tray} (h : Others k τ σ) (u : Eight τ) (v : Eight
   held_moved cut agree = still 2 2
   held_moved (whole n p) agree = go (outcome τ near n p) (outcome σ far n p)
     where
-      same : (e : Event) → tray_told τ n p ≡ Run e → tray_told σ n p ≡ Run e → Moved k (tray_event τ p e) (tray_event σ p e)
+      same : (e : Event) → tray_told τ n p ≡ Ok e → tray_told σ n p ≡ Ok e → Moved k (tray_event τ p e) (tray_event σ p e)
       same e a b = record {
         others = event_others h p u v (tray_kind_of n) e (rw a at (tray_asks τ n p)) (rw b at (tray_asks σ n p));
         reply = tray_replying.reply τ p e ∙ sym (tray_replying.reply σ p e);
@@ -211,7 +210,7 @@ module _ {k : ℕ} {τ σ : Tray} (h : Others k τ σ) (u : Eight τ) (v : Eight
 
       go : Outcome τ near n p → Outcome σ far n p → Moved k (tray_did τ near (whole n p)) (tray_did σ far (whole n p))
       go (ran e a d) (ran x b f) =
-          let z : Run x ≡ Run e = sym (told_event σ n p x b) ∙ sym (ap (λ (t : Bool). made_of t n p) (again_others h p)) ∙ told_event τ n p e a in
+          let z : Ok x ≡ Ok e = sym (told_event σ n p x b) ∙ sym (ap (λ (t : Bool). made_of t n p) (again_others h p)) ∙ told_event τ n p e a in
           let y : x ≡ e = cc in
           rw (d, f, y) (same e a (b ∙ z))
       go (ran e a d) (stayed m low f) =
@@ -226,10 +225,10 @@ Joining τ (Image f) = τ.count < 8
 Joining τ (Change c) = ⊥
 Joining τ (Transact t) = ⊥
 
-joining : (f : Profile) (τ : Tray) (p : List ℕ) (e : Event) → tray_told τ (image_kind f) p ≡ Run e → Joining τ e
+joining : (f : Profile) (τ : Tray) (p : List ℕ) (e : Event) → tray_told τ (image_kind f) p ≡ Ok e → Joining τ e
 joining f τ p e t = by (tray_kind_of (image_kind f)) (tray_image f) e (rw t at (tray_asks τ (image_kind f) p))
   where
-    by : (k : Kind) → k ≡ kind.Image f → (e : Event) → Asks τ k p (Run e) → Joining τ e
+    by : (k : Kind) → k ≡ kind.Image f → (e : Event) → Asks τ k p (Ok e) → Joining τ e
     by k is (Image g) a = a.few
     by k is (Change c) a = let z : ◌≡◌ {A = ℕ} 1 0 = sym a.ahead ∙ ap ahead_of is in absurd (omega arith)
     by k is (Transact t) a = let z = sym a.kind ∙ is in contrary cc
@@ -280,7 +279,7 @@ pub slot_moved : (k : ℕ) (τ : Tray) (room n : ℕ) (p : List ℕ) → Eight �
     Moved k (tray_did τ room (whole n p)) (silently τ 0)
 slot_moved k τ room n p u slot at = go (outcome τ room n p)
   where
-    changes : (e : Event) → tray_told τ n p ≡ Run e → Asks τ (tray_kind_of n) p (Run e) → tray_did τ room (whole n p) ≡ tray_event τ p e
+    changes : (e : Event) → tray_told τ n p ≡ Ok e → Asks τ (tray_kind_of n) p (Ok e) → tray_did τ room (whole n p) ≡ tray_event τ p e
         → Moved k (tray_did τ room (whole n p)) (silently τ 0)
     changes (Image f) t a d = let z : ◌≡◌ {A = ℕ} 1 0 = sym (slot_ahead n slot) ∙ ap ahead_of a.kind in absurd (omega arith)
     changes (Change c) t a d = record {

@@ -16,7 +16,7 @@ use Rattle.gauge.specs.declared.Gauge.{Gauge}
 use Rattle.gauge.specs.Act.{act_of, reply_of}
 use Rattle.tray_record.specs.declared.Tray.{Tray}
 use Rattle.tray_record.proofs.Laws.{stored_other}
-use Rattle.tray_record.specs.declared.Found.TheVariants.{At, Nowhere}
+use Rattle.std.specs.Prelude.{Some, None}
 use Rattle.tray_record.specs.Wire.{and_bytes}
 use Rattle.tray_record.specs.Tray.{no_gauge, pack_of, stored_of, search_from, Reach, one, every, nobody, acted_first, wired_first, tray_acted}
 use Rattle.demands.specs.History.{hears_of}
@@ -130,25 +130,25 @@ module _ (none : Common) (address : List ℕ) where
     pub low : j < i + n
     pub has : same_bytes (get_or commons j none).address address ≡ true
 
-  pub search_found : (commons : List Common) (i n j : ℕ) → search_from commons none address i n ≡ At j → FoundAt commons i n j
+  pub search_found : (commons : List Common) (i n j : ℕ) → search_from commons none address i n ≡ Some j → FoundAt commons i n j
   search_found commons i zero j e = contrary cc
   search_found commons i (suc n) j e = go (same_bytes (get_or commons i none).address address) refl e (search_found commons (i + 1) n j)
     where
-      go : (t : Bool) → same_bytes (get_or commons i none).address address ≡ t → pick t (At i) (search_from commons none address (i + 1) n) ≡ At j
-          → (search_from commons none address (i + 1) n ≡ At j → FoundAt commons (i + 1) n j) → FoundAt commons i (suc n) j
+      go : (t : Bool) → same_bytes (get_or commons i none).address address ≡ t → pick t (Some i) (search_from commons none address (i + 1) n) ≡ Some j
+          → (search_from commons none address (i + 1) n ≡ Some j → FoundAt commons (i + 1) n j) → FoundAt commons i (suc n) j
       go true h f rest = let k : i ≡ j = cc in record { low = omega arith; has = rw k at h }
       go false h f rest = let r = rest f in record { low = omega (arith, r.low); has = r.has }
 
   -- where it finds none, no pack that it looks at has it
-  pub search_none : (commons : List Common) (i n : ℕ) → search_from commons none address i n ≡ Nowhere
+  pub search_none : (commons : List Common) (i n : ℕ) → search_from commons none address i n ≡ None
       → (j : ℕ) → i ≤ j → j < i + n → same_bytes (get_or commons j none).address address ≡ false
   search_none commons i zero e j low high = absurd (omega arith)
   search_none commons i (suc n) e j low high =
       go (same_bytes (get_or commons i none).address address) refl e (eqb i j) refl (λ f later. search_none commons (i + 1) n f j later (omega arith))
     where
-      go : (t : Bool) → same_bytes (get_or commons i none).address address ≡ t → pick t (At i) (search_from commons none address (i + 1) n) ≡ Nowhere
+      go : (t : Bool) → same_bytes (get_or commons i none).address address ≡ t → pick t (Some i) (search_from commons none address (i + 1) n) ≡ None
           → (u : Bool) → eqb i j ≡ u
-          → (search_from commons none address (i + 1) n ≡ Nowhere → i + 1 ≤ j → same_bytes (get_or commons j none).address address ≡ false)
+          → (search_from commons none address (i + 1) n ≡ None → i + 1 ≤ j → same_bytes (get_or commons j none).address address ≡ false)
           → same_bytes (get_or commons j none).address address ≡ false
       go true h f u e rest = contrary cc
       go false h f true e rest = rw (eqb-true i j e) at h
@@ -159,7 +159,7 @@ module _ (none : Common) (address : List ℕ) where
       → search_from ones none address i n ≡ search_from others none address i n
   search_same ones others i zero h = refl
   search_same ones others i (suc n) h =
-      rw (h i) (ap (pick (same_bytes (get_or others i none).address address) (At i)) (search_same ones others (i + 1) n h))
+      rw (h i) (ap (pick (same_bytes (get_or others i none).address address) (Some i)) (search_same ones others (i + 1) n h))
 
 -- Replies
 

@@ -9,6 +9,7 @@ use borrow.Author.Tests.{le-leb, le-ltb, lt-ltb, ltb-true, ltb-false}
 use lib.Dec.{ltb}
 use lib.ListN.{length, take, drop}
 use lib.Seq.{take_at, take_all, ext_get_or}
+use Rattle.std.specs.Prelude.{Ok}
 use Rattle.state.specs.declared.Profile.TheVariants.{Ds2781}
 use Rattle.slices.specs.Slices.{laid_of}
 use Rattle.slices.proofs.Laws.{put_whole}
@@ -29,15 +30,13 @@ use Rattle.gauge.specs.Act.{ran_by, ran_of, act_of, reply_of}
 use Rattle.gauge.specs.Image.{image_of}
 use Rattle.gauge.proofs.Reached.{accepted_length, image_sized}
 use Rattle.record.specs.declared.Event.TheVariants.{Transact}
-use Rattle.record.specs.declared.Taken.TheVariants.{Run}
 use Rattle.record.specs.Image.{image_size}
 use Rattle.record.specs.Record.{kind_of, taken_of}
 use Rattle.runs.specs.Record.{Rec, whole, recs_of, record_of}
 use Rattle.runs.specs.Run.{Did, silently, line_of, lines_after, end_after}
 use Rattle.runs.proofs.Records.{recs_record}
-use Rattle.preset_session.specs.declared.Written.{Written}
-use Rattle.preset_session.specs.declared.Written.TheVariants.{Done}
-use Rattle.preset_session.specs.PresetSession.{write_payload, copy_payload, read_payload, programming_of, programming_size, preset_answer, Granted}
+use Rattle.preset_session.specs.PresetSession.{Written, write_done, write_payload, copy_payload, read_payload}
+use Rattle.preset_session.specs.PresetSession.{programming_of, programming_size, preset_answer, Granted}
 use Rattle.preset_session.proofs.Laws.{granted, done, programming_length}
 use Rattle.runs.specs.declared.Session.{Session}
 use Rattle.runs.specs.SessionRecord.{loaded_with, did_of}
@@ -56,7 +55,7 @@ module _ (g : Gauge) (count command a : ℕ) (bytes : List ℕ) where
   abbrev payload : List ℕ
   payload = count ∷ 0xcc ∷ command ∷ a ∷ bytes
 
-  taken : count ≤ 64 → length bytes ≤ 61 → taken_of 4 true payload ≡ Run (Transact (skipped count command a))
+  taken : count ≤ 64 → length bytes ≤ 61 → taken_of 4 true payload ≡ Ok (Transact (skipped count command a))
   unfolding taken_of kind_of asked_of rom_by asked_at
   taken few short =
       rw (
@@ -149,7 +148,7 @@ module _ (room : ℕ) where
 
 module _ {image wanted room : List ℕ} {said : Written} {after : List ℕ} {c : Call Session} (g : Granted image wanted (length room))
     (b : Bench image wanted room said after c) where
-  writes_all : preset_answer image wanted (length room) ≡ Done
+  writes_all : preset_answer image wanted (length room) ≡ write_done
   writes_all = done image wanted (length room) g
 
   size : length image ≡ image_size

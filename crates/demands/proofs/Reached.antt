@@ -4,11 +4,10 @@ use mathlib.Core.Bool.{true, false}
 use mathlib.Core.List.{List, [], ◌∷◌}
 use Prim.Native.Nat.{ℕ, ◌-◌}
 use lib.ListN.{length}
+use Rattle.std.specs.Prelude.{Ok, Err}
 use Rattle.gauge.specs.Reach.{Reached, accepted, changed, acted_on}
 use Rattle.record.specs.declared.Event.TheVariants.{Image, Change, Transact}
-use Rattle.record.specs.declared.Taken.{Taken}
-use Rattle.record.specs.declared.Taken.TheVariants.{Run, Refused}
-use Rattle.record.specs.Record.{master_of, taken_of, timed_of}
+use Rattle.record.specs.Record.{master_of, taken_of, timed_of, Taken}
 use Rattle.record.proofs.Fits.{Taking, timed_taking}
 use Rattle.runs.specs.Record.{Rec, whole, cut}
 use Rattle.runs.specs.Run.{end_after}
@@ -21,10 +20,10 @@ Loaded σ = σ.loaded ≡ true → Reached σ.gauge
 
 module _ (σ : Session) (room : ℕ) (g : Loaded σ) where
   taken_reached : (p : List ℕ) (t : Taken) → Taking false σ.loaded p t → Loaded (taken_did σ p t).state
-  taken_reached p (Run (Image f)) h = λ e. accepted f p h.1
-  taken_reached p (Run (Change c)) h = λ e. changed σ.gauge c (g h)
-  taken_reached p (Run (Transact t)) h = λ e. acted_on σ.gauge t (master_of t p) (g h.0)
-  taken_reached p (Refused r) h = g
+  taken_reached p (Ok (Image f)) h = λ e. accepted f p h.1
+  taken_reached p (Ok (Change c)) h = λ e. changed σ.gauge c (g h)
+  taken_reached p (Ok (Transact t)) h = λ e. acted_on σ.gauge t (master_of t p) (g h.0)
+  taken_reached p (Err r) h = g
 
   did_reached : (r : Rec) → Loaded (did_of σ room r).state
   unfolding did_of

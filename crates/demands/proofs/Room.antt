@@ -6,13 +6,12 @@ use Prim.Native.Nat.{ℕ, ◌-◌, ◌≤◌}
 use native.Mathlib.Omega.{arith}
 use borrow.Author.Tests.{le-ltb}
 use lib.ListN.{length}
+use Rattle.std.specs.Prelude.{Ok, Err}
 use Rattle.numbers.proofs.Bounds.{picked}
 use Rattle.state.specs.declared.Tick.{Tick}
 use Rattle.gauge.specs.declared.Gauge.{Gauge}
 use Rattle.record.specs.declared.Event.TheVariants.{Image, Change, Transact}
-use Rattle.record.specs.declared.Taken.{Taken}
-use Rattle.record.specs.declared.Taken.TheVariants.{Run, Refused}
-use Rattle.record.specs.Record.{master_of, taken_of, change_timely, timed_of, asks_of, fitted_of}
+use Rattle.record.specs.Record.{master_of, taken_of, change_timely, timed_of, asks_of, fitted_of, Taken}
 use Rattle.record.proofs.Fits.{timed_taking}
 use Rattle.runs.specs.Record.{Rec, whole, cut}
 use Rattle.runs.specs.Run.{Did, silently, Line, line_of, lines_after, end_after}
@@ -35,14 +34,14 @@ free_of g (whole kind p) = timed_did p (taken_of kind true p) g
 free_of g cut = silently (loaded_with g) 2
 
 pub taken_room : (room : ℕ) (t : Taken) → taken_asks t ≤ room → fitted_of room t ≡ t
-taken_room room (Run e) h = rw (le-ltb room (asks_of e) h) refl
-taken_room room (Refused r) h = refl
+taken_room room (Ok e) h = rw (le-ltb room (asks_of e) h) refl
+taken_room room (Err r) h = refl
 
 pub timed_asks : (last : Tick) (t : Taken) → taken_asks (timed_of last t) ≡ taken_asks t
-timed_asks last (Run (Image f)) = refl
-timed_asks last (Run (Change c)) = picked (λ (t : Taken). taken_asks t ≡ 0) (change_timely last c) _ _ (λ timely. refl) (λ other. refl)
-timed_asks last (Run (Transact t)) = refl
-timed_asks last (Refused r) = refl
+timed_asks last (Ok (Image f)) = refl
+timed_asks last (Ok (Change c)) = picked (λ (t : Taken). taken_asks t ≡ 0) (change_timely last c) _ _ (λ timely. refl) (λ other. refl)
+timed_asks last (Ok (Transact t)) = refl
+timed_asks last (Err r) = refl
 
 did_room : (g : Gauge) (room : ℕ) (r : Rec) → rec_asks session_asked r ≤ room → did_of (loaded_with g) room r ≡ free_of g r
 unfolding did_of
@@ -52,10 +51,10 @@ did_room g room (whole kind p) h =
 did_room g room cut h = refl
 
 taken_reply : (g : Gauge) (p : List ℕ) (t : Taken) → length (taken_did (loaded_with g) p t).reply ≡ taken_asks t
-taken_reply g p (Run (Image f)) = refl
-taken_reply g p (Run (Change c)) = refl
-taken_reply g p (Run (Transact t)) = reply_length g t (master_of t p)
-taken_reply g p (Refused r) = refl
+taken_reply g p (Ok (Image f)) = refl
+taken_reply g p (Ok (Change c)) = refl
+taken_reply g p (Ok (Transact t)) = reply_length g t (master_of t p)
+taken_reply g p (Err r) = refl
 
 free_reply : (g : Gauge) (r : Rec) → length (free_of g r).reply ≡ rec_asks session_asked r
 free_reply g (whole kind p) =

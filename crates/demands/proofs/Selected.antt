@@ -14,8 +14,7 @@ use Rattle.bus.specs.declared.Transaction.{Transaction}
 use Rattle.bus.specs.Ask.{same_bytes, own_of}
 use Rattle.replies.specs.Reply.{selected_by, selected_of}
 use Rattle.tray_record.specs.declared.Tray.{Tray}
-use Rattle.tray_record.specs.declared.Found.{Found}
-use Rattle.tray_record.specs.declared.Found.TheVariants.{At, Nowhere}
+use Rattle.std.specs.Prelude.{Option, Some, None}
 use Rattle.tray_record.specs.Tray.{no_gauge, pack_of, search_of, reach_found, matched_of, nobody, reach_by, tray_reach}
 use Rattle.demands.specs.Class.{some_selected}
 use Rattle.demands.specs.History.{hears_of}
@@ -67,34 +66,34 @@ module _ (addresses : List (List ℕ)) (τ : Tray) (h : Owns addresses τ) (t : 
     unfolding selected_of own_of
     match_chosen s e j = rw (r, e) refl
 
-    none_matched : matched_of τ.commons τ.count master ≡ Nowhere → (j : ℕ) → j < τ.count → chosen j ≡ false
+    none_matched : matched_of τ.commons τ.count master ≡ None → (j : ℕ) → j < τ.count → chosen j ≡ false
     unfolding matched_of search_of
     none_matched e j low = go (ltb (length master) 9) refl e
       where
-        go : (s : Bool) → ltb (length master) 9 ≡ s → pick s Nowhere (search_of τ.commons τ.count (take 8 (drop 1 master))) ≡ Nowhere →
+        go : (s : Bool) → ltb (length master) 9 ≡ s → pick s None (search_of τ.commons τ.count (take 8 (drop 1 master))) ≡ None →
             chosen j ≡ false
         go true f g = match_chosen true f j
         go false f g =
             match_chosen false f j ∙ search_none no_gauge.common (take 8 (drop 1 master)) τ.commons 0 τ.count g j zero-le (omega arith)
 
-    matched_chosen : (found : Found) → matched_of τ.commons τ.count master ≡ found → (j : ℕ) →
+    matched_chosen : (found : Option ℕ) → matched_of τ.commons τ.count master ≡ found → (j : ℕ) →
         hears_of (reach_found found) τ.count j ≡ true
         → chosen j ≡ some_selected addresses t master
-    matched_chosen (At i) e j hear =
+    matched_chosen (Some i) e j hear =
         let m = matched_found τ.commons τ.count master i e in
         let yes : chosen i ≡ true = match_chosen false m.0 i ∙ m.1.has in
         let low : i < τ.count = omega (arith, m.1.low) in
         ap chosen (eqb-true j i hear) ∙ yes ∙ sym (one_chosen i low yes)
-    matched_chosen Nowhere e j hear = contrary cc
+    matched_chosen None e j hear = contrary cc
 
   -- where it reaches nobody, no pack is selected
   pub nobody_chosen : tray_reach τ t master ≡ nobody → (j : ℕ) → j < τ.count → chosen j ≡ false
   nobody_chosen = by t.rom refl
     where
-      unfound : t.rom ≡ rom.Match → (found : Found) → matched_of τ.commons τ.count master ≡ found → reach_found found ≡ nobody
+      unfound : t.rom ≡ rom.Match → (found : Option ℕ) → matched_of τ.commons τ.count master ≡ found → reach_found found ≡ nobody
           → (j : ℕ) → j < τ.count → chosen j ≡ false
-      unfound r (At i) e n j low = contrary cc
-      unfound r Nowhere e n j low = none_matched r e j low
+      unfound r (Some i) e n j low = contrary cc
+      unfound r None e n j low = none_matched r e j low
 
       by : (r : Rom) → t.rom ≡ r → reach_by r (matched_of τ.commons τ.count master) ≡ nobody → (j : ℕ) → j < τ.count → chosen j ≡ false
       by rom.Skip e n j low = contrary cc

@@ -8,6 +8,7 @@ use native.Mathlib.Omega.{arith}
 use borrow.Author.Tests.{ltb-true, le-leb}
 use lib.Dec.{leb, eqb}
 use lib.ListN.{length, get_or, drop}
+use Rattle.std.specs.Prelude.{Ok, Err}
 use Rattle.state.specs.declared.Profile.{Profile}
 use Rattle.state.specs.State.{image_size_of, no_tick, timely_of}
 use Rattle.numbers.specs.Choice.{pick}
@@ -20,9 +21,7 @@ use Rattle.record.specs.declared.Kind.TheVariants as kind
 use Rattle.record.specs.declared.Refusal.TheVariants as refusal
 use Rattle.record.specs.declared.Event.{Event}
 use Rattle.record.specs.declared.Event.TheVariants.{Image, Change, Transact}
-use Rattle.record.specs.declared.Taken.{Taken}
-use Rattle.record.specs.declared.Taken.TheVariants.{Run, Refused}
-use Rattle.record.specs.Record.{limit_of, read_count, due_of, event_of, taken_by, timed_of}
+use Rattle.record.specs.Record.{limit_of, read_count, due_of, event_of, taken_by, timed_of, Taken}
 use Rattle.runs.specs.Record.{Rec, whole, cut}
 use Rattle.runs.specs.Run.{Did, silently, Line, line_of, lines_after, end_after}
 use Rattle.runs.specs.AnyRecord.{Steps, answered_by}
@@ -69,7 +68,7 @@ pub record Owns (addresses : List (List ℕ)) (τ : Tray) : Type 0 where
 
 module _ (addresses : List (List ℕ)) (τ : Tray) (h : Owns addresses τ) where
   event_owns : (k : Kind) (p : List ℕ) (e : Event) → ((f : Profile) → e ≡ Image f → ⊥) → (tray_event τ p e).state.count ≡ τ.count →
-      Asks τ k p (Run e)
+      Asks τ k p (Ok e)
       → Owns addresses (tray_event τ p e).state
   event_owns k p e none same a = record {
     eight = event_eight τ h.eight k p e a;
@@ -81,10 +80,10 @@ module _ (addresses : List (List ℕ)) (τ : Tray) (h : Owns addresses τ) where
   }
 
   taken_owns : (k : Kind) (p : List ℕ) (t : Taken) → Asks τ k p t → Owns addresses (answered_by of_shut τ p t).state
-  taken_owns k p (Run (Image f)) a = h
-  taken_owns k p (Run (Change c)) a = event_owns k p (Change c) (λ f e. contrary cc) refl a
-  taken_owns k p (Run (Transact t)) a = event_owns k p (Transact t) (λ f e. contrary cc) (event_count τ h.eight k p (Transact t)) a
-  taken_owns k p (Refused r) a = h
+  taken_owns k p (Ok (Image f)) a = h
+  taken_owns k p (Ok (Change c)) a = event_owns k p (Change c) (λ f e. contrary cc) refl a
+  taken_owns k p (Ok (Transact t)) a = event_owns k p (Transact t) (λ f e. contrary cc) (event_count τ h.eight k p (Transact t)) a
+  taken_owns k p (Err r) a = h
 
   pub step_owns : (r : Rec) → Owns addresses (tray_step τ r)
   step_owns (whole n p) = taken_owns (tray_kind_of n) p (tray_told τ n p) (tray_asks τ n p)
@@ -94,13 +93,13 @@ module _ (addresses : List (List ℕ)) (τ : Tray) (h : Owns addresses τ) where
 
 timed_none : (t : Taken) → timed_of no_tick t ≡ t
 unfolding timely_of
-timed_none (Run (Image f)) = refl
-timed_none (Run (Change (change.Reading volt temp))) = refl
-timed_none (Run (Change (change.Conversion raw))) = refl
-timed_none (Run (Change (change.Sample raw tick))) = refl
-timed_none (Run (Change change.PowerOn)) = refl
-timed_none (Run (Transact t)) = refl
-timed_none (Refused r) = refl
+timed_none (Ok (Image f)) = refl
+timed_none (Ok (Change (change.Reading volt temp))) = refl
+timed_none (Ok (Change (change.Conversion raw))) = refl
+timed_none (Ok (Change (change.Sample raw tick))) = refl
+timed_none (Ok (Change change.PowerOn)) = refl
+timed_none (Ok (Transact t)) = refl
+timed_none (Err r) = refl
 
 -- of images, and of all other kinds
 image_or : (P : Kind → Type 0) → ((f : Profile) → P (kind.Image f)) → ((k : Kind) → ((f : Profile) → k ≡ kind.Image f → ⊥) → P k) →
@@ -115,11 +114,11 @@ image_or P i h kind.Unknown = h kind.Unknown (λ f e. contrary cc)
 
 -- an image is refused in a tray that is closed: with 4 by its size, else with 5
 pub image_asked : (f : Profile) (count : ℕ) (p : List ℕ)
-    → tray_asked_by count true false no_tick (kind.Image f) p ≡ pick (eqb (length p) (image_size_of f)) (Refused refusal.Order) (Refused refusal.Size)
+    → tray_asked_by count true false no_tick (kind.Image f) p ≡ pick (eqb (length p) (image_size_of f)) (Err refusal.Order) (Err refusal.Size)
 image_asked f count p = rw (le-leb 0 (length p) zero-le) (timed_none _)
 
 pub image_size_lem : (f : Profile) (count : ℕ) (closed again : Bool) (last : Tick) (p : List ℕ) → eqb (length p) (image_size_of f) ≡ false
-    → tray_asked_by count closed again last (kind.Image f) p ≡ Refused refusal.Size
+    → tray_asked_by count closed again last (kind.Image f) p ≡ Err refusal.Size
 image_size_lem f count closed again last p e = rw (le-leb 0 (length p) zero-le, e) refl
 
 module _ (count : ℕ) (closed again : Bool) (last : Tick) (p : List ℕ) where
@@ -130,7 +129,7 @@ module _ (count : ℕ) (closed again : Bool) (last : Tick) (p : List ℕ) where
   judged k = tray_asked_by count true false no_tick k p
 
   ahead : (a : Bool) {t u : Taken} → t ≡ u →
-      pick a (timed_of last t) (Refused refusal.Size) ≡ timed_of last (pick a (timed_of no_tick u) (Refused refusal.Size))
+      pick a (timed_of last t) (Err refusal.Size) ≡ timed_of last (pick a (timed_of no_tick u) (Err refusal.Size))
   ahead true {t} {u} e = ap (timed_of last) (e ∙ sym (timed_none u))
   ahead false e = refl
 
@@ -166,10 +165,10 @@ told_class τ n p selects other = class_timed τ.count τ.closed (again_of τ p)
 
 -- what is asked there: a slot that has a pack, or some pack
 abbrev pub Asked : ℕ → List ℕ → Taken → Type 0
-Asked count p (Run (Image f)) = Unit
-Asked count p (Run (Change c)) = slot_in p < count
-Asked count p (Run (Transact t)) = 0 < count
-Asked count p (Refused r) = Unit
+Asked count p (Ok (Image f)) = Unit
+Asked count p (Ok (Change c)) = slot_in p < count
+Asked count p (Ok (Transact t)) = 0 < count
+Asked count p (Err r) = Unit
 
 pub asked_there : (count n : ℕ) (p : List ℕ) → Asked count p (tray_asked count n p)
 asked_there count n p = asked_has count true false no_tick p (Asked count p) (λ r. tt) (tray_kind_of n) (λ sized due. rw timed_none (by (tray_kind_of n) due))
@@ -187,10 +186,10 @@ asked_there count n p = asked_has count true false no_tick p (Asked count p) (λ
 
 module _ (τ : Tray) (p : List ℕ) where
   image_none : (f : Profile) (t : Taken) → Asks τ (kind.Image f) p t → taken_asks t ≡ 0
-  image_none f (Run (Image g)) a = refl
-  image_none f (Run (Change c)) a = refl
-  image_none f (Run (Transact t)) a = let z = a.kind in contrary cc
-  image_none f (Refused r) a = refl
+  image_none f (Ok (Image g)) a = refl
+  image_none f (Ok (Change c)) a = refl
+  image_none f (Ok (Transact t)) a = let z = a.kind in contrary cc
+  image_none f (Err r) a = refl
 
   abbrev told : Kind → Taken
   told k = tray_asked_by τ.count τ.closed (again_of τ p) (slot_tick τ p) k p
@@ -225,16 +224,16 @@ grows τ room rs h =
 
 module _ (τ : Tray) (p : List ℕ) where
   shut : (t : Taken) → (answered_by of_tray τ p t).state.count ≤ τ.count → answered_by of_tray τ p t ≡ answered_by of_shut τ p t
-  shut (Run (Image f)) low = absurd (omega arith)
-  shut (Run (Change c)) low = refl
-  shut (Run (Transact t)) low = refl
-  shut (Refused r) low = refl
+  shut (Ok (Image f)) low = absurd (omega arith)
+  shut (Ok (Change c)) low = refl
+  shut (Ok (Transact t)) low = refl
+  shut (Err r) low = refl
 
   shut_reply : (t : Taken) → length (answered_by of_shut τ p t).reply ≡ taken_asks t
-  shut_reply (Run (Image f)) = refl
-  shut_reply (Run (Change c)) = refl
-  shut_reply (Run (Transact t)) = tray_replying.reply τ p (Transact t)
-  shut_reply (Refused r) = refl
+  shut_reply (Ok (Image f)) = refl
+  shut_reply (Ok (Change c)) = refl
+  shut_reply (Ok (Transact t)) = tray_replying.reply τ p (Transact t)
+  shut_reply (Err r) = refl
 
 did_shut : (τ : Tray) (room : ℕ) (r : Rec) → rec_asks (tray_asked τ.count) r ≤ room → (tray_did τ room r).state.count ≤ τ.count →
     tray_did τ room r ≡ free_tray τ r

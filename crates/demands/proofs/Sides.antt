@@ -9,6 +9,7 @@ use borrow.Author.Tests.{lt-ltb, eqb-true, eq-eqb}
 use lib.Dec.{eqb}
 use lib.ListN.{length}
 use lib.Seq.{ext_get_or}
+use Rattle.std.specs.Prelude.{Ok, Err}
 use Rattle.numbers.specs.Choice.{pick, either}
 use Rattle.state.specs.declared.Meter.{Meter}
 use Rattle.state.specs.declared.Common.{Common}
@@ -22,9 +23,7 @@ use Rattle.record.specs.declared.Change.{Change as Changes}
 use Rattle.record.specs.declared.Event.TheVariants.{Image, Change, Transact}
 use Rattle.record.specs.declared.Refusal.{Refusal}
 use Rattle.record.specs.declared.Refusal.TheVariants.{Interval}
-use Rattle.record.specs.declared.Taken.{Taken}
-use Rattle.record.specs.declared.Taken.TheVariants.{Run, Refused}
-use Rattle.record.specs.Record.{master_of, change_timely, timed_of}
+use Rattle.record.specs.Record.{master_of, change_timely, timed_of, Taken}
 use Rattle.runs.specs.Record.{Rec, whole, cut, kind_in}
 use Rattle.runs.specs.Run.{Did}
 use Rattle.runs.specs.declared.Session.{Session}
@@ -55,7 +54,7 @@ record Does (p : List ℕ) (t : Taken) (touch : ℕ → Bool) (closes : Bool) (�
   closed : f.state.closed ≡ either closes σ.closed
 
 does_transact : (σ : Tray) → Eight σ → (p : List ℕ) (t : Transaction)
-    → Does p (Run (Transact t)) (hears_of (tray_reach σ t (master_of t p)) σ.count) true σ (answered_by of_shut σ p (Run (Transact t)))
+    → Does p (Ok (Transact t)) (hears_of (tray_reach σ t (master_of t p)) σ.count) true σ (answered_by of_shut σ p (Ok (Transact t)))
 does_transact σ h p t =
     let e = acted_eight t (master_of t p) σ h (tray_reach σ t (master_of t p)) in
     record {
@@ -65,20 +64,20 @@ does_transact σ h p t =
       closed = refl;
     }
 
-does_nothing : (σ : Tray) → Eight σ → (p : List ℕ) (r : Refusal) → Does p (Refused r) (λ j. false) false σ (answered_by of_shut σ p (Refused r))
+does_nothing : (σ : Tray) → Eight σ → (p : List ℕ) (r : Refusal) → Does p (Err r) (λ j. false) false σ (answered_by of_shut σ p (Err r))
 does_nothing σ h p r = record { count = refl; eight = h; packs = λ j. refl; closed = refl }
 
 module _ (σ : Tray) (h : Eight σ) (p : List ℕ) (c : Changes) where
   abbrev here : Did Session
-  here = timed_did p (Run (Change c)) (pack_of σ (slot_in p))
+  here = timed_did p (Ok (Change c)) (pack_of σ (slot_in p))
 
   abbrev slot_did : Did Tray
-  slot_did = answered_by of_shut σ p (timed_of (slot_tick σ p) (Run (Change c)))
+  slot_did = answered_by of_shut σ p (timed_of (slot_tick σ p) (Ok (Change c)))
 
   -- the pack in the slot, after g
   slot_pack : (g : Gauge) → here.state.gauge ≡ g → (j : ℕ) (s : Bool) → eqb j (slot_in p) ≡ s
-      → pick s g (pack_of σ j) ≡ pick s (timed_did p (Run (Change c)) (pack_of σ j)).state.gauge (pack_of σ j)
-  slot_pack g e j true f = sym (ap (λ (i : ℕ). (timed_did p (Run (Change c)) (pack_of σ i)).state.gauge) (eqb-true j (slot_in p) f) ∙ e)
+      → pick s g (pack_of σ j) ≡ pick s (timed_did p (Ok (Change c)) (pack_of σ j)).state.gauge (pack_of σ j)
+  slot_pack g e j true f = sym (ap (λ (i : ℕ). (timed_did p (Ok (Change c)) (pack_of σ i)).state.gauge) (eqb-true j (slot_in p) f) ∙ e)
   slot_pack g e j false f = refl
 
   same_pack : (j : ℕ) → pack_of σ j ≡ pick (eqb j (slot_in p)) (pack_of σ (slot_in p)) (pack_of σ j)
@@ -88,10 +87,10 @@ module _ (σ : Tray) (h : Eight σ) (p : List ℕ) (c : Changes) where
       go true e = ap (pack_of σ) (eqb-true j (slot_in p) e)
       go false e = refl
 
-  does_change : slot_in p < σ.count → Does p (Run (Change c)) (λ j. eqb j (slot_in p)) (eqb here.answer 0) σ slot_did
+  does_change : slot_in p < σ.count → Does p (Ok (Change c)) (λ j. eqb j (slot_in p)) (eqb here.answer 0) σ slot_did
   does_change low = go (change_timely (slot_tick σ p) c) refl
     where
-      go : (b : Bool) → change_timely (slot_tick σ p) c ≡ b → Does p (Run (Change c)) (λ j. eqb j (slot_in p)) (eqb here.answer 0) σ slot_did
+      go : (b : Bool) → change_timely (slot_tick σ p) c ≡ b → Does p (Ok (Change c)) (λ j. eqb j (slot_in p)) (eqb here.answer 0) σ slot_did
       go true e =
           let g = changed_of (pack_of σ (slot_in p)) c in
           let s = stored_eight σ (slot_in p) g h in
@@ -115,9 +114,9 @@ module _ (σ : Tray) (h : Eight σ) (p : List ℕ) (c : Changes) where
   slot_answer = go (change_timely (slot_tick σ p) c)
     where
       go : (b : Bool)
-          → ((answered_by of_shut σ p (pick b (Run (Change c)) (Refused Interval))).answer
-          ≡ (taken_did (loaded_with (pack_of σ (slot_in p))) p (pick b (Run (Change c)) (Refused Interval))).answer)
-          × ((answered_by of_shut σ p (pick b (Run (Change c)) (Refused Interval))).reply ≡ [])
+          → ((answered_by of_shut σ p (pick b (Ok (Change c)) (Err Interval))).answer
+          ≡ (taken_did (loaded_with (pack_of σ (slot_in p))) p (pick b (Ok (Change c)) (Err Interval))).answer)
+          × ((answered_by of_shut σ p (pick b (Ok (Change c)) (Err Interval))).reply ≡ [])
       go true = (refl, refl)
       go false = (refl, refl)
 
@@ -224,17 +223,17 @@ module _ {A B : Type 0} (make : Common → A → B → Gauge) (own : Gauge → A
     abbrev asked : Tray → Taken → Did Tray
     asked υ t = answered_by of_shut υ p (timed_of (slot_tick υ p) t)
 
-    module _ (t : Transaction) (e : taken_class (some_selected addresses) p (Run (Transact t)) ≡ k) where
+    module _ (t : Transaction) (e : taken_class (some_selected addresses) p (Ok (Transact t)) ≡ k) where
       abbrev reach : Reach
       reach = tray_reach τ t (master_of t p)
 
-      heard_class : (j : ℕ) → hears_of reach τ.count j ≡ true → taken_class (selected_of (pack_of τ j).common.address) p (Run (Transact t)) ≡ k
+      heard_class : (j : ℕ) → hears_of reach τ.count j ≡ true → taken_class (selected_of (pack_of τ j).common.address) p (Ok (Transact t)) ≡ k
       unfolding touched_of
       heard_class j hear = rw (hears_chosen addresses τ own-τ t (master_of t p) j hear) e
 
       heard : (j : ℕ) → hears_of reach τ.count j ≡ true
-          → PackMoves own other (pack_of σ j) (timed_did p (Run (Transact t)) (pack_of τ j)) (timed_did p (Run (Transact t)) (pack_of σ j))
-      heard j hear = pack_moves (pack_of τ j) (pack_of σ j) (alike.pairs j) p (Run (Transact t)) (heard_class j hear)
+          → PackMoves own other (pack_of σ j) (timed_did p (Ok (Transact t)) (pack_of τ j)) (timed_did p (Ok (Transact t)) (pack_of σ j))
+      heard j hear = pack_moves (pack_of τ j) (pack_of σ j) (alike.pairs j) p (Ok (Transact t)) (heard_class j hear)
 
       replied : (r : Reach) → ((j : ℕ) → hears_of r τ.count j ≡ true →
           reply_of (pack_of σ j) t (master_of t p) ≡ reply_of (pack_of τ j) t (master_of t p))
@@ -245,35 +244,35 @@ module _ {A B : Type 0} (make : Common → A → B → Gauge) (own : Gauge → A
           ap (wired_first t (master_of t p) σ) alike.count
           ∙ wired_same t (master_of t p) σ τ τ.count (λ j low. h j (lt-ltb j τ.count low))
 
-      transact_moves : Moves own other τ σ (asked τ (Run (Transact t))) (asked σ (Run (Transact t)))
+      transact_moves : Moves own other τ σ (asked τ (Ok (Transact t))) (asked σ (Ok (Transact t)))
       transact_moves =
-          moves_of own other alike p (Run (Transact t)) (hears_of reach τ.count) true
+          moves_of own other alike p (Ok (Transact t)) (hears_of reach τ.count) true
           (does_transact τ own-τ.eight p t)
-          (subst (λ (x : ℕ → Bool). Does p (Run (Transact t)) x true σ (asked σ (Run (Transact t))))
+          (subst (λ (x : ℕ → Bool). Does p (Ok (Transact t)) x true σ (asked σ (Ok (Transact t))))
           (λ i. hears_of (reach_alike t (master_of t p) i) (alike.count i)) (does_transact σ own-σ.eight p t))
           heard refl
           (ap (λ (r : Reach). tray_reply t (master_of t p) r σ) (reach_alike t (master_of t p)) ∙ replied reach (λ j hear. (heard j hear).reply))
 
-    change_moves : (c : Changes) → taken_class (some_selected addresses) p (Run (Change c)) ≡ k → slot_in p < τ.count
-        → Moves own other τ σ (asked τ (Run (Change c))) (asked σ (Run (Change c)))
+    change_moves : (c : Changes) → taken_class (some_selected addresses) p (Ok (Change c)) ≡ k → slot_in p < τ.count
+        → Moves own other τ σ (asked τ (Ok (Change c))) (asked σ (Ok (Change c)))
     change_moves c e low =
-        let moved : (j : ℕ) → PackMoves own other (pack_of σ j) (timed_did p (Run (Change c)) (pack_of τ j)) (timed_did p (Run (Change c)) (pack_of σ j)) =
-        λ j. pack_moves (pack_of τ j) (pack_of σ j) (alike.pairs j) p (Run (Change c)) e in
+        let moved : (j : ℕ) → PackMoves own other (pack_of σ j) (timed_did p (Ok (Change c)) (pack_of τ j)) (timed_did p (Ok (Change c)) (pack_of σ j)) =
+        λ j. pack_moves (pack_of τ j) (pack_of σ j) (alike.pairs j) p (Ok (Change c)) e in
         let slot = moved (slot_in p) in
         let one = slot_answer τ own-τ.eight p c in
         let two = slot_answer σ own-σ.eight p c in
-        moves_of own other alike p (Run (Change c)) (λ j. eqb j (slot_in p)) (eqb (timed_did p (Run (Change c)) (pack_of τ (slot_in p))).answer 0)
+        moves_of own other alike p (Ok (Change c)) (λ j. eqb j (slot_in p)) (eqb (timed_did p (Ok (Change c)) (pack_of τ (slot_in p))).answer 0)
         (does_change τ own-τ.eight p c low)
-        (subst (λ (b : Bool). Does p (Run (Change c)) (λ j. eqb j (slot_in p)) b σ (asked σ (Run (Change c))))
+        (subst (λ (b : Bool). Does p (Ok (Change c)) (λ j. eqb j (slot_in p)) b σ (asked σ (Ok (Change c))))
         (ap (λ (n : ℕ). eqb n 0) slot.answer) (does_change σ own-σ.eight p c (rw alike.count low)))
         (λ j touch. moved j) (two.0 ∙ slot.answer ∙ sym one.0) (two.1 ∙ sym one.1)
 
     taken_moves : (t : Taken) → taken_class (some_selected addresses) p t ≡ k → Asked τ.count p t → Moves own other τ σ (asked τ t) (asked σ t)
-    taken_moves (Run (Image f)) e a = absurd (no_fence e)
-    taken_moves (Run (Change c)) e a = change_moves c e a
-    taken_moves (Run (Transact t)) e a = transact_moves t e
-    taken_moves (Refused r) e a =
-        moves_of own other alike p (Refused r) (λ j. false) false (does_nothing τ own-τ.eight p r) (does_nothing σ own-σ.eight p r)
+    taken_moves (Ok (Image f)) e a = absurd (no_fence e)
+    taken_moves (Ok (Change c)) e a = change_moves c e a
+    taken_moves (Ok (Transact t)) e a = transact_moves t e
+    taken_moves (Err r) e a =
+        moves_of own other alike p (Err r) (λ j. false) false (does_nothing τ own-τ.eight p r) (does_nothing σ own-σ.eight p r)
         (λ j touch. contrary cc) refl refl
 
   free_moves : (addresses : List (List ℕ)) (τ σ : Tray) → Owns addresses τ → Owns addresses σ → Alike own other τ σ

@@ -7,6 +7,7 @@ use native.Mathlib.Omega.{arith}
 use borrow.Author.Tests.{le-leb, lt-leb, le-ltb, ne_eqb}
 use lib.Dec.{ltb, leb, eqb}
 use lib.ListN.{length, get_or}
+use Rattle.std.specs.Prelude.{Ok, Err}
 use Rattle.numbers.specs.Choice.{pick}
 use Rattle.numbers.proofs.Bounds.{picked, both_true}
 use Rattle.slices.specs.Slices.{pair_at}
@@ -25,11 +26,9 @@ use Rattle.record.specs.declared.Refusal.TheVariants as refusal
 use Rattle.record.specs.declared.Change.{Change as Changes}
 use Rattle.record.specs.declared.Change.TheVariants as change
 use Rattle.record.specs.declared.Event.TheVariants.{Image, Change, Transact}
-use Rattle.record.specs.declared.Taken.{Taken}
-use Rattle.record.specs.declared.Taken.TheVariants.{Run, Refused}
 use Rattle.record.specs.Image.{image_address, image_breaks}
 use Rattle.record.specs.Record.{refusal_number, addressed_of, lockable_of, ordered_of, judged_among, kind_of, count_at, taken_by}
-use Rattle.record.specs.Record.{taken_of, limit_of, read_count, sized_of, transaction_of, event_timely, timed_of, fitted_of, master_of}
+use Rattle.record.specs.Record.{taken_of, limit_of, read_count, sized_of, transaction_of, event_timely, timed_of, fitted_of, master_of, Taken}
 use Rattle.record.proofs.Fits.{Taking, timed_by, passes, transaction_timely, refusal_range}
 use Rattle.runs.specs.declared.Session.{Session}
 use Rattle.runs.specs.Record.{Rec, whole, cut, kind_in, recs_of}
@@ -38,7 +37,8 @@ use Rattle.runs.specs.AnyRecord.{answered_by}
 use Rattle.runs.specs.SessionRecord.{last_tick, event_did, of_session, did_of}
 use Rattle.session_run.specs.SessionRun.{empty_of}
 use Rattle.tray_record.specs.declared.Tray.{Tray}
-use Rattle.tray_record.specs.Tray.{empty_tray, pack_of, search_of, is_found, tray_kind_of, ahead_of}
+use Rattle.std.specs.Prelude.{is_some}
+use Rattle.tray_record.specs.Tray.{empty_tray, pack_of, search_of, tray_kind_of, ahead_of}
 use Rattle.tray_record.specs.Tray.{tray_asked_by, again_of, slot_tick, tray_told, tray_reach, tray_event, of_tray, tray_did}
 use Rattle.intel_hex.specs.Theorems.{Bytes}
 use Rattle.demands.specs.Call.{Call, lines_in}
@@ -86,9 +86,9 @@ slot_payload k p = pick (eqb (ahead_of k) 1) (0 ∷ p) p
 
 -- what no state decides is not refused for its tick
 stateless_timely : (last : Tick) (t : Taken) → t ≡ fitted_of 0 (timed_of last t) → timed_of last t ≡ t
-stateless_timely last (Run e) =
-    picked (λ u. Run e ≡ fitted_of 0 u → u ≡ Run e) (event_timely last e) (Run e) (Refused refusal.Interval) (λ timely z. refl) (λ other z. contrary cc)
-stateless_timely last (Refused r) = λ z. refl
+stateless_timely last (Ok e) =
+    picked (λ u. Ok e ≡ fitted_of 0 u → u ≡ Ok e) (event_timely last e) (Ok e) (Err refusal.Interval) (λ timely z. refl) (λ other z. contrary cc)
+stateless_timely last (Err r) = λ z. refl
 
 -- a session and a tray of one pack: the gauge is in slot 0
 pub record Alike (σ : Session) (τ : Tray) : Type 0 where
@@ -116,7 +116,7 @@ module _ (σ : Session) (τ : Tray) (h : Alike σ τ) (p : List ℕ) where
 
   -- an image, which a tray that is open takes further on
   abbrev Later : Kind → Type 0
-  Later k = σ.loaded ≡ true → τ.closed ≡ false → plain k ≡ Refused refusal.Order → ⊥
+  Later k = σ.loaded ≡ true → τ.closed ≡ false → plain k ≡ Err refusal.Order → ⊥
 
   image_timely : (f : Profile) (last : Tick) (again loaded : Bool) →
       timed_of last (taken_by again (kind.Image f) loaded p) ≡ taken_by again (kind.Image f) loaded p
@@ -128,7 +128,7 @@ module _ (σ : Session) (τ : Tray) (h : Alike σ τ) (p : List ℕ) where
 
   new : σ.loaded ≡ false → again_of τ p ≡ false
   unfolding search_of
-  new e = ap (λ (n : ℕ). is_found (search_of τ.commons n (image_address p))) (none_yet e)
+  new e = ap (λ (n : ℕ). is_some (search_of τ.commons n (image_address p))) (none_yet e)
 
   image_alike : (f : Profile) (loaded closed sized : Bool) → σ.loaded ≡ loaded → τ.closed ≡ closed → eqb (length p) (image_size_of f) ≡ sized
       → Later (kind.Image f) → asks (kind.Image f) ≡ plain (kind.Image f)
@@ -225,7 +225,7 @@ module _ (σ : Session) (τ : Tray) (h : Alike σ τ) where
     q = slot_payload k p
 
     -- an event
-    image_does : (f : Profile) → σ.loaded ≡ false → Asks τ k q (Run (Image f)) → Does (tray_event τ q (Image f)) (event_did σ p (Image f))
+    image_does : (f : Profile) → σ.loaded ≡ false → Asks τ k q (Ok (Image f)) → Does (tray_event τ q (Image f)) (event_did σ p (Image f))
     image_does f e a =
         let same : q ≡ p = ap (λ (x : Kind). slot_payload x p) a.kind in
         let none = none_yet σ τ h p e in
@@ -240,7 +240,7 @@ module _ (σ : Session) (τ : Tray) (h : Alike σ τ) where
           };
         }
 
-    change_does : (c : Changes) → σ.loaded ≡ true → Asks τ k q (Run (Change c)) → Does (tray_event τ q (Change c)) (event_did σ p (Change c))
+    change_does : (c : Changes) → σ.loaded ≡ true → Asks τ k q (Ok (Change c)) → Does (tray_event τ q (Change c)) (event_did σ p (Change c))
     change_does c e a =
         let same : q ≡ 0 ∷ p = ap (λ (n : ℕ). pick (eqb n 1) (0 ∷ p) p) a.ahead in
         record {
@@ -254,7 +254,7 @@ module _ (σ : Session) (τ : Tray) (h : Alike σ τ) where
           };
         }
 
-    transact_does : (t : Transaction) → σ.loaded ≡ true → Asks τ k q (Run (Transact t)) → Does (tray_event τ q (Transact t)) (event_did σ p (Transact t))
+    transact_does : (t : Transaction) → σ.loaded ≡ true → Asks τ k q (Ok (Transact t)) → Does (tray_event τ q (Transact t)) (event_did σ p (Transact t))
     transact_does t e a =
         let same : q ≡ p = ap (λ (x : Kind). slot_payload x p) a.kind in
         let master = master_of t p in
@@ -266,7 +266,7 @@ module _ (σ : Session) (τ : Tray) (h : Alike σ τ) where
           reply = λ bytes.
               single_reply t master τ distinct one (λ n. rw h.pack (bytes n)) ∙ ap (λ (g : Gauge). reply_of g t master) h.pack;
           alike = record {
-            eight = event_eight τ h.eight k p (Transact t) (subst (λ (x : List ℕ). Asks τ k x (Run (Transact t))) same a);
+            eight = event_eight τ h.eight k p (Transact t) (subst (λ (x : List ℕ). Asks τ k x (Ok (Transact t))) same a);
             count = event_count τ h.eight k p (Transact t) ∙ one;
             opening = λ z. contrary cc;
             pack = heard ∙ ap (λ (g : Gauge). act_of g t master) h.pack;
@@ -274,32 +274,32 @@ module _ (σ : Session) (τ : Tray) (h : Alike σ τ) where
         })
 
     taken_does : (t : Taken) → Taking false σ.loaded p t → Asks τ k q t → Does (answered_by of_tray τ q t) (answered_by of_session σ p t)
-    taken_does (Run (Image f)) now a = image_does f now.0 a
-    taken_does (Run (Change c)) now a = change_does c now a
-    taken_does (Run (Transact t)) now a = transact_does t now.0 a
-    taken_does (Refused r) now a = record { answer = refl; reply = λ bytes. refl; alike = h }
+    taken_does (Ok (Image f)) now a = image_does f now.0 a
+    taken_does (Ok (Change c)) now a = change_does c now a
+    taken_does (Ok (Transact t)) now a = transact_does t now.0 a
+    taken_does (Err r) now a = record { answer = refl; reply = λ bytes. refl; alike = h }
 
     taken_ready : (n : ℕ) (t : Taken) (ls : List Line) → Taking false σ.loaded p t
         → Ready σ τ (line_of (whole n p) (answered_by of_session σ p t) ∷ ls)
         → Ready (answered_by of_session σ p t).state (answered_by of_tray τ q t).state ls
-    taken_ready n (Run (Image f)) ls now ready = rw (h.opening now.0) (rw now.0 at ready)
-    taken_ready n (Run (Change c)) ls now ready = refl
-    taken_ready n (Run (Transact t)) ls now ready = refl
-    taken_ready n (Refused r) ls now ready = refused_ready σ.loaded τ.closed _ ls (refusal_other r) ready
+    taken_ready n (Ok (Image f)) ls now ready = rw (h.opening now.0) (rw now.0 at ready)
+    taken_ready n (Ok (Change c)) ls now ready = refl
+    taken_ready n (Ok (Transact t)) ls now ready = refl
+    taken_ready n (Err r) ls now ready = refused_ready σ.loaded τ.closed _ ls (refusal_other r) ready
 
     -- no 5 where an open tray has its pack
     abbrev Unless : Taken → Type 0
-    Unless t = σ.loaded ≡ true → τ.closed ≡ false → t ≡ Refused refusal.Order → ⊥
+    Unless t = σ.loaded ≡ true → τ.closed ≡ false → t ≡ Err refusal.Order → ⊥
 
     taken_before : (n : ℕ) (t : Taken) (ls : List Line) → Taking false σ.loaded p t → Unless t
         → Ready (answered_by of_session σ p t).state (answered_by of_tray τ q t).state ls
         → Ready σ τ (line_of (whole n p) (answered_by of_session σ p t) ∷ ls)
-    taken_before n (Run (Image f)) ls now other ready = rw now.0 (rw (h.opening now.0) at ready)
-    taken_before n (Run (Change c)) ls now other ready = rw now (done_before τ.closed _ ls refl)
-    taken_before n (Run (Transact t)) ls now other ready = rw now.0 (done_before τ.closed _ ls refl)
-    taken_before n (Refused r) ls now other ready =
+    taken_before n (Ok (Image f)) ls now other ready = rw now.0 (rw (h.opening now.0) at ready)
+    taken_before n (Ok (Change c)) ls now other ready = rw now (done_before τ.closed _ ls refl)
+    taken_before n (Ok (Transact t)) ls now other ready = rw now.0 (done_before τ.closed _ ls refl)
+    taken_before n (Err r) ls now other ready =
         refused_before σ.loaded τ.closed _ ls (refusal_other r)
-        (λ loaded closed. not_five r (λ e. other loaded closed (ap (λ (x : Refusal). Refused x) e))) ready
+        (λ loaded closed. not_five r (λ e. other loaded closed (ap (λ (x : Refusal). Err x) e))) ready
 
   -- A record of a kind and a payload
 
@@ -328,7 +328,7 @@ module _ (σ : Session) (τ : Tray) (h : Alike σ τ) where
           → Ready σ τ (line_of (whole n p) (answered_by of_session σ p t) ∷ ls)
 
     goes : (room : ℕ) → Later σ τ h p (kind_of n) → Goes (fitted_of room told)
-    goes room later = fitted_has Goes (go (Refused refusal.Room) tt tt (λ a b e. contrary cc)) room told (go told told_now (told_asks later) later)
+    goes room later = fitted_has Goes (go (Err refusal.Room) tt tt (λ a b e. contrary cc)) room told (go told told_now (told_asks later) later)
       where
         go : (t : Taken) → Taking false σ.loaded p t → Asks τ (kind_of n) (q (kind_of n) p) t → Unless (kind_of n) p t → Goes t
         go t now asks other = record {
@@ -435,26 +435,26 @@ Imaged k p = (f : Profile) × ((k ≡ kind.Image f) × (eqb (length p) (image_si
 
 module _ (last : Tick) (p : List ℕ) where
   abbrev Unordered : Taken → Type 0
-  Unordered t = timed_of last t ≡ Refused refusal.Order → ⊥
+  Unordered t = timed_of last t ≡ Err refusal.Order → ⊥
 
-  sized_unordered : (b : Bool) (t : Taken) → Unordered t → Unordered (pick b t (Refused refusal.Size))
+  sized_unordered : (b : Bool) (t : Taken) → Unordered t → Unordered (pick b t (Err refusal.Size))
   sized_unordered true t h = h
   sized_unordered false t h = λ z. contrary cc
 
-  sized_change : (b : Bool) (c : Changes) → Unordered (pick b (Run (Change c)) (Refused refusal.Size))
+  sized_change : (b : Bool) (c : Changes) → Unordered (pick b (Ok (Change c)) (Err refusal.Size))
   sized_change b c =
-      sized_unordered b (Run (Change c))
-      (picked (λ t. t ≡ Refused refusal.Order → ⊥) (event_timely last (Change c)) (Run (Change c)) (Refused refusal.Interval)
+      sized_unordered b (Ok (Change c))
+      (picked (λ t. t ≡ Err refusal.Order → ⊥) (event_timely last (Change c)) (Ok (Change c)) (Err refusal.Interval)
       (λ timely z. contrary cc) (λ other z. contrary cc))
 
   transaction_unordered : (f : Form) → Unordered (transaction_of f p)
   transaction_unordered f = picked Unordered (leb (read_count f p) (limit_of f)) _ _ (λ few z. contrary cc) (λ many z. contrary cc)
 
-  order_image : (k : Kind) → timed_of last (taken_by false k true p) ≡ Refused refusal.Order → Imaged k p
+  order_image : (k : Kind) → timed_of last (taken_by false k true p) ≡ Err refusal.Order → Imaged k p
   order_image (kind.Image f) e = go (eqb (length p) (image_size_of f)) refl e
     where
       go : (b : Bool) → eqb (length p) (image_size_of f) ≡ b
-          → timed_of last (pick b (Refused refusal.Order) (Refused refusal.Size)) ≡ Refused refusal.Order → Imaged (kind.Image f) p
+          → timed_of last (pick b (Err refusal.Order) (Err refusal.Size)) ≡ Err refusal.Order → Imaged (kind.Image f) p
       go true s z = (f, (refl, s))
       go false s z = contrary cc
   order_image kind.Reading e = absurd (sized_change (eqb (length p) 8) (change.Reading (count_at p 0) (count_at p 4)) e)
@@ -481,7 +481,7 @@ module _ (τ : Tray) (p : List ℕ) (room : ℕ) where
       (λ b e. absurd (omega arith)))
       (λ a e. absurd (omega arith))
     where
-      joins : (g : Profile) → (answered_by of_tray τ p (fitted_of room (Run (Image g)))).answer ≡ 5 → ◌≡◌ {A = ℕ} 0 5
+      joins : (g : Profile) → (answered_by of_tray τ p (fitted_of room (Ok (Image g)))).answer ≡ 5 → ◌≡◌ {A = ℕ} 0 5
       joins g e = rw (le-ltb room 0 zero-le) at e
 
 module _ (σ : Session) (τ : Tray) (h : Alike σ τ) (n : ℕ) (p : List ℕ) (f : Profile) (is : kind_of n ≡ kind.Image f) (closed : τ.closed ≡ false)
@@ -501,7 +501,7 @@ lines_later : (σ : Session) (τ : Tray) (room : ℕ) (r : Rec) (h : Alike σ τ
     → LaterIn σ τ h r
 unfolding did_of taken_of
 lines_later σ τ room (whole n p) h same = λ loaded closed order.
-    let now = subst (λ (b : Bool). timed_of (last_tick σ) (taken_by false (kind_of n) b p) ≡ Refused refusal.Order) loaded order in
+    let now = subst (λ (b : Bool). timed_of (last_tick σ) (taken_by false (kind_of n) b p) ≡ Err refusal.Order) loaded order in
     let i = order_image (last_tick σ) p (kind_of n) now in
     open_answer σ τ h n p i.0 i.1.0 closed i.1.1 room (same ∙ rw order refl)
 lines_later σ τ room cut h same = tt

@@ -7,6 +7,7 @@ use native.Mathlib.Omega.{arith}
 use borrow.Author.Tests.{lt-ltb, le-leb, ne_eqb}
 use lib.Dec.{ltb}
 use lib.ListN.{length}
+use Rattle.std.specs.Prelude.{Ok, Err}
 use Rattle.numbers.specs.Choice.{either}
 use Rattle.bus.specs.declared.Transaction.{Transaction}
 use Rattle.gauge.specs.Change.{changed_of}
@@ -17,9 +18,7 @@ use Rattle.record.specs.declared.Kind.TheVariants as kind
 use Rattle.record.specs.declared.Refusal.{Refusal}
 use Rattle.record.specs.declared.Refusal.TheVariants as refusal
 use Rattle.record.specs.declared.Event.TheVariants.{Image, Change, Transact}
-use Rattle.record.specs.declared.Taken.{Taken}
-use Rattle.record.specs.declared.Taken.TheVariants.{Run, Refused}
-use Rattle.record.specs.Record.{refusal_number, kind_of, transaction_in, master_of, taken_of, timed_of}
+use Rattle.record.specs.Record.{refusal_number, kind_of, transaction_in, master_of, taken_of, timed_of, Taken}
 use Rattle.record.proofs.Fits.{transaction_timely, refusal_range}
 use Rattle.runs.specs.Record.{whole, recs_of}
 use Rattle.runs.specs.AnyRecord.{answered_by}
@@ -40,7 +39,7 @@ use Rattle.demands.proofs.Alone.{transaction_kind, session_kind, asked_form}
 use Rattle.demands.proofs.Filled.{end_filled}
 
 -- what is refused leaves the opening as it is
-pub refused_opens : (τ : Tray) (p : List ℕ) (r : Refusal) → Closes τ (answered_by of_tray τ p (Refused r))
+pub refused_opens : (τ : Tray) (p : List ℕ) (r : Refusal) → Closes τ (answered_by of_tray τ p (Err r))
 refused_opens τ p r =
     let z : refusal_number r ≡ 0 → ⊥ = λ e. omega (arith, refusal_range r) in
     record { count = refl; closed = sym (ap (either τ.closed) (ne_eqb (refusal_number r) 0 z) ∙ either_none τ.closed) }
@@ -61,18 +60,18 @@ module _ (τ : Tray) (h : Eight τ) (i : ℕ) (low : i < τ.count) (p : List ℕ
   Same t = AsOld τ i (answered_by of_tray τ (i ∷ p) t) (taken_did (loaded_with (pack_of τ i)) p t)
 
   taken_old : (k : Kind) → ahead_of k ≡ 1 → (t : Taken) → Asks τ k (i ∷ p) t → Same t
-  taken_old k ahead (Run (Image f)) a = let z : ◌≡◌ {A = ℕ} 1 0 = sym ahead ∙ ap ahead_of a.kind in absurd (omega arith)
-  taken_old k ahead (Run (Change c)) a =
-      let opening : Closes τ (answered_by of_tray τ (i ∷ p) (Run (Change c))) = record { count = refl; closed = sym (either_true τ.closed) } in
+  taken_old k ahead (Ok (Image f)) a = let z : ◌≡◌ {A = ℕ} 1 0 = sym ahead ∙ ap ahead_of a.kind in absurd (omega arith)
+  taken_old k ahead (Ok (Change c)) a =
+      let opening : Closes τ (answered_by of_tray τ (i ∷ p) (Ok (Change c))) = record { count = refl; closed = sym (either_true τ.closed) } in
       record { answer = refl; reply = refl; pack = stored_here τ i (changed_of (pack_of τ i) c) h (omega (arith, h.few)); opening = opening }
-  taken_old k ahead (Run (Transact t)) a = let z : ◌≡◌ {A = ℕ} 1 0 = sym ahead ∙ ap ahead_of a.kind in absurd (omega arith)
-  taken_old k ahead (Refused r) a = record { answer = refl; reply = refl; pack = refl; opening = refused_opens τ (i ∷ p) r }
+  taken_old k ahead (Ok (Transact t)) a = let z : ◌≡◌ {A = ℕ} 1 0 = sym ahead ∙ ap ahead_of a.kind in absurd (omega arith)
+  taken_old k ahead (Err r) a = record { answer = refl; reply = refl; pack = refl; opening = refused_opens τ (i ∷ p) r }
 
   did_old : (n m : ℕ) → Stands n m → (room : ℕ) → AsOld τ i (tray_did τ room (whole n (i ∷ p))) (did_of (loaded_with (pack_of τ i)) room (whole m p))
   unfolding tray_did did_of
   did_old n m s room =
       let e = asks_old n m s in
-      let full : Same (Refused refusal.Room) = record { answer = refl; reply = refl; pack = refl; opening = refused_opens τ (i ∷ p) refusal.Room } in
+      let full : Same (Err refusal.Room) = record { answer = refl; reply = refl; pack = refl; opening = refused_opens τ (i ∷ p) refusal.Room } in
       rw e.0 (fitted_has Same full room (old m) (taken_old (tray_kind_of n) e.1 (old m) (rw e.0 at (tray_asks τ n (i ∷ p)))))
 
 -- What a transaction asks is what it asks of a session whose gauge is the pack in any slot
@@ -110,20 +109,20 @@ module _ (τ : Tray) (h : Eight τ) (i : ℕ) (f : Form) (p : List ℕ) (reach :
   acted_old t r e = rw e (refl, stored_here τ i (act_of (pack_of τ i) t (master_of t p)) h (omega (arith, there, h.few)))
 
   taken_matched : (t : Taken) → Asks τ (kind.Transaction f) p t → Matched t
-  taken_matched (Run (Image g)) a = let z = a.kind in contrary cc
-  taken_matched (Run (Change c)) a = let z = a.ahead in contrary cc
-  taken_matched (Run (Transact t)) a =
+  taken_matched (Ok (Image g)) a = let z = a.kind in contrary cc
+  taken_matched (Ok (Change c)) a = let z = a.ahead in contrary cc
+  taken_matched (Ok (Transact t)) a =
       let e = acted_old t (tray_reach τ t (master_of t p)) (ap (λ (x : Transaction). tray_reach τ x (master_of x p)) (asked_form f refl a) ∙ reach) in
-      let opening : Closes τ (answered_by of_tray τ p (Run (Transact t))) =
+      let opening : Closes τ (answered_by of_tray τ p (Ok (Transact t))) =
       record { count = acted_count t (master_of t p) τ (tray_reach τ t (master_of t p)); closed = sym (either_true τ.closed) } in
       record { answer = refl; reply = e.0; pack = e.1; opening = opening }
-  taken_matched (Refused r) a = record { answer = refl; reply = refl; pack = refl; opening = refused_opens τ p r }
+  taken_matched (Err r) a = record { answer = refl; reply = refl; pack = refl; opening = refused_opens τ p r }
 
   did_matched : (room : ℕ) → AsOld τ i (tray_did τ room (whole (form_kind f) p)) (did_of (loaded_with (pack_of τ i)) room (whole (form_kind f) p))
   unfolding tray_did did_of
   did_matched room =
       let asks : Asks τ (kind.Transaction f) p matched_old = rw (asks_matched, transaction_kind f) at (tray_asks τ (form_kind f) p) in
-      let full : Matched (Refused refusal.Room) = record { answer = refl; reply = refl; pack = refl; opening = refused_opens τ p refusal.Room } in
+      let full : Matched (Err refusal.Room) = record { answer = refl; reply = refl; pack = refl; opening = refused_opens τ p refusal.Room } in
       rw asks_matched (fitted_has Matched full room matched_old (taken_matched matched_old asks))
 
 left_eight : {c : Call Tray} → Within tray_did empty_tray c → Eight c.ran.state

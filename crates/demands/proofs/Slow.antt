@@ -7,6 +7,7 @@ use native.Mathlib.Nat.{sub-zero}
 use borrow.Author.Tests.{le-ltb}
 use lib.Dec.{ltb, leb, eqb}
 use lib.ListN.{length, drop, replicate}
+use Rattle.std.specs.Prelude.{Ok, Err}
 use Rattle.numbers.specs.Choice.{pick}
 use Rattle.numbers.proofs.Bounds.{picked, through}
 use Rattle.state.specs.declared.Tick.{Tick}
@@ -37,9 +38,7 @@ use Rattle.record.specs.declared.Refusal.TheVariants as refusal
 use Rattle.record.specs.declared.Event.TheVariants.{Image, Change, Transact}
 use Rattle.record.specs.declared.Change.{Change as Changes}
 use Rattle.record.specs.declared.Change.TheVariants as change
-use Rattle.record.specs.declared.Taken.{Taken}
-use Rattle.record.specs.declared.Taken.TheVariants.{Run, Refused}
-use Rattle.record.specs.Record.{kind_of, sized_of, read_count, limit_of, count_at, master_of, transaction_of, taken_of, timed_of, fitted_of}
+use Rattle.record.specs.Record.{kind_of, sized_of, read_count, limit_of, count_at, master_of, transaction_of, taken_of, timed_of, fitted_of, Taken}
 use Rattle.runs.specs.Record.{Rec, whole, cut, kind_in}
 use Rattle.runs.specs.Run.{Did, silently, Line, line_of, lines_after, end_after}
 use Rattle.runs.specs.AnyRecord.{answered_by}
@@ -71,7 +70,7 @@ unfolding did_of taken_of kind_of timely_of
 did_sample g room s = by (sample_fits (last_of g room) s)
   where
     by : (t : Bool) → answered_by of_session (loaded_with g) (s.c0 ∷ s.c1 ∷ s.c2 ∷ s.c3 ∷ s.low ∷ s.high ∷ [])
-        (fitted_of room (pick t (Run (Change (change.Sample (raw_in s) (tick_in s)))) (Refused refusal.Interval)))
+        (fitted_of room (pick t (Ok (Change (change.Sample (raw_in s) (tick_in s)))) (Err refusal.Interval)))
         ≡ pick t (silently (loaded_with (sampling_of g (raw_in s) (tick_in s))) 0) (silently (loaded_with g) 11)
     by true = rw (le-ltb room 0 zero-le) refl
     by false = refl
@@ -176,38 +175,38 @@ reply_unticked g t master =
 -- A record of another kind, in a session whose image was accepted: a power-on, or none; no image and no sample is taken
 
 abbrev Other : Bool → Taken → Type 0
-Other on (Run (Image f)) = ⊥
-Other on (Run (Change (change.Reading volt temp))) = on ≡ false
-Other on (Run (Change (change.Conversion raw))) = on ≡ false
-Other on (Run (Change (change.Sample raw tick))) = ⊥
-Other on (Run (Change change.PowerOn)) = on ≡ true
-Other on (Run (Transact t)) = on ≡ false
-Other on (Refused r) = on ≡ false
+Other on (Ok (Image f)) = ⊥
+Other on (Ok (Change (change.Reading volt temp))) = on ≡ false
+Other on (Ok (Change (change.Conversion raw))) = on ≡ false
+Other on (Ok (Change (change.Sample raw tick))) = ⊥
+Other on (Ok (Change change.PowerOn)) = on ≡ true
+Other on (Ok (Transact t)) = on ≡ false
+Other on (Err r) = on ≡ false
 
 module _ (p : List ℕ) where
   abbrev OtherKind : ℕ → Type 0
   OtherKind n = is_sample (whole n p) ≡ false → Other (is_power_on (whole n p)) (taken_of n true p)
 
   -- refused for its size, or not
-  sized_other : (sized : Bool) (t : Taken) → Other false t → Other false (pick sized t (Refused refusal.Size))
+  sized_other : (sized : Bool) (t : Taken) → Other false t → Other false (pick sized t (Err refusal.Size))
   sized_other true t h = h
   sized_other false t h = refl
 
   transaction_other : (f : Form) → Other false (transaction_of f p)
   transaction_other f = picked (Other false) (leb (read_count f p) (limit_of f)) _ _ (λ few. refl) (λ many. refl)
 
-  power_on_other : (sized : Bool) → Other sized (pick sized (Run (Change change.PowerOn)) (Refused refusal.Size))
+  power_on_other : (sized : Bool) → Other sized (pick sized (Ok (Change change.PowerOn)) (Err refusal.Size))
   power_on_other true = refl
   power_on_other false = refl
 
   known_other : Each OtherKind (1 ∷ 2 ∷ 3 ∷ 4 ∷ 5 ∷ 6 ∷ 7 ∷ 8 ∷ [])
   unfolding taken_of kind_of
   known_other =
-      let image : (n : ℕ) → Other false (pick (eqb (length p) n) (Refused refusal.Order) (Refused refusal.Size)) = λ n. sized_other (eqb (length p) n) _ refl in
-      let transaction : (f : Form) → Other false (pick (sized_of (kind.Transaction f) (length p)) (transaction_of f p) (Refused refusal.Size)) =
+      let image : (n : ℕ) → Other false (pick (eqb (length p) n) (Err refusal.Order) (Err refusal.Size)) = λ n. sized_other (eqb (length p) n) _ refl in
+      let transaction : (f : Form) → Other false (pick (sized_of (kind.Transaction f) (length p)) (transaction_of f p) (Err refusal.Size)) =
       λ f. sized_other (sized_of (kind.Transaction f) (length p)) (transaction_of f p) (transaction_other f) in
-      let reading = sized_other (eqb (length p) 8) (Run (Change (change.Reading (count_at p 0) (count_at p 4)))) refl in
-      let conversion = sized_other (eqb (length p) 4) (Run (Change (change.Conversion (count_at p 0)))) refl in (
+      let reading = sized_other (eqb (length p) 8) (Ok (Change (change.Reading (count_at p 0) (count_at p 4)))) refl in
+      let conversion = sized_other (eqb (length p) 4) (Ok (Change (change.Conversion (count_at p 0)))) refl in (
         λ e. image 60,
         (
           λ e. reading,
@@ -230,22 +229,22 @@ module _ (p : List ℕ) where
 
 -- it asks no tick, and room only if it is a transaction
 timed_other : (last : Tick) (on : Bool) (t : Taken) → Other on t → timed_of last t ≡ t
-timed_other last on (Run (Image f)) h = absurd h
-timed_other last on (Run (Change (change.Reading volt temp))) h = refl
-timed_other last on (Run (Change (change.Conversion raw))) h = refl
-timed_other last on (Run (Change (change.Sample raw tick))) h = absurd h
-timed_other last on (Run (Change change.PowerOn)) h = refl
-timed_other last on (Run (Transact t)) h = refl
-timed_other last on (Refused r) h = refl
+timed_other last on (Ok (Image f)) h = absurd h
+timed_other last on (Ok (Change (change.Reading volt temp))) h = refl
+timed_other last on (Ok (Change (change.Conversion raw))) h = refl
+timed_other last on (Ok (Change (change.Sample raw tick))) h = absurd h
+timed_other last on (Ok (Change change.PowerOn)) h = refl
+timed_other last on (Ok (Transact t)) h = refl
+timed_other last on (Err r) h = refl
 
 fitted_other : (room : ℕ) (on : Bool) (t : Taken) → Other on t → Other on (fitted_of room t)
-fitted_other room on (Run (Image f)) h = absurd h
-fitted_other room on (Run (Change (change.Reading volt temp))) h = rw (le-ltb room 0 zero-le) h
-fitted_other room on (Run (Change (change.Conversion raw))) h = rw (le-ltb room 0 zero-le) h
-fitted_other room on (Run (Change (change.Sample raw tick))) h = absurd h
-fitted_other room on (Run (Change change.PowerOn)) h = rw (le-ltb room 0 zero-le) h
-fitted_other room on (Run (Transact t)) h = picked (Other on) (ltb room t.count) _ _ (λ full. h) (λ fits. h)
-fitted_other room on (Refused r) h = h
+fitted_other room on (Ok (Image f)) h = absurd h
+fitted_other room on (Ok (Change (change.Reading volt temp))) h = rw (le-ltb room 0 zero-le) h
+fitted_other room on (Ok (Change (change.Conversion raw))) h = rw (le-ltb room 0 zero-le) h
+fitted_other room on (Ok (Change (change.Sample raw tick))) h = absurd h
+fitted_other room on (Ok (Change change.PowerOn)) h = rw (le-ltb room 0 zero-le) h
+fitted_other room on (Ok (Transact t)) h = picked (Other on) (ltb room t.count) _ _ (λ full. h) (λ fits. h)
+fitted_other room on (Err r) h = h
 
 -- in two states that are the same but for the tick it gets the same, and they stay the same
 record Alike (on : Bool) (g h : Gauge) (d e : Did Session) : Type 0 where
@@ -276,12 +275,12 @@ module _ (g h : Gauge) (e : unticked_gauge g ≡ unticked_gauge h) (p : List ℕ
 
   taken_alike : (on : Bool) (t : Taken) → Other on t → Alike on g h (answered_by of_session (loaded_with g) p t) (answered_by of_session (loaded_with h) p t)
   unfolding reading_of read_of drained_of results_shown conversion_of convert_of flowed_of power_on_of powered_of
-  taken_alike on (Run (Image f)) o = absurd o
-  taken_alike on (Run (Change (change.Reading volt temp))) o = changed_alike on (change.Reading volt temp) (λ f. refl) (rw o refl)
-  taken_alike on (Run (Change (change.Conversion raw))) o = changed_alike on (change.Conversion raw) (λ f. refl) (rw o refl)
-  taken_alike on (Run (Change (change.Sample raw tick))) o = absurd o
-  taken_alike on (Run (Change change.PowerOn)) o = changed_alike on change.PowerOn (λ f. refl) (rw o refl)
-  taken_alike on (Run (Transact t)) o =
+  taken_alike on (Ok (Image f)) o = absurd o
+  taken_alike on (Ok (Change (change.Reading volt temp))) o = changed_alike on (change.Reading volt temp) (λ f. refl) (rw o refl)
+  taken_alike on (Ok (Change (change.Conversion raw))) o = changed_alike on (change.Conversion raw) (λ f. refl) (rw o refl)
+  taken_alike on (Ok (Change (change.Sample raw tick))) o = absurd o
+  taken_alike on (Ok (Change change.PowerOn)) o = changed_alike on change.PowerOn (λ f. refl) (rw o refl)
+  taken_alike on (Ok (Transact t)) o =
       let master = master_of t p in
       record {
         one = act_of g t master;
@@ -293,7 +292,7 @@ module _ (g h : Gauge) (e : unticked_gauge g ≡ unticked_gauge h) (p : List ℕ
         answer = refl;
         reply = reply_unticked g t master ∙ ap (λ (f : Gauge). reply_of f t master) e ∙ sym (reply_unticked h t master);
       }
-  taken_alike on (Refused r) o = record { one = g; another = h; left = refl; right = refl; same = e; tick = rw o refl; answer = refl; reply = refl }
+  taken_alike on (Err r) o = record { one = g; another = h; left = refl; right = refl; same = e; tick = rw o refl; answer = refl; reply = refl }
 
 other_did : (g : Gauge) (room n : ℕ) (p : List ℕ) → is_sample (whole n p) ≡ false
     → did_of (loaded_with g) room (whole n p) ≡ answered_by of_session (loaded_with g) p (fitted_of room (taken_of n true p))

@@ -3,16 +3,15 @@ use mathlib.Core.Path.{◌≡◌, refl, sym, subst}
 use mathlib.Core.List.{List, [], ◌∷◌}
 use Prim.Native.Nat.{ℕ, zero, suc, ◌-◌}
 use lib.ListN.{length, get_or, drop, replicate}
+use Rattle.std.specs.Prelude.{Ok, Err}
 use Rattle.numbers.proofs.Bounds.{picked}
 use Rattle.slices.specs.Slices.{pair_at}
 use Rattle.state.specs.declared.Profile.TheVariants.{Ds2781}
 use Rattle.gauge.specs.declared.Gauge.{Gauge}
 use Rattle.record.specs.declared.Event.{Event}
 use Rattle.record.specs.declared.Event.TheVariants.{Image, Change, Transact}
-use Rattle.record.specs.declared.Taken.{Taken}
-use Rattle.record.specs.declared.Taken.TheVariants.{Run, Refused}
 use Rattle.record.specs.Image.{image_size}
-use Rattle.record.specs.Record.{master_of, fitted_of}
+use Rattle.record.specs.Record.{master_of, fitted_of, Taken}
 use Rattle.runs.specs.Record.{Rec, whole, cut, whole_of, rec_of, size_of, recs_from, recs_of}
 use Rattle.runs.specs.Run.{Did, lines_after, end_after, replies_of}
 use Rattle.runs.specs.AnyRecord.{answered_by}
@@ -78,8 +77,8 @@ module _ {S : Type 0} (pack : Pack S) where
   heard_bytes σ room (whole kind p) b = by (fitted_of room (pack.steps.told σ kind p))
     where
       by : (t : Taken) → HistoryBytes (heard_by pack σ p t)
-      by (Run e) = picked HistoryBytes (pack.hears σ p e) (event_happens p e ∷ []) [] (λ z. (event_bytes p e b, tt)) (λ z. tt)
-      by (Refused r) = tt
+      by (Ok e) = picked HistoryBytes (pack.hears σ p e) (event_happens p e ∷ []) [] (λ z. (event_bytes p e b, tt)) (λ z. tt)
+      by (Err r) = tt
   heard_bytes σ room cut b = tt
 
 module _ {S : Type 0} {did : S → ℕ → Rec → Did S} {start : S} {pack : Pack S} {Holds : S → Type 0} (f : Follows did start pack Holds) where
@@ -127,10 +126,10 @@ unfolding did_of
 reply_small σ room (whole kind p) s = by (fitted_of room (told_of σ.loaded (last_tick σ) kind p))
   where
     by : (t : Taken) → Bytes (answered_by of_session σ p t).reply
-    by (Run (Image f)) = none_bytes
-    by (Run (Change c)) = none_bytes
-    by (Run (Transact t)) = reply_bytes σ.gauge s t (master_of t p)
-    by (Refused r) = none_bytes
+    by (Ok (Image f)) = none_bytes
+    by (Ok (Change c)) = none_bytes
+    by (Ok (Transact t)) = reply_bytes σ.gauge s t (master_of t p)
+    by (Err r) = none_bytes
 reply_small σ room cut s = none_bytes
 
 replies_after : (rs : List Rec) (σ : Session) (room : ℕ) → AllRecBytes rs → SmallGauge σ.gauge → Bytes (replies_of (lines_after did_of σ room rs))

@@ -2,9 +2,8 @@
 use mathlib.Core.Path.{◌≡◌}
 use Prim.Native.Nat.{ℕ, ◌≤◌}
 use Rattle.runs.specs.Record.{Rec}
-use Rattle.runs.specs.Run.{Did}
+use Rattle.runs.specs.Run.{Did, Fits}
 use Rattle.runs.specs.SessionRecord.{did_of}
-use Rattle.runs.proofs.Lines.{Fits}
 use Rattle.runs.proofs.AnyRecord as session
 use Rattle.runs.proofs.OwnRoom.{did_own}
 use Rattle.runs.proofs.Steps.{step_by_step, roomy_lines, roomy_end}

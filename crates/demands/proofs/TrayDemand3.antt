@@ -9,12 +9,12 @@ use borrow.Author.Tests.{eqb-true, eqb-false}
 use lib.Dec.{eqb}
 use lib.ListN.{length, get_or, take, drop, length-append, take-append-drop, get_or-append}
 use lib.Seq.{get_or-append_seam}
+use Rattle.std.specs.Prelude.{Ok}
 use Rattle.numbers.specs.Choice.{pick}
 use Rattle.state.specs.declared.Profile.{Profile}
 use Rattle.gauge.specs.declared.Gauge.{Gauge}
 use Rattle.gauge.specs.Image.{image_of}
 use Rattle.record.specs.declared.Event.TheVariants.{Image}
-use Rattle.record.specs.declared.Taken.TheVariants.{Run}
 use Rattle.record.specs.Image.{image_address}
 use Rattle.runs.specs.Record.{Rec, recs_of}
 use Rattle.runs.specs.Run.{Line, end_after}
@@ -34,7 +34,7 @@ use Rattle.demands.proofs.Sides.{tray_swaps}
 
 -- The tray after the opening has the addresses of the images
 
-joined_owns : (f : Profile) (addresses : List (List ℕ)) (τ : Tray) (p : List ℕ) → Owns addresses τ → tray_told τ (image_kind f) p ≡ Run (Image f)
+joined_owns : (f : Profile) (addresses : List (List ℕ)) (τ : Tray) (p : List ℕ) → Owns addresses τ → tray_told τ (image_kind f) p ≡ Ok (Image f)
     → Owns (addresses ++ (image_address p ∷ [])) (pack_joined τ (image_of f p))
 unfolding image_of
 joined_owns f addresses τ p h e =

@@ -3,10 +3,9 @@
 -- "A read or write touches the addresses it runs over, up to FFh; copy, recall and lock touch the whole block named; an unselected transaction, a net
 -- address read or a refused one touches none. Label event: a transaction that touches some address, all in 20h..2Fh, and is no lock. Gauge event: a
 -- reading, a conversion, a record refused with 3, 4 or 8, or a transaction touching nothing in 20h..2Fh. Fence: all others."
-use Rattle.std.specs.Prelude.{◌≡◌, List, [], ◌∷◌, ◌++◌, map, ℕ, replicate}
+use Rattle.std.specs.Prelude.{◌≡◌, List, [], ◌∷◌, ◌++◌, map, ℕ, replicate, Err}
 use Rattle.record.specs.declared.Form.TheVariants.{Long}
 use Rattle.record.specs.declared.Refusal.TheVariants.{Breaks, Repeated}
-use Rattle.record.specs.declared.Taken.TheVariants.{Refused}
 use Rattle.runs.specs.Record.{Rec, whole, cut}
 use Rattle.demands.specs.Longer.{record_in, reading}
 use Rattle.demands.specs.Sections.{Class, labelling, gauging, fence}
@@ -142,5 +141,5 @@ pub record ClassesHold : Type 0 where
   pub session : map (λ c. class_of own_address c.0) class_cases ≡ map (λ c. c.1) class_cases
   pub tray : map (λ c. tray_class (own_address ∷ second_address ∷ []) c.0) tray_class_cases ≡ map (λ c. c.1) tray_class_cases
   -- a record that is refused with 10, or with 12 before the opening is closed. Once an image was accepted there is none in a session
-  pub crossed : (selects : Selects) (p : List ℕ) → taken_class selects p (Refused Breaks) ≡ fence
-  pub repeated : (selects : Selects) (p : List ℕ) → taken_class selects p (Refused Repeated) ≡ fence
+  pub crossed : (selects : Selects) (p : List ℕ) → taken_class selects p (Err Breaks) ≡ fence
+  pub repeated : (selects : Selects) (p : List ℕ) → taken_class selects p (Err Repeated) ≡ fence

@@ -1,6 +1,6 @@
 -- "Three classes" of document 01, of a record in a session whose image was accepted, and in a tray whose images were. A class looks at the
 -- record and at the net addresses, and at nothing else.
-use Rattle.std.specs.Prelude.{Bool, true, false, not, List, [], ◌∷◌, ℕ, zero, suc, ◌+◌, length, drop, leb, eqb}
+use Rattle.std.specs.Prelude.{Bool, true, false, not, List, [], ◌∷◌, ℕ, zero, suc, ◌+◌, length, drop, leb, eqb, Ok, Err}
 use Rattle.numbers.specs.Choice.{pick, both, either}
 use Rattle.label.specs.Label.{in_label, in_block}
 use Rattle.bus.specs.declared.Command.{Command}
@@ -11,10 +11,8 @@ use Rattle.record.specs.declared.Event.{Event}
 use Rattle.record.specs.declared.Change.{Change}
 use Rattle.record.specs.declared.Change.TheVariants as change
 use Rattle.record.specs.declared.Event.TheVariants as event
-use Rattle.record.specs.declared.Taken.{Taken}
-use Rattle.record.specs.declared.Taken.TheVariants.{Run, Refused}
 use Rattle.runs.specs.Record.{Rec, whole, cut}
-use Rattle.record.specs.Record.{refusal_number, master_of, taken_of}
+use Rattle.record.specs.Record.{refusal_number, master_of, taken_of, Taken}
 use Rattle.state.specs.State.{no_tick}
 use Rattle.tray_record.specs.Tray.{tray_asked_at}
 use Rattle.demands.specs.Sections.{Class, labelling, gauging, fence}
@@ -100,8 +98,8 @@ abbrev pub refused_class : ℕ → Class
 refused_class n = pick (either (eqb n 3) (either (eqb n 4) (eqb n 8))) gauging fence
 
 abbrev pub taken_class : Selects → List ℕ → Taken → Class
-taken_class selects p (Run e) = event_class selects p e
-taken_class selects p (Refused r) = refused_class (refusal_number r)
+taken_class selects p (Ok e) = event_class selects p e
+taken_class selects p (Err r) = refused_class (refusal_number r)
 
 -- by what a record of a kind and a payload asks. A cut record is answered with 2 and so is a fence
 abbrev pub class_by : (ℕ → List ℕ → Taken) → Selects → Rec → Class

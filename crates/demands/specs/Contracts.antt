@@ -6,10 +6,12 @@ use denote.Triple.Entry.{Args, Res}
 use denote.Triple.Clauses.{Ended, AtExit, Lasts, at_exit}
 use Rattle.runs.specs.declared.Session.{Session}
 use Rattle.runs.specs.SessionRecord.{did_of}
-use Rattle.session_run.specs.SessionRun.{empty_of, result_of, TakenOut}
+use Rattle.runs.specs.Out.{number_in}
+use Rattle.runs.specs.Run.{result_of}
+use Rattle.session_run.specs.SessionRun.{empty_of, take_out_of, TakenOut}
 use Rattle.tray_record.specs.declared.Tray.{Tray}
 use Rattle.tray_record.specs.Tray.{empty_tray, tray_did}
-use Rattle.tray_run.specs.TrayRun.{tray_result_of, SlotOut}
+use Rattle.tray_run.specs.TrayRun.{slot_out_of, SlotOut}
 use Rattle.state.specs.State.{MeterWf}
 use Rattle.samples.specs.Samples.{sampled_of}
 use Rattle.preset_session.specs.PresetSession.{Programming}
@@ -65,15 +67,17 @@ session_call κs a r w =
 abbrev pub tray_call : (κs : Lfts (tray'.ended).signature.lifetimes) (a : Args (tray'.ended).signature κs)
     → Res (tray'.ended).signature κs → Lasts tray'.ended κs a → Call Tray
 tray_call κs a r w =
-    record { bytes = a.0.now; room = a.1.0.now; answers = a.1.1.0.now; ran = tray_result_of r; replies = w.1.0; told = w.1.1.0 }
+    record { bytes = a.0.now; room = a.1.0.now; answers = a.1.1.0.now; ran = result_of r; replies = w.1.0; told = w.1.1.0 }
 
 pub record Contracts : Type 0 where
   -- `session_run::run` and `session_run::take_out`
   pub run : ContractIs session'.ended session.Reads.Learnt (λ κs a r w. Allowed did_of empty_of (session_call κs a r w))
-  pub take_out : ContractIs image'.ended image.Reads.Learnt (λ κs a r w. TakenOut a.0 a.1.0.now r w.1.0)
+  pub take_out : ContractIs image'.ended image.Reads.Learnt
+      (λ κs a r w. (r ≡ take_out_of a.0 a.1.0.now) × TakenOut a.0 a.1.0.now (number_in r) w.1.0)
   -- `tray_run::run` and `tray_run::take_out`
   pub tray_run : ContractIs tray'.ended tray.Reads.Learnt (λ κs a r w. Allowed tray_did empty_tray (tray_call κs a r w))
-  pub slot_out_lem : ContractIs slot'.ended slot.Reads.Learnt (λ κs a r w. SlotOut a.0 a.1.0 a.1.1.0.now r w.1.1.0)
+  pub slot_out_lem : ContractIs slot'.ended slot.Reads.Learnt
+      (λ κs a r w. (r ≡ slot_out_of a.0 a.1.0 a.1.1.0.now) × SlotOut a.0 a.1.0 a.1.1.0.now (number_in r) w.1.1.0)
   -- `preset_session::write_session`
   pub write_session : ContractIs programmer'.ended programmer.Reads.Learnt
       (λ κs a r w. Programming a.0.now a.1.0.now a.1.1.0.now r w.1.1.0)

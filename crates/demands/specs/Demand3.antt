@@ -4,15 +4,13 @@
 -- order, which between neighbouring fences and after the last hold the same label events in the same order and the same gauge events in the
 -- same order, mixed differently: each event gets the same answer and reply bytes in both, those that demand 2 gives, and both end in the same
 -- state." Document 01 names the three classes.
-use Rattle.std.specs.Prelude.{◌≡◌, false, List, [], ◌∷◌, ◌++◌, map, ℕ, ◌+◌, ◌≤◌, eqb, length, take, drop}
+use Rattle.std.specs.Prelude.{◌≡◌, false, List, [], ◌∷◌, ◌++◌, map, ℕ, ◌+◌, ◌≤◌, eqb, length, take, drop, Ok, Err}
 use Rattle.numbers.specs.Choice.{pick}
 use Rattle.state.specs.declared.Profile.{Profile}
 use Rattle.demands.specs.Images.{image_kind}
 use Rattle.record.specs.declared.Event.TheVariants.{Image}
-use Rattle.record.specs.declared.Taken.{Taken}
-use Rattle.record.specs.declared.Taken.TheVariants.{Run, Refused}
 use Rattle.record.specs.Image.{image_address}
-use Rattle.record.specs.Record.{taken_of, asks_of}
+use Rattle.record.specs.Record.{taken_of, asks_of, Taken}
 use Rattle.runs.specs.Record.{Rec, whole, cut, recs_of}
 use Rattle.runs.specs.Run.{Did, Line}
 use Rattle.replies.specs.Reply.{selected_of}
@@ -27,8 +25,8 @@ use Rattle.demands.specs.Class.{Selects, class_by, session_asked, tray_asked, so
 
 -- what a record asks, after the images were accepted: of a transaction that is not refused, the read count
 abbrev pub taken_asks : Taken → ℕ
-taken_asks (Run e) = asks_of e
-taken_asks (Refused r) = 0
+taken_asks (Ok e) = asks_of e
+taken_asks (Err r) = 0
 
 module _ (asked : ℕ → List ℕ → Taken) where
   abbrev pub rec_asks : Rec → ℕ
@@ -68,7 +66,7 @@ abbrev pub SessionsMixed : Profile → List ℕ → List Rec → List Rec → Ca
 SessionsMixed profile p = Mixed did_of empty_of session_asked (selected_of (image_address p)) (whole (image_kind profile) p ∷ [])
 
 abbrev pub Demand3 : Type 0
-Demand3 = (f : Profile) (p : List ℕ) (xs ys : List Rec) (a b : Call Session) → taken_of (image_kind f) false p ≡ Run (Image f)
+Demand3 = (f : Profile) (p : List ℕ) (xs ys : List Rec) (a b : Call Session) → taken_of (image_kind f) false p ≡ Ok (Image f)
     → SessionsMixed f p xs ys a b
     → KeptApart did_of empty_of session_asked (selected_of (image_address p)) a b
 
@@ -79,7 +77,7 @@ pub record Demand3Met (profile : Profile) : Type 0 where
   pub others : List Rec
   pub one : Call Session
   pub other : Call Session
-  pub accepted : taken_of (image_kind profile) false image ≡ Run (Image profile)
+  pub accepted : taken_of (image_kind profile) false image ≡ Ok (Image profile)
   pub mixed : SessionsMixed profile image ones others one other
   pub differ : one.bytes ≡ other.bytes → ⊥
 

@@ -1,5 +1,5 @@
 -- THE HISTORY OF A PACK: what it goes through in a run, read off the records; of the gauge of a session, and of each slot of a tray.
-use Rattle.std.specs.Prelude.{◌≡◌, Bool, true, false, List, [], ◌∷◌, ◌++◌, ℕ, ◌-◌, ltb, eqb, length, drop}
+use Rattle.std.specs.Prelude.{◌≡◌, Bool, true, false, List, [], ◌∷◌, ◌++◌, ℕ, ◌-◌, ltb, eqb, length, drop, Ok, Err}
 use Rattle.numbers.specs.Choice.{pick}
 use Rattle.state.specs.declared.Profile.{Profile}
 use Rattle.bus.specs.declared.Transaction.{Transaction}
@@ -10,9 +10,7 @@ use Rattle.gauge.specs.Image.{image_of}
 use Rattle.record.specs.declared.Change.{Change as Changes}
 use Rattle.record.specs.declared.Event.{Event}
 use Rattle.record.specs.declared.Event.TheVariants.{Image, Change, Transact}
-use Rattle.record.specs.declared.Taken.{Taken}
-use Rattle.record.specs.declared.Taken.TheVariants.{Run, Refused}
-use Rattle.record.specs.Record.{master_of, fitted_of}
+use Rattle.record.specs.Record.{master_of, fitted_of, Taken}
 use Rattle.runs.specs.Record.{Rec, whole, cut, recs_of}
 use Rattle.runs.specs.Run.{Did}
 use Rattle.runs.specs.declared.Session.{Session}
@@ -89,8 +87,8 @@ event_happens p (Transact t) = transacted t (master_of t p)
 module _ {S : Type 0} (pack : Pack S) where
   -- a record that is refused brings nothing
   abbrev pub heard_by : S → List ℕ → Taken → List Happening
-  heard_by σ p (Run e) = pick (pack.hears σ p e) (event_happens p e ∷ []) []
-  heard_by σ p (Refused r) = []
+  heard_by σ p (Ok e) = pick (pack.hears σ p e) (event_happens p e ∷ []) []
+  heard_by σ p (Err r) = []
 
   -- with so many bytes of reply room left
   abbrev pub heard_in : S → ℕ → Rec → List Happening

@@ -1,5 +1,5 @@
 -- LONGER TRANSACTIONS: ".. it is proved once for both limits that a transaction allowed in both forms gives one answer."
-use Rattle.std.specs.Prelude.{◌≡◌, List, [], ◌∷◌, map, ℕ, ◌/◌, ◌%◌, ◌≤◌, leb, length, get_or, drop}
+use Rattle.std.specs.Prelude.{◌≡◌, List, [], ◌∷◌, map, ℕ, ◌/◌, ◌%◌, ◌≤◌, leb, length, get_or, drop, Ok, Err}
 use Rattle.numbers.specs.Choice.{pick, both}
 use Rattle.bus.specs.Ask.{asked_of}
 use Rattle.replies.specs.Reply.{read_byte, listed}
@@ -9,7 +9,6 @@ use Rattle.record.specs.declared.Form.TheVariants.{Short, Long}
 use Rattle.record.specs.declared.Kind.TheVariants.{Transaction}
 use Rattle.record.specs.declared.Event.TheVariants.{Transact}
 use Rattle.record.specs.declared.Refusal.TheVariants.{Count}
-use Rattle.record.specs.declared.Taken.TheVariants.{Run, Refused}
 use Rattle.record.specs.Record.{limit_of, sized_of, transaction_of}
 use Rattle.runs.specs.Record.{Rec, whole}
 use Rattle.runs.specs.Run.{Did, Line, lines_after, end_after, replies_of}
@@ -84,7 +83,7 @@ pub record AsBefore : Type 0 where
   -- 4: not "1 to 65" bytes
   pub sizes : (n : ℕ) → sized_of (Transaction Short) n ≡ both (leb 1 n) (leb n 65)
   -- 8: "read count above 64"
-  pub asks : (p : List ℕ) → transaction_of Short p ≡ pick (leb (get_or p 0 0) 64) (Run (Transact (asked_of 1 (get_or p 0 0) (drop 1 p)))) (Refused Count)
+  pub asks : (p : List ℕ) → transaction_of Short p ≡ pick (leb (get_or p 0 0) 64) (Ok (Transact (asked_of 1 (get_or p 0 0) (drop 1 p)))) (Err Count)
 
 -- ---- the theorem
 

@@ -8,8 +8,7 @@ use Rattle.std.specs.Prelude.{◌≡◌, List, [], ◌∷◌, ◌++◌, ℕ, len
 use Rattle.state.specs.declared.Profile.TheVariants.{Ds2781}
 use Rattle.record.specs.Image.{image_size}
 use Rattle.gauge.specs.Image.{image_of}
-use Rattle.mending.specs.declared.Mended.TheVariants.{Done}
-use Rattle.mending.specs.Mending.{Mending}
+use Rattle.mending.specs.Mending.{mend_done, Mending}
 use Rattle.mending.specs.Worth.{Accepted, Mendable, SoundImage}
 use Rattle.runs.specs.Record.{recs_of, record_of}
 use Rattle.runs.specs.Run.{lines_after}
@@ -20,7 +19,7 @@ use Rattle.demands.specs.Call.{Call, Within, lines_in, Told}
 
 -- what `mend` leaves at the front of the room is the first record of the session of c, and any bytes come after it
 pub record MendedFirst (image room after rest : List ℕ) (c : Call Session) : Type 0 where
-  pub mended : Mending image room Done after
+  pub mended : Mending image room mend_done after
   pub session : c.bytes ≡ record_of 1 (take image_size after) ++ rest
   pub run : Within did_of empty_of c
 
@@ -41,5 +40,5 @@ pub record MendingMet : Type 0 where
   pub refused : Accepted damaged → ⊥
   pub mendable : Mendable damaged
   pub room : List ℕ
-  pub mended : Mending damaged room Done sound
+  pub mended : Mending damaged room mend_done sound
   pub is_sound : SoundImage sound

@@ -13,9 +13,7 @@ use Rattle.block1.specs.Block1.{reblocked_of}
 use Rattle.gauge.specs.Image.{image_of}
 use Rattle.record.specs.Image.{image_address, image_label, image_block, image_acr, image_aging, image_bl0, image_bl1}
 use Rattle.record.specs.Record.{judged_by, taken_of}
-use Rattle.preset_session.specs.declared.Written.{Written}
-use Rattle.preset_session.specs.declared.Written.TheVariants.{Done}
-use Rattle.preset_session.specs.PresetSession.{programming_size, written_number, Granted, Programming}
+use Rattle.preset_session.specs.PresetSession.{Written, write_done, programming_size, written_number, Granted, Programming}
 use Rattle.runs.specs.Run.{Line}
 use Rattle.runs.specs.declared.Session.{Session}
 use Rattle.runs.specs.SessionRecord.{did_of, loaded_with}
@@ -78,11 +76,11 @@ BenchTheorem =
     (image wanted room : List ℕ) (said : Written) (after : List ℕ) (c : Call Session) → Granted image wanted (length room)
     → Bench image wanted room said after c → BenchHolds image wanted said c
 
--- and so of every call of `write_session` that says `Done`, whatever it was given: it was such then
+-- and so of every call of `write_session` that answers `write_done`, whatever it was given: it was such then
 abbrev pub DoneTheorem : Type 0
 DoneTheorem =
-    (image wanted room after : List ℕ) (c : Call Session) → Bench image wanted room Done after c
-    → Granted image wanted (length room) × BenchHolds image wanted Done c
+    (image wanted room after : List ℕ) (c : Call Session) → Bench image wanted room write_done after c
+    → Granted image wanted (length room) × BenchHolds image wanted write_done c
 
 -- and it speaks of something: an image, and bytes that are wanted and that it does not have in block 1
 pub record BenchMet : Type 0 where
@@ -92,5 +90,5 @@ pub record BenchMet : Type 0 where
   pub after : List ℕ
   pub call : Call Session
   pub granted : Granted image wanted (length room)
-  pub bench : Bench image wanted room Done after call
+  pub bench : Bench image wanted room write_done after call
   pub new : wanted ≡ image_block image → ⊥

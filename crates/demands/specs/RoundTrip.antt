@@ -3,9 +3,7 @@
 -- call that reads it.
 use Rattle.std.specs.Prelude.{◌≡◌, true, List, ℕ, ◌≤◌, length, take}
 use Rattle.record.specs.Image.{image_label, image_bl0}
-use Rattle.intel_hex.specs.declared.Answer.{Answer}
-use Rattle.intel_hex.specs.declared.Answer.TheVariants.{Done}
-use Rattle.intel_hex.specs.Export.{export_size, Exporting}
+use Rattle.intel_hex.specs.Export.{Answer, done, export_size, Exporting}
 use Rattle.intel_hex.specs.Import.{import_size, Importing}
 use Rattle.intel_hex.specs.Theorems.{Bytes, Reordered}
 
@@ -18,7 +16,7 @@ pub record RoundTripMet : Type 0 where
   pub locked : image_bl0 pack ≡ true
   pub room : List ℕ
   pub after : List ℕ
-  pub wrote : Exporting pack factory room Done after
+  pub wrote : Exporting pack factory room done after
   pub lines : List (List ℕ)
   pub text : List ℕ
   pub reordered : Reordered pack factory lines text

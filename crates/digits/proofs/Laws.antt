@@ -16,7 +16,9 @@ use Rattle.slices.specs.Slices.{put, part}
 use Rattle.slices.proofs.Laws.{put_length, put_next, part_rest}
 use Rattle.digits.specs.declared.Twos.{Twos}
 use Rattle.digits.specs.Digits.{lower, pair_text, hex_text, digit_of, packed_pair, packed_of, places_of, shown_text, place_text}
-use Rattle.digits.specs.Digits.{short_text, fives_text, decimal_text, width_of, Writing}
+use Rattle.digits.specs.Digits.{short_text, fives_text, decimal_text, width_of, Writing, Blank, Appends}
+use Rattle.digits.specs.declared.Page.{Page}
+use Rattle.std.specs.Borrow.{MutBor}
 
 -- ---- writing
 
@@ -25,27 +27,72 @@ pub kept : {m i j : ℕ} {xs l l' : List ℕ} → Writing m xs l i j l' → leng
 kept {m} {i} {j} {xs} {l} {l'} w = ap length w.written ∙ put_length l i xs
 
 -- nothing
-pub none : (l : List ℕ) (i : ℕ) → Writing 0 [] l i i l
-none l i = record { onward = sym (add-zero i); written = refl; within = omega arith }
-
--- a piece, and one behind it
-pub then : {m n i j k : ℕ} {xs ys l l' l'' : List ℕ} → Writing m xs l i j l' → Writing n ys l' j k l'' → Writing (m + n) (xs ++ ys) l i k l''
-then {m} {n} {i} {j} {k} {xs} {ys} {l} {l'} {l''} w v = record {
-  onward = omega (arith, length-append xs ys, w.onward, v.onward);
-  written = v.written ∙ ap (λ (r : List ℕ). put r j ys) w.written ∙ put_next l i j xs ys w.onward;
-  within = omega (arith, w.within, v.within);
-}
+pub unwritten : (m : ℕ) (l : List ℕ) (i : ℕ) → Writing m [] l i i l
+unwritten m l i = record { onward = sym (add-zero i); written = refl; within = omega arith }
 
 -- a larger bound
-pub wider : {m n i j : ℕ} {xs l l' : List ℕ} → Writing m xs l i j l' → m ≤ n → Writing n xs l i j l'
-wider w h = record { onward = w.onward; written = w.written; within = omega (arith, w.within) }
+pub wider_writing : {m n i j : ℕ} {xs l l' : List ℕ} → Writing m xs l i j l' → m ≤ n → Writing n xs l i j l'
+wider_writing w h = record { onward = w.onward; written = w.written; within = omega (arith, w.within) }
+
+-- ---- pages
+
+-- nothing
+pub none : (p : Page) → Appends 0 [] p p
+none p = record { place = refl; lent = refl; size = refl; writing = unwritten 0 p.room.now p.used }
+
+-- a piece, and one behind it
+pub then : {m n : ℕ} {xs ys : List ℕ} {p q r : Page} → Appends m xs p q → Appends n ys q r → Appends (m + n) (xs ++ ys) p r
+then {m} {n} {xs} {ys} {p} {q} {r} a b = let w = a.writing in
+    let v = b.writing in
+    record {
+      place = b.place ∙ a.place;
+      lent = b.lent ∙ a.lent;
+      size = b.size ∙ a.size;
+      writing =
+          record {
+            onward = omega (arith, length-append xs ys, w.onward, v.onward);
+            written = v.written ∙ ap (λ (l : List ℕ). put l q.used ys) w.written ∙ put_next p.room.now p.used q.used xs ys w.onward;
+            within = omega (arith, w.within, v.within);
+          };
+    }
+
+-- a larger bound
+pub wider : {m n : ℕ} {xs : List ℕ} {p q : Page} → Appends m xs p q → m ≤ n → Appends n xs p q
+wider a h = record { place = a.place; lent = a.lent; size = a.size; writing = wider_writing a.writing h }
+
+-- a bound that the bytes themselves give, where they are fewer than was said
+pub narrow : {m n : ℕ} {xs : List ℕ} {p q : Page} → Appends m xs p q → length xs ≤ n → Appends n xs p q
+narrow {xs = xs} a h =
+    let w = a.writing in
+    record {
+      place = a.place;
+      lent = a.lent;
+      size = a.size;
+      writing = record { onward = w.onward; written = w.written; within = omega (arith, w.onward) };
+    }
+
+-- the bytes of a list one by one: the next one, and all
+next_taken : (s : List ℕ) (i : ℕ) → i < length s → take (i + 1) s ≡ take i s ++ get_or s i 0 ∷ []
+next_taken s i h = rw (add-one, take-suc s i 0) refl
+
+pub one_more : (s : List ℕ) (i : ℕ) {p q r : Page} → i < length s → Appends i (take i s) p q → Appends 1 (get_or s i 0 ∷ []) q r
+    → Appends (i + 1) (take (i + 1) s) p r
+one_more s i h a b = rw (next_taken s i h) (then a b)
+
+pub all_of : (s : List ℕ) (i : ℕ) {m : ℕ} {p q : Page} → length s ≤ i → Appends m (take i s) p q → Appends m s p q
+all_of s i h a = rw (take_all i s h) at a
+
+-- what is put on a page of which nothing was written stands at the front of the room
+pub fronted : {m : ℕ} {xs last : List ℕ} {room : MutBor (List ℕ)} {p q : Page} → Blank room p → Appends m xs p q → last ≡ q.room.now
+    → Writing m xs room.now 0 q.used last
+fronted blank put ended = rw (ended, ← blank.same, ← blank.front) put.writing
 
 -- ---- bytes in hex
 
 -- a letter is so much more than a decimal digit would be
-pub lettered : (t : Bool) (d : ℕ) → 48 + d + pick t 0 39 ≡ pick t (48 + d) (87 + d)
-lettered true d = omega arith
-lettered false d = omega arith
+pub lettered : (t : Bool) (d letter : ℕ) → 58 ≤ letter → 48 + d + pick t 0 (letter - 10 - 48) ≡ pick t (48 + d) (letter - 10 + d)
+lettered true d letter h = omega arith
+lettered false d letter h = omega arith
 
 pub hex_append : (letter : ℕ) (xs ys : List ℕ) → hex_text letter (xs ++ ys) ≡ hex_text letter xs ++ hex_text letter ys
 hex_append letter [] ys = refl
@@ -57,24 +104,19 @@ pub hex_more : (letter : ℕ) (s : List ℕ) (i : ℕ) → i < length s →
 hex_more letter s i h = sym (rw (add-one, take-suc s i 0) (hex_append letter (take i s) (get_or s i 0 ∷ [])))
 
 -- the bytes so far stand in hex, and one byte more behind them
-pub hex_then : (letter : ℕ) {at next last : ℕ} {out out' out'' : List ℕ} (s : List ℕ) (i : ℕ) → i < length s
-    → Writing (2 * i) (hex_text letter (take i s)) out at next out' → Writing 2 (pair_text letter (get_or s i 0)) out' next last out''
-    → Writing (2 * (i + 1)) (hex_text letter (take (i + 1) s)) out at last out''
-hex_then letter s i h w v = rw (← hex_more letter s i h) (wider (then w v) (omega arith))
-
--- none is left
-pub hex_all : (letter : ℕ) {at next : ℕ} {out out' : List ℕ} (s : List ℕ) (i : ℕ) → length s ≤ i → i ≤ length s
-    → Writing (2 * i) (hex_text letter (take i s)) out at next out' → Writing (2 * length s) (hex_text letter s) out at next out'
-hex_all letter s i h k w = wider (rw (take_all i s h) at w) (omega arith)
+pub hex_then : (letter : ℕ) {p q r : Page} (s : List ℕ) (i : ℕ) → i < length s
+    → Appends (2 * i) (hex_text letter (take i s)) p q → Appends 2 (pair_text letter (get_or s i 0)) q r
+    → Appends (2 * (i + 1)) (hex_text letter (take (i + 1) s)) p r
+hex_then letter s i h a b = rw (← hex_more letter s i h) (wider (then a b) (omega arith))
 
 -- the bytes up to a place, and behind them those from there on
-pub hex_parts : {at next last : ℕ} {out out' out'' : List ℕ} (s : List ℕ) (i : ℕ) → i ≤ length s
-    → Writing (2 * length (take i s)) (hex_text lower (take i s)) out at next out'
-    → Writing (2 * length (part (length s - i) s i)) (hex_text lower (part (length s - i) s i)) out' next last out''
-    → Writing (2 * length s) (hex_text lower s) out at last out''
-hex_parts s i h w v =
+pub hex_parts : {p q r : Page} (s : List ℕ) (i : ℕ) → i ≤ length s
+    → Appends (2 * length (take i s)) (hex_text lower (take i s)) p q
+    → Appends (2 * length (part (length s - i) s i)) (hex_text lower (part (length s - i) s i)) q r
+    → Appends (2 * length s) (hex_text lower s) p r
+hex_parts s i h a b =
     let whole = sym (hex_append lower (take i s) (drop i s)) ∙ ap (hex_text lower) (take-append-drop i s) in
-    rw (← whole) (wider (then w (rw (part_rest s i) at v)) (omega (arith, length-take-le i s h, length-drop i s)))
+    rw (← whole) (wider (then a (rw (part_rest s i) at b)) (omega (arith, length-take-le i s h, length-drop i s)))
 
 -- ---- the next number
 
@@ -137,6 +179,10 @@ fives_short (suc k) n h = rw (lt-ltb n 100000 h) refl
 pub fives_long : (k n : ℕ) → 100000 ≤ n → fives_text (suc k) n ≡ fives_text k (n / 100000) ++ places_of n
 fives_long k n h = rw (le-ltb n 100000 h) refl
 
+pub fives_next : (more n : ℕ) → 1 ≤ more → 100000 ≤ n → fives_text more n ≡ fives_text (more - 1) (n / 100000) ++ places_of n
+fives_next zero n some h = absurd (omega arith)
+fives_next (suc k) n some h = let e : suc k - 1 ≡ k = omega arith in rw e (fives_long k n h)
+
 pub decimal_short : (n : ℕ) → n < 100000 → decimal_text n ≡ short_text n
 unfolding decimal_text
 decimal_short n h = fives_short 3 n h
@@ -161,11 +207,7 @@ single n h =
     rw (decimal_short n (omega arith), left_out n 10000 (omega arith), left_out n 1000 (omega arith), left_out n 100 (omega arith), left_out n 10 h)
     (ap (λ (k : ℕ). (48 + k) ∷ []) e)
 
--- ---- a bound that the bytes themselves give
-
--- where they are fewer than was said
-pub narrow : {m n i j : ℕ} {xs l l' : List ℕ} → Writing m xs l i j l' → length xs ≤ n → Writing n xs l i j l'
-narrow {xs = xs} w h = record { onward = w.onward; written = w.written; within = omega (arith, w.onward) }
+-- ---- how many digits
 
 shown_few : (place n digit : ℕ) → length (shown_text place n digit) ≤ 1
 unfolding shown_text

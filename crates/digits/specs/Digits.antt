@@ -3,7 +3,11 @@ use Rattle.std.specs.Prelude.{◌≡◌, Bool, true, List, [], ◌∷◌, ◌++�
 use Prim.Native.Char.{code}
 use Rattle.numbers.specs.Choice.{pick, both, either}
 use Rattle.slices.specs.Slices.{put}
+use Rattle.digits.specs.declared.Letters.{Letters}
+use Rattle.digits.specs.declared.Letters.TheVariants.{Lower, Upper}
 use Rattle.digits.specs.declared.Twos.{Twos}
+use Rattle.digits.specs.declared.Page.{Page}
+use Rattle.std.specs.Borrow.{MutBor}
 
 -- ---- hexadecimal
 
@@ -16,6 +20,11 @@ lower = code "a"
 
 abbrev pub upper : ℕ
 upper = code "A"
+
+-- the letter that ten is shown as
+abbrev pub letter_of : Letters → ℕ
+letter_of Lower = lower
+letter_of Upper = upper
 
 -- a byte as two digits
 abbrev pub pair_text : ℕ → ℕ → List ℕ
@@ -112,3 +121,17 @@ pub record Writing (most : ℕ) (bytes before : List ℕ) (at next : ℕ) (after
   pub onward : next ≡ at + length bytes
   pub written : after ≡ put before at bytes
   pub within : next ≤ at + most
+
+-- a page is the lent room, and nothing of it is written
+pub record Blank (room : MutBor (List ℕ)) (page : Page) : Type 0 where
+  pub place : page.room.ref_ptr ≡ room.ref_ptr
+  pub lent : page.room.ghost_name ≡ room.ghost_name
+  pub same : page.room.now ≡ room.now
+  pub front : page.used ≡ 0
+
+-- the bytes were put behind what was written of a page, in the same room. That it keeps its length is said for the sums of callers
+pub record Appends (most : ℕ) (bytes : List ℕ) (before after : Page) : Type 0 where
+  pub place : after.room.ref_ptr ≡ before.room.ref_ptr
+  pub lent : after.room.ghost_name ≡ before.room.ghost_name
+  pub size : length after.room.now ≡ length before.room.now
+  pub writing : Writing most bytes before.room.now before.used after.used after.room.now

@@ -1,30 +1,30 @@
-// Numbers as text: hexadecimal and decimal digits, as bytes in a lent buffer. Each writer puts its bytes at a place and says where the next ones go.
+// Numbers as text: hexadecimal and decimal digits, put on a page, each behind what is written of it.
 #![tactic(auto)]
 
 ghost use Rattle.std.specs.Prelude.{◌≡◌, [], ◌∷◌, ◌+◌, ◌*◌, ◌≤◌, ◌<◌, length};
-ghost use Rattle.digits.specs.Digits.{hex_of, lower, upper, pair_text, hex_text, pairs_of, entry_text, hex_digit, hex_value, pair_value};
-ghost use Rattle.digits.specs.Digits.{hex_digits, places_of, packed_pair, packed_of, short_text, fives_text, decimal_text, width_of, Writing};
+ghost use Rattle.digits.specs.Digits.{hex_of, lower, upper, letter_of, pair_text, hex_text, pairs_of, entry_text, hex_digit, hex_value, pair_value};
+ghost use Rattle.digits.specs.Digits.{hex_digits, places_of, packed_pair, packed_of, short_text, fives_text, decimal_text, width_of, Blank, Appends};
 ghost use Rattle.digits.specs.declared.Twos.{Twos};
 
-// ---- bytes
-
-pub fn put_byte(b: u8, out: &mut [u8], at: usize) -> usize
-    requires { at < length out.old }
-    ensures { Writing 1 (b ∷ []) out.old at result out.new }
-{
-    out[at] = b;
-    at + 1
-}
-
-pub fn put_bytes(bytes: &[u8], out: &mut [u8], at: usize) -> usize
-    requires { at + length bytes.now ≤ length out.old }
-    ensures { Writing (length bytes.now) bytes.now out.old at result out.new }
-{
-    slices::store(bytes, out, at);
-    at + bytes.len()
-}
-
 // ---- hexadecimal
+
+// The letters that ten to fifteen are shown as.
+#[derive(Clone, Copy)]
+pub enum Letters {
+    Lower,
+    Upper,
+}
+
+// The letter of ten. That it stands behind the decimal digits is said too, for what it adds to them.
+fn letter(letters: Letters) -> u8
+    ensures value { result ≡ letter_of letters }
+    ensures behind { (58 ≤ result) × (result ≤ 97) }
+{
+    match letters {
+        Letters::Lower => b'a',
+        Letters::Upper => b'A',
+    }
+}
 
 // The two digits of each byte. A loop takes the table once, since the constant is written to memory anew wherever it is named.
 pub fn lower_pairs() -> [u8; 512]
@@ -37,139 +37,51 @@ pub fn lower_pairs() -> [u8; 512]
       f0f1f2f3f4f5f6f7f8f9fafbfcfdfeff"
 }
 
-// A byte as the two digits that a table has for it. That it is below 256 is said too, for the table's rule.
-pub fn put_entry(table: &[u8; 512], b: u8, out: &mut [u8], at: usize) -> usize
-    requires { at + 2 ≤ length out.old }
-    ensures writing { Writing 2 (entry_text table.now b) out.old at result out.new }
-    ensures small { b < 256 }
-{
-    let i = 2 * (b as usize);
-    let next = put_byte(table[i], out, at);
-    put_byte(table[i + 1], out, next)
-}
-
-// A digit in lower case. What the letters add is chosen, and not the digit: of that the compiler makes less for eight at a time.
-pub fn hex(d: u8) -> u8
+// A digit. What the letters add is chosen, and not the digit: of that the compiler makes less for eight at a time.
+#[tactic(auto, unfolding(crate::specs::Digits::hex_of))]
+pub fn hex(letters: Letters, d: u8) -> u8
     requires { d < 16 }
-    ensures { result ≡ hex_of lower d }
+    ensures { result ≡ hex_of (letter_of letters) d }
 {
-    b'0' + d + numbers::choose8(d < 10, 0, b'a' - 10 - b'0')
+    let more = if d < 10 {
+        0
+    } else {
+        letter(letters) - 10 - b'0'
+    };
+    b'0' + d + more
 }
 
-fn put_pair(b: u8, out: &mut [u8], at: usize) -> usize
-    requires { at + 2 ≤ length out.old }
-    ensures { Writing 2 (pair_text lower b) out.old at result out.new }
-{
-    let next = put_byte(hex(b / 16), out, at);
-    put_byte(hex(b % 16), out, next)
-}
+// ---- hexadecimal in upper case, read
 
-// Many bytes at once go without a table: of this the compiler makes code that takes eight at a time.
-fn put_many(many: &[u8], out: &mut [u8], at: usize) -> usize
-    requires { at + 2 * length many.now ≤ length out.old }
-    ensures { Writing (2 * length many.now) (hex_text lower many.now) out.old at result out.new }
-{
-    let mut next = at;
-    let mut i = 0;
-    while i < many.len() {
-        next = put_pair(many[i], out, next);
-        i += 1;
-    }
-    next
-}
-
-// A few bytes by the table.
-fn put_few(table: &[u8; 512], few: &[u8], out: &mut [u8], at: usize) -> usize
-    requires table_value { table.now ≡ pairs_of lower }
-    requires few_in_bounds { at + 2 * length few.now ≤ length out.old }
-    ensures { Writing (2 * length few.now) (hex_text lower few.now) out.old at result out.new }
-{
-    let mut next = at;
-    let mut i = 0;
-    while i < few.len() {
-        next = put_entry(table, few[i], out, next);
-        i += 1;
-    }
-    next
-}
-
-// Bytes in lower case: by eights where there are as many, and what is left.
-pub fn put_hex(table: &[u8; 512], bytes: &[u8], out: &mut [u8], at: usize) -> usize
-    requires table_value { table.now ≡ pairs_of lower }
-    requires bytes_in_bounds { at + 2 * length bytes.now ≤ length out.old }
-    ensures { Writing (2 * length bytes.now) (hex_text lower bytes.now) out.old at result out.new }
-{
-    if bytes.len() < 8 {
-        return put_few(table, bytes, out, at);
-    }
-    let eights = bytes.len() / 8 * 8;
-    let next = put_many(&bytes[..eights], out, at);
-    put_few(table, &bytes[eights..], out, next)
-}
-
-// ---- hexadecimal in upper case
-
-fn upper_hex(d: u8) -> u8
-    requires { d < 16 }
-    ensures { result ≡ hex_of upper d }
-{
-    if d < 10 { b'0' + d } else { b'A' - 10 + d }
-}
-
-fn put_upper_pair(b: u8, out: &mut [u8], at: usize) -> usize
-    requires { at + 2 ≤ length out.old }
-    ensures { Writing 2 (pair_text upper b) out.old at result out.new }
-{
-    let next = put_byte(upper_hex(b / 16), out, at);
-    put_byte(upper_hex(b % 16), out, next)
-}
-
-// Bytes in upper case.
-pub fn put_upper(bytes: &[u8], out: &mut [u8], at: usize) -> usize
-    requires { at + 2 * length bytes.now ≤ length out.old }
-    ensures { Writing (2 * length bytes.now) (hex_text upper bytes.now) out.old at result out.new }
-{
-    let mut next = at;
-    let mut i = 0;
-    while i < bytes.len() {
-        next = put_upper_pair(bytes[i], out, next);
-        i += 1;
-    }
-    next
-}
-
+#[tactic(auto, unfolding(crate::specs::Digits::hex_digit))]
 fn upper_digit(c: u8) -> bool
     ensures { result ≡ hex_digit upper c }
 {
-    let number = numbers::and(b'0' <= c, c < b'0' + 10);
-    numbers::or(number, numbers::and(b'A' <= c, c < b'A' + 6))
+    (b'0' <= c && c < b'0' + 10) || (b'A' <= c && c < b'A' + 6)
 }
 
 // Whether all bytes are digits in upper case.
 pub fn upper_digits(text: &[u8]) -> bool
     ensures { result ≡ hex_digits upper text.now }
 {
-    let mut i = 0;
-    while i < text.len() {
-        if !upper_digit(text[i]) {
+    for c in text {
+        if !upper_digit(*c) {
             return false;
         }
-        i += 1;
     }
     true
 }
 
 // The number of a digit, 0 where it is none. That it is below 16 is said too, for a pair's byte.
+#[tactic(auto, unfolding(crate::specs::Digits::hex_digit, crate::specs::Digits::hex_value))]
 fn upper_value(c: u8) -> u8
     ensures { (result ≡ hex_value upper c) × (result < 16) }
 {
-    if upper_digit(c) {
-        if c < b'0' + 10 {
-            return c - b'0';
-        }
-        return c - b'A' + 10;
+    match c {
+        b'0'..=b'9' => c - b'0',
+        b'A'..=b'F' => c - b'A' + 10,
+        _ => 0,
     }
-    0
 }
 
 // The byte of two digits.
@@ -228,15 +140,13 @@ pub fn counted_up(n: usize, twos: Twos) -> Twos
             high: twos.high,
             low: twos.low + 0x100,
         }
-    } else {
-        if twos.low % 256 < 57 {
-            Twos {
-                high: twos.high,
-                low: twos.low + 1 - 9 * 0x100,
-            }
-        } else {
-            packed(n + 1)
+    } else if twos.low % 256 < 57 {
+        Twos {
+            high: twos.high,
+            low: twos.low + 1 - 9 * 0x100,
         }
+    } else {
+        packed(n + 1)
     }
 }
 
@@ -254,101 +164,172 @@ fn unpacked(twos: Twos, n: usize) -> [u8; 5]
     ]
 }
 
-// A number below 100,000 whose five digits are at hand: those from its first one on. How many they are is asked first, so that each stands at a known
-// distance.
-fn put_places(five: &[u8; 5], n: usize, out: &mut [u8], at: usize) -> usize
-    requires five_value { five.now ≡ places_of n }
-    requires at_in_bounds { at + 5 ≤ length out.old }
-    ensures { Writing 5 (short_text n) out.old at result out.new }
-{
-    let all = &five[..];
-    if 10000 <= n {
-        return put_bytes(all, out, at);
-    }
-    if 1000 <= n {
-        return put_bytes(&all[1..], out, at);
-    }
-    if 100 <= n {
-        return put_bytes(&all[2..], out, at);
-    }
-    if 10 <= n {
-        return put_bytes(&all[3..], out, at);
-    }
-    put_bytes(&all[4..], out, at)
+// ---- a page
+
+// A lent room that is written from its front on, and how many of its bytes are written.
+#[derive(Drop)]
+pub struct Page<'a> {
+    pub room: &'a mut [u8],
+    pub used: usize,
 }
 
-pub fn put_decimal(n: usize, out: &mut [u8], at: usize) -> usize
-    requires n_bound { n < 100000 }
-    requires at_in_bounds { at + 5 ≤ length out.old }
-    ensures { Writing 5 (decimal_text n) out.old at result out.new }
-{
-    if n < 10 {
-        return put_byte((48 + n) as u8, out, at);
+impl<'a> Page<'a> {
+    // A room of which nothing is written.
+    pub fn new(room: &'a mut [u8]) -> Page<'a>
+        ensures { Blank room.entry result }
+    {
+        Page { room, used: 0 }
     }
-    let five = places(n);
-    put_places(&five, n, out, at)
-}
 
-// A number of at most ten digits.
-fn put_ten(n: usize, out: &mut [u8], at: usize) -> usize
-    requires n_bound { n < 10000000000 }
-    requires at_in_bounds { at + 10 ≤ length out.old }
-    ensures { Writing 10 (fives_text 1 n) out.old at result out.new }
-{
-    if n < 100000 {
-        return put_decimal(n, out, at);
+    pub fn put_byte(&mut self, b: u8)
+        requires { self.old.used < length self.old.room.now }
+        ensures { Appends 1 (b ∷ []) self.old self.new }
+    {
+        let at = self.used;
+        self.room[at] = b;
+        self.used = at + 1;
     }
-    let next = put_decimal(n / 100000, out, at);
-    let five = places(n);
-    put_bytes(&five, out, next)
-}
 
-// A number of at most fifteen digits.
-fn put_fifteen(n: usize, out: &mut [u8], at: usize) -> usize
-    requires n_bound { n < 1000000000000000 }
-    requires at_in_bounds { at + 15 ≤ length out.old }
-    ensures { Writing 15 (fives_text 2 n) out.old at result out.new }
-{
-    if n < 100000 {
-        return put_decimal(n, out, at);
+    pub fn put_bytes(&mut self, bytes: &[u8])
+        requires { self.old.used + length bytes.now ≤ length self.old.room.now }
+        ensures { Appends (length bytes.now) bytes.now self.old self.new }
+    {
+        slices::store(bytes, self.room, self.used);
+        self.used += bytes.len();
     }
-    let next = put_ten(n / 100000, out, at);
-    let five = places(n);
-    put_bytes(&five, out, next)
-}
 
-// A number of which the last four digits are packed, and which may have more than five.
-fn put_long(high: u16, low: u16, n: usize, out: &mut [u8], at: usize) -> usize
-    requires twos_value { ◌≡◌ {A = Twos} (record { high = high; low = low }) (packed_of n) }
-    requires n_in_bounds { at + width_of n ≤ length out.old }
-    ensures { Writing (width_of n) (decimal_text n) out.old at result out.new }
-{
-    let twos = Twos {
-        high: high,
-        low: low,
-    };
-    let five = unpacked(twos, n);
-    if n < 100000 {
-        return put_places(&five, n, out, at);
+    // A byte as the two digits that a table has for it. That it is below 256 is said too, for the table's rule.
+    pub fn put_entry(&mut self, table: &[u8; 512], b: u8)
+        requires { self.old.used + 2 ≤ length self.old.room.now }
+        ensures writing { Appends 2 (entry_text table.now b) self.old self.new }
+        ensures small { b < 256 }
+    {
+        let i = 2 * usize::from(b);
+        self.put_byte(table[i]);
+        self.put_byte(table[i + 1]);
     }
-    let next = put_fifteen(n / 100000, out, at);
-    put_bytes(&five, out, next)
-}
 
-// A number of which the last four digits are packed, the two halves handed over by themselves: as one struct they would be packed once more. Most numbers
-// have no more digits, and for these no other is worked out.
-pub fn put_counted(high: u16, low: u16, n: usize, out: &mut [u8], at: usize) -> usize
-    requires twos_value { ◌≡◌ {A = Twos} (record { high = high; low = low }) (packed_of n) }
-    requires n_in_bounds { at + width_of n ≤ length out.old }
-    ensures { Writing (width_of n) (decimal_text n) out.old at result out.new }
-{
-    if n < 10000 {
-        let twos = Twos {
-            high: high,
-            low: low,
-        };
+    fn put_pair(&mut self, letters: Letters, b: u8)
+        requires { self.old.used + 2 ≤ length self.old.room.now }
+        ensures { Appends 2 (pair_text (letter_of letters) b) self.old self.new }
+    {
+        self.put_byte(hex(letters, b / 16));
+        self.put_byte(hex(letters, b % 16));
+    }
+
+    // Many bytes at once go without a table: of this the compiler makes code that takes eight at a time.
+    pub fn put_pairs(&mut self, letters: Letters, bytes: &[u8])
+        requires { self.old.used + 2 * length bytes.now ≤ length self.old.room.now }
+        ensures { Appends (2 * length bytes.now) (hex_text (letter_of letters) bytes.now) self.old self.new }
+    {
+        for b in bytes {
+            self.put_pair(letters, *b);
+        }
+    }
+
+    // A few bytes by the table.
+    fn put_few(&mut self, table: &[u8; 512], few: &[u8])
+        requires table_value { table.now ≡ pairs_of lower }
+        requires few_in_bounds { self.old.used + 2 * length few.now ≤ length self.old.room.now }
+        ensures { Appends (2 * length few.now) (hex_text lower few.now) self.old self.new }
+    {
+        for b in few {
+            self.put_entry(table, *b);
+        }
+    }
+
+    // Bytes in lower case: by eights where there are as many, and what is left.
+    pub fn put_hex(&mut self, table: &[u8; 512], bytes: &[u8])
+        requires table_value { table.now ≡ pairs_of lower }
+        requires bytes_in_bounds { self.old.used + 2 * length bytes.now ≤ length self.old.room.now }
+        ensures { Appends (2 * length bytes.now) (hex_text lower bytes.now) self.old self.new }
+    {
+        if bytes.len() < 8 {
+            self.put_few(table, bytes);
+            return;
+        }
+        let eights = bytes.len() / 8 * 8;
+        self.put_pairs(Letters::Lower, &bytes[..eights]);
+        self.put_few(table, &bytes[eights..]);
+    }
+
+    // A number below 100,000 whose five digits are at hand: those from its first one on. How many they are is asked first, so that each stands at a known
+    // distance.
+    fn put_places(&mut self, five: &[u8; 5], n: usize)
+        requires five_value { five.now ≡ places_of n }
+        requires used_in_bounds { self.old.used + 5 ≤ length self.old.room.now }
+        ensures { Appends 5 (short_text n) self.old self.new }
+    {
+        let all = &five[..];
+        if 10000 <= n {
+            self.put_bytes(all);
+        } else if 1000 <= n {
+            self.put_bytes(&all[1..]);
+        } else if 100 <= n {
+            self.put_bytes(&all[2..]);
+        } else if 10 <= n {
+            self.put_bytes(&all[3..]);
+        } else {
+            self.put_bytes(&all[4..]);
+        }
+    }
+
+    pub fn put_decimal(&mut self, n: usize)
+        requires n_bound { n < 100000 }
+        requires used_in_bounds { self.old.used + 5 ≤ length self.old.room.now }
+        ensures { Appends 5 (decimal_text n) self.old self.new }
+    {
+        if n < 10 {
+            self.put_byte((48 + n) as u8);
+            return;
+        }
+        let five = places(n);
+        self.put_places(&five, n);
+    }
+
+    // A number of at most five digits, and so many times five more.
+    fn put_fives(&mut self, more: usize, n: usize)
+        requires { self.old.used + 5 * (more + 1) ≤ length self.old.room.now }
+        ensures { Appends (5 * (more + 1)) (fives_text more n) self.old self.new }
+    {
+        let five = places(n);
+        if more == 0 || n < 100000 {
+            self.put_places(&five, n);
+            return;
+        }
+        self.put_fives(more - 1, n / 100000);
+        self.put_bytes(&five);
+    }
+
+    // A number of which the last four digits are packed, and which may have more than five.
+    fn put_long(&mut self, high: u16, low: u16, n: usize)
+        requires twos_value { ◌≡◌ {A = Twos} (record { high = high; low = low }) (packed_of n) }
+        requires n_in_bounds { self.old.used + width_of n ≤ length self.old.room.now }
+        ensures { Appends (width_of n) (decimal_text n) self.old self.new }
+    {
+        let twos = Twos { high, low };
         let five = unpacked(twos, n);
-        return put_places(&five, n, out, at);
+        if n < 100000 {
+            self.put_places(&five, n);
+            return;
+        }
+        self.put_fives(2, n / 100000);
+        self.put_bytes(&five);
     }
-    put_long(high, low, n, out, at)
+
+    // A number of which the last four digits are packed, the two halves handed over by themselves: as one struct they would be packed once more. Most
+    // numbers have no more digits, and for these no other is worked out.
+    pub fn put_counted(&mut self, high: u16, low: u16, n: usize)
+        requires twos_value { ◌≡◌ {A = Twos} (record { high = high; low = low }) (packed_of n) }
+        requires n_in_bounds { self.old.used + width_of n ≤ length self.old.room.now }
+        ensures { Appends (width_of n) (decimal_text n) self.old self.new }
+    {
+        if n < 10000 {
+            let twos = Twos { high, low };
+            let five = unpacked(twos, n);
+            self.put_places(&five, n);
+            return;
+        }
+        self.put_long(high, low, n);
+    }
 }

@@ -1,6 +1,7 @@
 -- What follows of the test that a meter is sound, and of what `run` told.
 use mathlib.Core.Path.{◌≡◌, sym, ap, ◌∙◌}
-use mathlib.Core.Bool.{true}
+use mathlib.Core.Bool.{true, false}
+use mathlib.Core.Logic.{◌⊎◌, ⊎_elim}
 use mathlib.Core.List.{List}
 use Prim.Native.Nat.{ℕ, ◌-◌, ◌*◌, ◌^◌, ◌≤◌, ◌<◌}
 use native.Mathlib.Omega.{arith}
@@ -19,12 +20,12 @@ use Rattle.state.specs.State.{ChargeWf, AverageWf, MeterWf}
 use Rattle.state.specs.declared.Average.{Average}
 use Rattle.state.specs.declared.Meter.{Meter}
 use Rattle.runs.specs.Record.{recs_of}
-use Rattle.runs.specs.Run.{end_after, Runs}
+use Rattle.runs.specs.Run.{end_after, Runs, result_of}
 use Rattle.runs.proofs.Ends.{within_done}
 use Rattle.runs.specs.declared.Session.{Session}
 use Rattle.runs.specs.SessionRecord.{did_of}
-use Rattle.session_run.specs.declared.Ran.{Ran}
-use Rattle.session_run.specs.SessionRun.{empty_of, result_of}
+use Rattle.runs.specs.declared.Ran.{Ran}
+use Rattle.session_run.specs.SessionRun.{empty_of}
 use Rattle.engines.specs.Engines.{engines_size_text, charge_sound, average_sound, sound_of, end_speech, session_after, compared_speech}
 
 -- ---- a sound meter is well-formed
@@ -58,14 +59,15 @@ sound_wf m e =
 
 -- ---- an input of 6 to 32,774 bytes
 
-pub sized : (n : ℕ) → both (leb 6 n) (leb n 32774) ≡ true → (6 ≤ n) × (n ≤ 32774)
-sized n e =
-    let a = both_true (leb 6 n) (leb n 32774) e in
-    (leb-true _ _ a.0, leb-true _ _ a.1)
+pub sized : (n : ℕ) → 6 ≤ n → n ≤ 32774 → both (leb 6 n) (leb n 32774) ≡ true
+sized n low high = rw (le-leb 6 n low, le-leb n 32774 high)
+
+pub missized : (n : ℕ) → ((6 ≤ n) × (32774 < n)) ⊎ (n < 6) → both (leb 6 n) (leb n 32774) ≡ false
+missized n h = ⊎_elim (λ w. rw (le-leb 6 n w.0, lt-leb n 32774 w.1)) (λ w. rw (lt-leb 6 n w)) h
 
 -- the session behind the first 6 bytes is run
-pub ended : (s replies answers : List ℕ) (r : Ran) (after told : List ℕ) → length s ≤ 32774 → 65536 ≡ length replies
-    → Runs did_of empty_of (part (length s - 6) s 6) replies answers (result_of r) after told → r.session ≡ session_after (drop 6 s)
+pub ended : (s replies answers : List ℕ) (r : Ran Session) (after told : List ℕ) → length s ≤ 32774 → 65536 ≡ length replies
+    → Runs did_of empty_of (part (length s - 6) s 6) replies answers (result_of r) after told → r.state ≡ session_after (drop 6 s)
 ended s replies answers r after told short fits runs =
     let size : length (drop 6 s) ≤ 32768 = omega (arith, length-drop 6 s) in
     let run = rw (part_rest s 6, within_done (length (drop 6 s)) size) at runs in

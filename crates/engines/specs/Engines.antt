@@ -9,6 +9,7 @@ use Rattle.streams.specs.Streams.{Speech, output, error, unread_text, refused_te
 use Rattle.state.specs.declared.Charge.{Charge}
 use Rattle.state.specs.declared.Average.{Average}
 use Rattle.state.specs.State.{run_of}
+use Rattle.state.specs.declared.Shown.{Shown}
 use Rattle.state.specs.declared.Meter.{Meter}
 use Rattle.samples.specs.Samples.{sampled_of}
 use Rattle.state.specs.declared.Common.{Common}
@@ -38,10 +39,11 @@ charge_sound charge = both (ltb charge.count (2 ^ 28)) (both (ltb charge.age (32
 abbrev pub average_sound : Average → Bool
 average_sound average = both (ltb average.made 1024) (leb average.sum (65535 * run_of average))
 
+abbrev pub shown_sound : Shown → Bool
+shown_sound shown = both (leb shown.model.full 16384) (both (leb shown.reading.volt 1023) (ltb shown.reading.temp (2 ^ 11)))
+
 unfoldable pub sound_of : Meter → Bool
-sound_of meter =
-    both (both (charge_sound meter.charge) (average_sound meter.flow.average))
-    (both (leb meter.shown.model.full 16384) (both (leb meter.shown.reading.volt 1023) (ltb meter.shown.reading.temp (2 ^ 11))))
+sound_of meter = both (both (charge_sound meter.charge) (average_sound meter.flow.average)) (shown_sound meter.shown)
 
 -- ---- the lines
 

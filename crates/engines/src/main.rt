@@ -1,66 +1,72 @@
 // engines: runs the session on standard input behind 6 bytes, a raw current and n, and shows what both sampling engines make of its end
 #![tactic(auto)]
 
-ghost use Rattle.std.specs.Prelude.{◌≡◌, List, ℕ, ◌+◌, ◌≤◌, length};
+ghost use Rattle.std.specs.Prelude.{◌≡◌, List, ℕ, ◌+◌, ◌≤◌, length, is_err, IfOk};
 ghost use Rattle.state.specs.State.{MeterWf};
-ghost use Rattle.digits.specs.Digits.{Writing};
+ghost use Rattle.digits.specs.Digits.{Writing, Appends};
 ghost use Rattle.streams.specs.Streams.{error, Front, Saying};
-ghost use Rattle.engines.specs.Engines.{engines_size_text, average_sound, sound_of, registers_text, meter_line};
+ghost use Rattle.engines.specs.Engines.{engines_size_text, charge_sound, average_sound, shown_sound, sound_of, registers_text, meter_line};
 ghost use Rattle.engines.specs.Engines.{engine_lines, end_speech, compared_speech, compared_of};
 
+use digits::Page;
 use gauge::Gauge;
 use runs::Session;
-use state::{Average, Common, Meter};
-use streams::{Input, Said, Stream};
+use state::{Average, Charge, Common, Meter, Shown};
+use streams::{Said, Stream, Unread};
 
-// What an engine asks of the count of conversions and of the run of eight.
+const INPUT_ROOM: usize = 32775;
+
+const TEXT_ROOM: usize = 258;
+
+// What an engine asks of the count, the age counter and AS.
+fn charge_sound(charge: Charge) -> bool
+    ensures { result ≡ charge_sound charge }
+{
+    charge.count < 268435456 && charge.age < 2097120 && 63 <= charge.aging && charge.aging <= 128
+}
+
+// What it asks of the count of conversions and of the run of eight.
 fn average_sound(average: Average) -> bool
     ensures { result ≡ average_sound average }
 {
-    numbers::and(
-        average.made < 1024,
-        (average.sum as u64) <= 65535 * ((average.made % 8) as u64),
-    )
+    average.made < 1024 && average.sum as u64 <= 65535 * (average.made % 8) as u64
+}
+
+// What it asks of FULL, VOLT and TEMP.
+fn shown_sound(shown: Shown) -> bool
+    ensures { result ≡ shown_sound shown }
+{
+    shown.model.full <= 16384 && shown.reading.volt <= 1023 && shown.reading.temp < 2048
 }
 
 // What it asks of a meter. Each event keeps it, but `run` does not say so of the state at its end.
+#[tactic(auto, unfolding(crate::specs::Engines::sound_of))]
 fn sound(meter: Meter) -> bool
     ensures { result ≡ sound_of meter }
 {
-    let count = meter.charge.count < 268435456;
-    let age = meter.charge.age < 2097120;
-    let aging = numbers::and(63 <= meter.charge.aging, meter.charge.aging <= 128);
-    let charge = numbers::and(count, numbers::and(age, aging));
-    let average = average_sound(meter.flow.average);
-    let full = meter.shown.model.full <= 16384;
-    let volt = meter.shown.reading.volt <= 1023;
-    let temp = meter.shown.reading.temp < 2048;
-    numbers::and(
-        numbers::and(charge, average),
-        numbers::and(full, numbers::and(volt, temp)),
-    )
+    charge_sound(meter.charge) && average_sound(meter.flow.average) && shown_sound(meter.shown)
 }
 
-fn put_registers(common: Common, meter: Meter, out: &mut [u8], at: usize) -> usize
+fn put_registers(common: Common, meter: Meter, page: &mut Page)
     requires meter_wf { MeterWf meter }
-    requires at_in_bounds { at + 64 ≤ length out.old }
-    ensures { Writing 64 (registers_text common meter) out.old at result out.new }
+    requires used_in_bounds { page.old.used + 64 ≤ length page.old.room.now }
+    ensures { Appends 64 (registers_text common meter) page.old page.new }
 {
     let table = digits::lower_pairs();
     let bytes = registers::registers(common, meter);
-    digits::put_hex(&table, &bytes, out, at)
+    page.put_hex(&table, &bytes);
 }
 
 // A meter as one line.
-fn put_line(common: Common, meter: Meter, out: &mut [u8], at: usize) -> usize
+fn put_line(common: Common, meter: Meter, page: &mut Page)
     requires meter_wf { MeterWf meter }
-    requires at_in_bounds { at + 129 ≤ length out.old }
-    ensures { Writing 129 (meter_line common meter) out.old at result out.new }
+    requires used_in_bounds { page.old.used + 129 ≤ length page.old.room.now }
+    ensures { Appends 129 (meter_line common meter) page.old page.new }
 {
-    let a = put_registers(common, meter, out, at);
+    put_registers(common, meter, page);
     let later = samples::plain(meter, numbers::ZERO31, 64);
-    let b = put_registers(common, later, out, a);
-    digits::put_byte(b'\n', out, b)
+    put_registers(common, later, page);
+    page.put_byte(b'\n');
 }
 
 // The line of the plain engine and that of the quick one.
@@ -69,8 +75,10 @@ fn put_lines(gauge: Gauge, raw: u32, n: u16, out: &mut [u8]) -> usize
     ensures { Writing 258 (engine_lines gauge raw n) out.old 0 result out.new }
 {
     if sound(gauge.meter) {
-        let next = put_line(gauge.common, samples::plain(gauge.meter, raw, n), out, 0);
-        return put_line(gauge.common, samples::quick(gauge.meter, raw, n), out, next);
+        let mut page = Page::new(out);
+        put_line(gauge.common, samples::plain(gauge.meter, raw, n), &mut page);
+        put_line(gauge.common, samples::quick(gauge.meter, raw, n), &mut page);
+        return page.used;
     }
     0
 }
@@ -82,10 +90,9 @@ fn put_ended(session: Session, raw: u32, n: u16, room: &mut [u8]) -> Said
 {
     if session.loaded {
         let count = put_lines(session.gauge, raw, n, room);
-        let stream = Stream::Output;
         return Said {
-            stream: stream,
-            count: count,
+            stream: Stream::Output,
+            count,
         };
     }
     streams::put_refused(5, b"no image was accepted behind the first 6 bytes", room)
@@ -96,11 +103,11 @@ fn put_missized(room: &mut [u8]) -> Said
     requires { length room.old ≡ 258 }
     ensures { Saying (error engines_size_text) room.old result room.new }
 {
-    let count = digits::put_bytes(b"engines: the input is not 6 to 32,774 bytes\n", room, 0);
-    let stream = Stream::Error;
+    let mut page = Page::new(room);
+    page.put_bytes(b"engines: the input is not 6 to 32,774 bytes\n");
     Said {
-        stream: stream,
-        count: count,
+        stream: Stream::Error,
+        count: page.used,
     }
 }
 
@@ -108,35 +115,27 @@ fn put_compared(bytes: &[u8], room: &mut [u8]) -> Said
     requires { length room.old ≡ 258 }
     ensures { Saying (compared_speech bytes.now) room.old result room.new }
 {
-    if numbers::and(6 <= bytes.len(), bytes.len() <= 32774) {
+    if 6 <= bytes.len() && bytes.len() <= 32774 {
         let raw = numbers::offset32(slices::quad(bytes, 0));
         let n = slices::pair(bytes, 4);
         let mut replies = [0u8; 65536];
         let mut answers = [0u64; 8192];
         let ran = session_run::run(&bytes[6..], &mut replies, &mut answers);
-        return put_ended(ran.session, raw, n, room);
+        return put_ended(ran.state, raw, n, room);
     }
     put_missized(room)
 }
 
-// What the program says. A byte more than an input may have is enough to know of any. (That the room keeps its length is said for `main`.)
-fn compared(input: &[u8; 32775], got: Input, room: &mut [u8; 258]) -> Said
-    ensures by_index { (s : List ℕ) → Front s input.now got.count →
-        Saying (compared_of got.failed s) room.old result room.new }
-    ensures value { 258 ≡ length room.new }
+// What the program says. A byte more than an input may have is enough to know of any.
+fn compared(input: &[u8], got: Result<usize, Unread>, room: &mut [u8]) -> Said
+    requires input_room { length input.now ≡ 32775 }
+    requires text_room { length room.old ≡ 258 }
+    ensures by_index { (s : List ℕ) → IfOk got (Front s input.now) →
+        Saying (compared_of (is_err got) s) room.old result room.new }
 {
-    if got.failed {
-        return streams::put_unread(b"engines", room);
-    }
-    let n = streams::within(got.count, input);
-    let all: &[u8] = input;
-    put_compared(&all[..n], room)
+    streams::put_answer(b"engines", input, got, room, put_compared)
 }
 
 fn main(rt: HostRuntime) {
-    let mut input = [0u8; 32775];
-    let got = streams::read_input(&rt, &mut input);
-    let mut room = [0u8; 258];
-    let said = compared(&input, got, &mut room);
-    streams::say(&rt, b"engines", said, &room);
+    streams::answer_input::<INPUT_ROOM, TEXT_ROOM, _>(&rt, b"engines", compared);
 }

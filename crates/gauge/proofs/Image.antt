@@ -8,6 +8,7 @@ use lib.Dec.{leb, eqb}
 use lib.ListN.{length, get_or, drop, length-append}
 use lib.Seq.{take_at, drop_at, drop-drop, get_or-drop}
 use borrow.Author.Tests.{eq-eqb}
+use Rattle.std.specs.Prelude.{Ok, Err}
 use Rattle.numbers.specs.Choice.{pick}
 use Rattle.slices.specs.Slices.{part, put, pair_at}
 use Rattle.slices.proofs.Laws.{put_next, put_front}
@@ -18,7 +19,6 @@ use Rattle.state.specs.State.{image_size_of, counts_cycles, powered_of}
 use Rattle.gauge.specs.declared.Gauge.{Gauge}
 use Rattle.record.specs.declared.Event.TheVariants.{Image}
 use Rattle.record.specs.declared.Refusal.TheVariants.{Breaks}
-use Rattle.record.specs.declared.Taken.TheVariants.{Run, Refused}
 use Rattle.record.specs.Image.{image_address, image_label, image_block, acr_at}
 use Rattle.record.specs.Record.{addressed_of, ordered_of, judged_among, judged_by}
 use Rattle.gauge.specs.Gauge.{Sized, Uncounted, power_on_of}
@@ -123,7 +123,7 @@ round_trip g z none =
 
 -- and judged by the breakpoints in the EEPROM, where the address is one
 pub image_judged : (g : Gauge) → Sized g → let f = g.meter.cells.profile in addressed_of f g.common.address ≡ true
-    → judged_by f (bytes_of g) ≡ pick (ordered_of (breaks_of g.meter.cells.block.eeprom)) (Run (Image f)) (Refused Breaks)
+    → judged_by f (bytes_of g) ≡ pick (ordered_of (breaks_of g.meter.cells.block.eeprom)) (Ok (Image f)) (Err Breaks)
 unfolding judged_among
 image_judged g z h =
     let p = image_holds g z in

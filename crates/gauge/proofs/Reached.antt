@@ -8,6 +8,7 @@ use native.Mathlib.Omega.{arith}
 use lib.Dec.{eqb}
 use lib.ListN.{length}
 use borrow.Author.Tests.{eqb-true}
+use Rattle.std.specs.Prelude.{Ok, Err}
 use Rattle.numbers.specs.Choice.{pick}
 use Rattle.slices.specs.Slices.{part}
 use Rattle.slices.proofs.Laws.{part_length}
@@ -23,10 +24,8 @@ use Rattle.record.specs.declared.Refusal.{Refusal}
 use Rattle.record.specs.declared.Refusal.TheVariants.{Breaks}
 use Rattle.record.specs.declared.Event.{Event}
 use Rattle.record.specs.declared.Event.TheVariants.{Image}
-use Rattle.record.specs.declared.Taken.{Taken}
-use Rattle.record.specs.declared.Taken.TheVariants.{Run, Refused}
 use Rattle.record.specs.Image.{image_address}
-use Rattle.record.specs.Record.{addressed_of, ordered_of, judged_among, judged_by}
+use Rattle.record.specs.Record.{addressed_of, ordered_of, judged_among, judged_by, Taken}
 use Rattle.gauge.specs.Image.{image_of, bytes_of}
 use Rattle.gauge.specs.Reach.{Reached}
 use Rattle.gauge.specs.Reach.Reached.{accepted, changed, acted_on}
@@ -35,11 +34,11 @@ use Rattle.gauge.proofs.Image.{round_trip, image_judged}
 -- ---- an image that is accepted
 
 -- it has passed each test
-pass : (e : Event) (x : Bool) (t : Taken) (r : Refusal) → pick x t (Refused r) ≡ Run e → (x ≡ true) × (t ≡ Run e)
+pass : (e : Event) (x : Bool) (t : Taken) (r : Refusal) → pick x t (Err r) ≡ Ok e → (x ≡ true) × (t ≡ Ok e)
 pass e true t r h = (refl, h)
 pass e false t r h = (cc, cc)
 
-module _ (f : Profile) (p : List ℕ) (e : judged_by f p ≡ Run (Image f)) where
+module _ (f : Profile) (p : List ℕ) (e : judged_by f p ≡ Ok (Image f)) where
   passed : (eqb (length p) (image_size_of f) ≡ true) × (addressed_of f (image_address p) ≡ true)
   unfolding judged_among
   passed =
@@ -72,7 +71,7 @@ image_uncounted f p e = record { count = rw e refl; rest = refl; saved = rw e re
 -- ---- every gauge that is reached
 
 -- what holds of every image accepted, and is kept, holds of them all
-pub reached_keeps : (P : Gauge → Type 0) → Kept P → ((f : Profile) (p : List ℕ) → judged_by f p ≡ Run (Image f) → P (image_of f p))
+pub reached_keeps : (P : Gauge → Type 0) → Kept P → ((f : Profile) (p : List ℕ) → judged_by f p ≡ Ok (Image f) → P (image_of f p))
     → (g : Gauge) → Reached g → P g
 reached_keeps P k start g (accepted f p e) = start f p e
 reached_keeps P k start g (changed h c r) = k.change h c (reached_keeps P k start h r)
@@ -91,7 +90,7 @@ module _ (g : Gauge) (r : Reached g) where
   -- the image that is taken out is refused with 10 or accepted, by the breakpoints in the EEPROM, and is a power-on
   pub out_judged :
       let f = g.meter.cells.profile in
-      judged_by f (bytes_of g) ≡ pick (ordered_of (breaks_of g.meter.cells.block.eeprom)) (Run (Image f)) (Refused Breaks)
+      judged_by f (bytes_of g) ≡ pick (ordered_of (breaks_of g.meter.cells.block.eeprom)) (Ok (Image f)) (Err Breaks)
   out_judged = image_judged g reached_sized reached_address
 
   pub out_in : image_of g.meter.cells.profile (bytes_of g) ≡ power_on_of g

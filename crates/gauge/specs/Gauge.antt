@@ -10,7 +10,7 @@ use Rattle.label.specs.Label.{label_written_of, label_copied_of, label_powered_o
 use Rattle.block1.specs.Block1.{BlockSized, meter_written_of, meter_copied_of, meter_recalled_of, meter_locked_of}
 use Rattle.gauge.specs.declared.Gauge.{Gauge}
 
--- what holds of every gauge: its meter is well-formed
+-- what holds of every gauge: its meter is well-formed (a clause, as ChargeWf)
 pub record GaugeWf (g : Gauge) : Type 0 where
   pub meter : MeterWf g.meter
 

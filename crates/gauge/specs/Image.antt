@@ -1,9 +1,11 @@
 -- The pack image in and out; `record` says where its parts stand.
-use Rattle.std.specs.Prelude.{◌≡◌, Bool, true, false, List, [], ◌∷◌, ◌++◌, ℕ, ◌+◌, ◌/◌, ◌%◌, leb, length, drop}
+use Rattle.std.specs.Prelude.{◌≡◌, Bool, true, false, Result, Ok, Err, List, [], ◌∷◌, ◌++◌, ℕ, ◌+◌, ◌/◌, ◌%◌, leb, length, drop}
 use Rattle.numbers.specs.Choice.{pick}
 use Rattle.state.specs.declared.Profile.{Profile}
 use Rattle.state.specs.State.{image_size_of, counts_cycles, powered_of}
 use Rattle.record.specs.Image.{image_address, image_label, image_block, image_acr, image_aging, image_cycles, image_bl0, image_bl1}
+use Rattle.record.specs.declared.Refusal.{Refusal}
+use Rattle.record.specs.declared.Refusal.TheVariants.{Room}
 use Rattle.state.specs.declared.Saved.{Saved}
 use Rattle.registers.specs.Registers.{flag_of}
 use Rattle.gauge.specs.declared.Gauge.{Gauge}
@@ -51,11 +53,16 @@ bytes_of gauge = gauge.common.address ++ (gauge.label.eeprom ++ (gauge.meter.cel
 abbrev pub size_for : Gauge → ℕ
 size_for gauge = image_size_of gauge.meter.cells.profile
 
+-- how many bytes are written, or that they do not fit
+abbrev pub size_or : Bool → Gauge → Result ℕ Refusal
+size_or true gauge = Ok (size_for gauge)
+size_or false gauge = Err Room
+
 -- the first bytes of the lent room, as many as an image has, the rest untouched; nothing is written in a room under 60 bytes, or under 61
 abbrev pub room_after : Bool → Gauge → List ℕ → List ℕ
 room_after true gauge room = bytes_of gauge ++ drop (size_for gauge) room
 room_after false gauge room = room
 
-pub record ImageOut (g : Gauge) (room : List ℕ) (done : Bool) (after : List ℕ) : Type 0 where
-  pub fits : done ≡ leb (size_for g) (length room)
+pub record ImageOut (g : Gauge) (room : List ℕ) (done : Result ℕ Refusal) (after : List ℕ) : Type 0 where
+  pub fits : done ≡ size_or (leb (size_for g) (length room)) g
   pub written : after ≡ room_after (leb (size_for g) (length room)) g room

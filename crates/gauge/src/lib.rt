@@ -10,7 +10,7 @@ ghost use Rattle.record.specs.Image.{cycles_at, image_cycles};
 ghost use Rattle.gauge.specs.Image.{image_of, lock_byte, cells_of, tail_of, cycle_cell, ImageOut};
 
 use bus::{Command, Transaction};
-use record::{ACR_AT, ADDRESS_AT, AGING_AT, BLOCK_AT, CYCLES_AT, LABEL_AT, LOCKS_AT};
+use record::{ACR_AT, ADDRESS_AT, AGING_AT, BLOCK_AT, CYCLES_AT, LABEL_AT, LOCKS_AT, Refusal};
 use state::{Block, Cells, Common, Label, Locks, Meter, Profile, Saved};
 
 // (The order of fields: docs/SPEED.md.)
@@ -30,8 +30,7 @@ impl Gauge {
         ensures value { result ≡ conversion_of self raw }
         ensures kept { GaugeWf result }
     {
-        let converted = conversion::convert(self.meter, raw);
-        self.meter = converted;
+        self.meter = conversion::convert(self.meter, raw);
         self
     }
 
@@ -41,8 +40,7 @@ impl Gauge {
         ensures value { result ≡ sampling_of self raw tick }
         ensures kept { GaugeWf result }
     {
-        let sampled = samples::sample(self.meter, raw, tick);
-        self.meter = sampled;
+        self.meter = samples::sample(self.meter, raw, tick);
         self
     }
 
@@ -52,8 +50,7 @@ impl Gauge {
         ensures value { result ≡ reading_of self volt temp }
         ensures kept { GaugeWf result }
     {
-        let measured = reading::read(self.meter, volt, temp);
-        self.meter = measured;
+        self.meter = reading::read(self.meter, volt, temp);
         self
     }
 
@@ -61,10 +58,10 @@ impl Gauge {
         ensures value { result ≡ power_on_of self }
         ensures kept { GaugeWf result }
     {
-        let powered = label::powered(self.label);
-        let restarted = self.meter.restarted();
-        self.label = powered;
-        self.meter = restarted;
+        let label = label::powered(self.label);
+        let meter = self.meter.restarted();
+        self.label = label;
+        self.meter = meter;
         self
     }
 }
@@ -75,16 +72,14 @@ impl Gauge {
 pub fn can_change(command: Command) -> bool
     ensures { result ≡ can_change command }
 {
-    match command {
-        Command::Read => false,
-        Command::Write => true,
-        Command::Copy => true,
-        Command::Recall => true,
-        Command::Lock => true,
-        Command::Nothing => false,
-    }
+    matches!(
+        command,
+        Command::Write | Command::Copy | Command::Recall | Command::Lock
+    )
 }
 
+// (The four commands differ in what they call and what they hand on, and a lock in the part that it changes: one function that takes the two steps as
+// closures is no plainer.)
 impl Gauge {
     // 6Ch: bytes written from the address a upward.
     fn written(mut self, a: usize, bytes: &[u8]) -> Gauge
@@ -132,10 +127,8 @@ impl Gauge {
         ensures value { result ≡ locked_of self a }
         ensures kept { GaugeWf result }
     {
-        let common = label::locked(self.common, self.meter.cells.locks.lock, a);
-        let used = block1::meter_locked(self.meter, a);
-        self.common = common;
-        self.meter = used;
+        self.common = label::locked(self.common, self.meter.cells.locks.lock, a);
+        self.meter = block1::meter_locked(self.meter, a);
         self
     }
 
@@ -145,18 +138,16 @@ impl Gauge {
         ensures value { result ≡ ran_of self transaction master.now }
         ensures kept { GaugeWf result }
     {
-        let a = slices::wide(transaction.address);
-        let command = transaction.command;
-        match command {
-            Command::Read => self,
+        let a = usize::from(transaction.address);
+        match transaction.command {
             Command::Write => {
-                let from = slices::lesser(slices::wide(transaction.from), master.len());
+                let from = usize::from(transaction.from).min(master.len());
                 self.written(a, &master[from..])
             }
             Command::Copy => self.copied(a),
             Command::Recall => self.recalled(a),
             Command::Lock => self.locked(a),
-            Command::Nothing => self,
+            Command::Read | Command::Nothing => self,
         }
     }
 
@@ -168,8 +159,7 @@ impl Gauge {
         ensures replied { room.new ≡ reply_of self transaction master.now ++ drop transaction.count room.old }
         ensures kept { GaugeWf result }
     {
-        let address = self.common.address;
-        let chosen = replies::selected(address, transaction, master);
+        let chosen = replies::selected(self.common.address, transaction, master);
         replies::replied(
             self.common,
             self.label,
@@ -178,8 +168,7 @@ impl Gauge {
             chosen,
             room,
         );
-        let command = transaction.command;
-        if numbers::and(chosen, can_change(command)) {
+        if chosen && can_change(transaction.command) {
             self = self.ran(transaction, master);
         }
         self
@@ -199,44 +188,33 @@ fn cycles_in(profile: Profile, image: &[u8]) -> u8
     }
 }
 
-// An image of either profile has the bytes that both have.
-fn whole(profile: Profile, image: &[u8])
-    requires { length image.now ≡ image_size_of profile }
-    ensures { 60 ≤ length image.now }
-{}
-
 // The gauge that the bytes of an image of a profile power on to.
 pub fn image_in(profile: Profile, image: &[u8]) -> Gauge
     requires { length image.now ≡ image_size_of profile }
     ensures value { result ≡ image_of profile image.now }
     ensures kept { GaugeWf result }
 {
-    whole(profile, image);
-    let address = slices::eight(image, ADDRESS_AT);
     let label = slices::sixteen(image, LABEL_AT);
-    let eeprom = slices::thirty_two(image, BLOCK_AT);
-    let saved = Saved {
-        acr: slices::pair(image, ACR_AT),
-        aging: image[AGING_AT],
-        cycles: cycles_in(profile, image),
-    };
-    let locks = Locks {
-        lock: false,
-        bl1: image[LOCKS_AT] / 2 % 2 == 1,
-    };
-    let block = Block {
-        shadow: eeprom,
-        eeprom: eeprom,
-    };
+    let eeprom = slices::array_at(image, BLOCK_AT);
     let cells = Cells {
-        profile: profile,
-        block: block,
-        locks: locks,
-        saved: saved,
+        profile,
+        block: Block {
+            shadow: eeprom,
+            eeprom,
+        },
+        locks: Locks {
+            lock: false,
+            bl1: image[LOCKS_AT] / 2 % 2 == 1,
+        },
+        saved: Saved {
+            acr: slices::pair(image, ACR_AT),
+            aging: image[AGING_AT],
+            cycles: cycles_in(profile, image),
+        },
     };
     Gauge {
         common: Common {
-            address: address,
+            address: slices::array_at(image, ADDRESS_AT),
             bl0: image[LOCKS_AT] % 2 == 1,
         },
         label: Label {
@@ -252,25 +230,15 @@ pub fn image_in(profile: Profile, image: &[u8]) -> Gauge
 fn lock_byte(bl1: bool, bl0: bool) -> u8
     ensures { result ≡ lock_byte bl1 bl0 }
 {
-    if bl1 {
-        if bl0 {
-            return 3;
-        }
-        return 2;
-    }
-    if bl0 { 1 } else { 0 }
+    2 * u8::from(bl1) + u8::from(bl0)
 }
 
 // Saved ACR, low byte first, saved AS and the lock byte.
 fn cells(saved: Saved, lock: u8) -> [u8; 4]
     ensures { result ≡ cells_of saved lock }
 {
-    [
-        (saved.acr % 256) as u8,
-        (saved.acr / 256) as u8,
-        saved.aging,
-        lock,
-    ]
+    let [low, high] = saved.acr.to_le_bytes();
+    [low, high, saved.aging, lock]
 }
 
 fn tail(gauge: Gauge) -> [u8; 4]
@@ -295,23 +263,19 @@ fn cycles_out(profile: Profile, count: u8, room: &mut [u8])
     }
 }
 
-// The image goes to the first bytes of the room; false, and nothing is written, where they do not fit.
-pub fn image_out(gauge: Gauge, room: &mut [u8]) -> bool
+// The image goes to the first bytes of the room, and the result is how many; nothing is written where they do not fit.
+pub fn image_out(gauge: Gauge, room: &mut [u8]) -> Result<usize, Refusal>
     ensures { ImageOut gauge room.old result room.new }
 {
-    let meter = gauge.meter;
-    let kept = meter.cells;
-    let profile = kept.profile;
-    if room.len() < state::image_size(profile) {
-        return false;
+    let cells = gauge.meter.cells;
+    let size = state::image_size(cells.profile);
+    if room.len() < size {
+        return Err(Refusal::Room);
     }
-    let address = gauge.common.address;
-    let label = gauge.label.eeprom;
-    let block = kept.block.eeprom;
-    slices::store8(address, room, ADDRESS_AT);
-    slices::store16(label, room, LABEL_AT);
-    slices::store32(block, room, BLOCK_AT);
-    slices::store4(tail(gauge), room, ACR_AT);
-    cycles_out(profile, kept.saved.cycles, room);
-    true
+    slices::store_array(gauge.common.address, room, ADDRESS_AT);
+    slices::store_array(gauge.label.eeprom, room, LABEL_AT);
+    slices::store_array(cells.block.eeprom, room, BLOCK_AT);
+    slices::store_array(tail(gauge), room, ACR_AT);
+    cycles_out(cells.profile, cells.saved.cycles, room);
+    Ok(size)
 }

@@ -1,7 +1,8 @@
 -- The contracts of this program's functions leave no choice.
-use mathlib.Core.Path.{sym, ◌∙◌}
+use mathlib.Core.Path.{refl, sym, ◌∙◌}
 use Rattle.numbers.specs.Once.{Once}
-use Rattle.streams.proofs.Laws.{own, same_said, same_room}
+use Rattle.digits.proofs.Unique.{same}
+use Rattle.streams.proofs.Laws.{own_read, same_said, same_room}
 use Rattle.hex_in.proofs.put_cause
 use Rattle.hex_in.specs.contracts.put_cause as put_cause'
 use Rattle.hex_in.proofs.put_flaw
@@ -16,7 +17,7 @@ use Rattle.hex_in.proofs.imported
 use Rattle.hex_in.specs.contracts.imported as imported'
 
 pub put_cause_once : Once put_cause'.ended put_cause.Reads.Pre put_cause.Reads.Learnt
-put_cause_once κs a r r' w w' p h h' = (h.onward ∙ sym h'.onward, λ i. (tt, ((h.written ∙ sym h'.written) i, (tt, tt))))
+put_cause_once κs a r r' w w' p h h' = (refl, λ i. (tt, (same h h' i, tt)))
 
 pub put_flaw_once : Once put_flaw'.ended put_flaw.Reads.Pre put_flaw.Reads.Learnt
 put_flaw_once κs a r r' w w' p h h' = (same_said h h', λ i. (tt, (tt, (same_room h h' i, tt))))
@@ -32,7 +33,7 @@ put_import_once κs a r r' w w' p h h' = (same_said h h', λ i. (tt, (same_room 
 
 pub imported_once : Once imported'.ended imported.Reads.Pre imported.Reads.Learnt
 imported_once κs a r r' w w' p h h' =
-    let front = own a.0.now a.1.0.count in
-    let x = h.0 _ front in
-    let y = h'.0 _ front in
+    let front = own_read a.0.now a.1.0 in
+    let x = h _ front in
+    let y = h' _ front in
     (same_said x y, λ i. (tt, (tt, (same_room x y i, tt))))

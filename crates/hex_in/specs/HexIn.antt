@@ -1,5 +1,5 @@
 -- What the program says of a text on standard input: the 48 bytes that it has, or why it is not taken.
-use Rattle.std.specs.Prelude.{Bool, List, ◌++◌, ℕ, ltb, length}
+use Rattle.std.specs.Prelude.{Option, Some, None, Ok, Err, Bool, List, ◌++◌, ℕ, ltb, length}
 use Rattle.numbers.specs.Choice.{pick}
 use Rattle.digits.specs.Ascii.{ascii}
 use Rattle.digits.specs.Digits.{decimal_text}
@@ -11,9 +11,7 @@ use Rattle.intel_hex.specs.declared.Gap.{Gap}
 use Rattle.intel_hex.specs.declared.Gap.TheVariants as gap
 use Rattle.intel_hex.specs.declared.HexRefusal.{HexRefusal}
 use Rattle.intel_hex.specs.declared.HexRefusal.TheVariants.{Line, Whole, Image, Room}
-use Rattle.intel_hex.specs.declared.Answer.{Answer}
-use Rattle.intel_hex.specs.declared.Answer.TheVariants.{Done, Refused}
-use Rattle.intel_hex.specs.Export.{hex_refusal_number}
+use Rattle.intel_hex.specs.Export.{Answer, hex_refusal_number}
 use Rattle.intel_hex.specs.Import.{text_lines, imported_of, import_answer}
 use Rattle.intel_hex.specs.Flaw.{flaw_from, gap_of}
 
@@ -51,9 +49,14 @@ hex_in_room_words = ascii "the room for the bytes is too small"
 abbrev pub hex_in_other_words : List ℕ
 hex_in_other_words = ascii "the text is refused"
 
+-- the first bad line; a text that is refused for a line has one
+abbrev pub first_words : Option Flaw → List ℕ
+first_words (Some flaw) = flaw_words flaw
+first_words None = hex_in_other_words
+
 -- of a text by its lines; an import is never refused for an image
 abbrev pub hex_in_refusal_words : HexRefusal → List (List ℕ) → List ℕ
-hex_in_refusal_words (Line fault) ls = flaw_words (flaw_from 1 ls)
+hex_in_refusal_words (Line fault) ls = first_words (flaw_from 1 ls)
 hex_in_refusal_words Whole ls = gap_words (gap_of ls)
 hex_in_refusal_words Image ls = hex_in_other_words
 hex_in_refusal_words Room ls = hex_in_room_words
@@ -73,8 +76,8 @@ room_size = 128
 
 -- the bytes go to standard output, a refusal to standard error
 abbrev pub hex_in_by : Answer → List (List ℕ) → Speech
-hex_in_by Done ls = output (imported_of ls)
-hex_in_by (Refused why) ls = error (refused_text (hex_refusal_number why) (hex_in_refusal_words why ls))
+hex_in_by (Ok _) ls = output (imported_of ls)
+hex_in_by (Err why) ls = error (refused_text (hex_refusal_number why) (hex_in_refusal_words why ls))
 
 unfoldable pub hex_in_speech : List ℕ → Speech
 hex_in_speech text = pick (ltb most_text (length text)) (error hex_in_over_text) (hex_in_by (import_answer (text_lines text) room_size) (text_lines text))

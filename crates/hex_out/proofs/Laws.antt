@@ -2,25 +2,26 @@
 use mathlib.Core.Path.{◌≡◌, refl, sym, ap, ◌∙◌}
 use mathlib.Core.Bool.{Bool, true, false}
 use mathlib.Core.List.{List, []}
+use Rattle.std.specs.Prelude.{Err}
 use Prim.Native.Nat.{ℕ, ◌<◌}
 use native.Mathlib.Omega.{arith}
 use borrow.Author.Tests.{ne_eqb}
-use lib.ListN.{length, take}
+use lib.ListN.{length}
+use Rattle.std.specs.Prelude.{Err}
 use Rattle.numbers.specs.Choice.{both}
 use Rattle.streams.specs.declared.Said.{Said}
 use Rattle.streams.specs.declared.Stream.TheVariants.{Output}
-use Rattle.streams.specs.Streams.{Front, CountWithin, Speech, Saying, error, refused_text}
+use Rattle.streams.specs.Streams.{Speech, Saying, error, refused_text}
 use Rattle.digits.specs.Ascii.{ascii}
-use Rattle.streams.proofs.Laws.{cut, seen, front_put}
+use Rattle.streams.specs.Work.{AlikeOfTwoFrom}
+use Rattle.streams.proofs.Laws.{front_put}
 use Rattle.record.specs.Image.{image_size, image_block}
 use Rattle.record.specs.declared.Refusal.TheVariants.{Size}
-use Rattle.record.specs.declared.Taken.TheVariants as taken
 use Rattle.record.specs.Record.{judged_among, judged_of}
 use Rattle.intel_hex.specs.declared.HexRefusal.{HexRefusal}
 use Rattle.intel_hex.specs.declared.HexRefusal.TheVariants.{Image}
-use Rattle.intel_hex.specs.declared.Answer.{Answer}
-use Rattle.intel_hex.specs.declared.Answer.TheVariants.{Done, Refused}
-use Rattle.intel_hex.specs.Export.{hex_refusal_number, image_accepted, both_accepted, export_label, export_text, export_size, export_answer, Exporting}
+use Rattle.intel_hex.specs.Export.{Answer, done, hex_refusal_number, image_accepted, both_accepted}
+use Rattle.intel_hex.specs.Export.{export_label, export_text, export_size, export_answer, Exporting}
 use Rattle.intel_hex.proofs.Texts.{granted, label_sized, block_sized, text_length}
 use Rattle.hex_out.specs.HexOut.{side_words, refused_side_words, hex_out_refusal_words, hex_out_by, hex_out_speech}
 
@@ -36,7 +37,7 @@ module _ {pack factory room after : List ℕ} {answer : Answer} (w : Exporting p
   answered : export_answer pack factory export_size ≡ answer
   answered = ap (export_answer pack factory) (sym size) ∙ sym w.answer
 
-  pub text_said : answer ≡ Done → length after ≡ length room →
+  pub text_said : answer ≡ done → length after ≡ length room →
       Saying (hex_out_speech pack factory) room (record { stream = Output; count = length after }) after
   unfolding hex_out_speech
   text_said is kept =
@@ -52,7 +53,7 @@ module _ {pack factory room after : List ℕ} {answer : Answer} (w : Exporting p
         written = rw (sym w.answer ∙ is) at w.written ∙ sym front;
       })
 
-  pub refusal_said : {why : HexRefusal} {r : Said} {last : List ℕ} → answer ≡ Refused why →
+  pub refusal_said : {why : HexRefusal} {r : Said} {last : List ℕ} → answer ≡ Err why →
       Saying (error (refused_text (hex_refusal_number why) (hex_out_refusal_words why pack factory))) after r last
       → Saying (hex_out_speech pack factory) room r last
   unfolding hex_out_speech
@@ -60,15 +61,15 @@ module _ {pack factory room after : List ℕ} {answer : Answer} (w : Exporting p
 
 -- ---- of a file that is too long the bytes do not matter
 
-long_judged : (image : List ℕ) → image_size < length image → judged_of image ≡ taken.Refused Size
+long_judged : (image : List ℕ) → image_size < length image → judged_of image ≡ Err Size
 unfolding judged_among
 long_judged image long = rw (ne_eqb (length image) image_size (λ e. omega arith)) refl
 
-none_judged : judged_of [] ≡ taken.Refused Size
+none_judged : judged_of [] ≡ Err Size
 unfolding judged_among
 none_judged = refl
 
-refused_by : (pack factory : List ℕ) → both_accepted pack factory ≡ false → hex_out_speech pack factory ≡ hex_out_by (Refused Image) pack factory
+refused_by : (pack factory : List ℕ) → both_accepted pack factory ≡ false → hex_out_speech pack factory ≡ hex_out_by (Err Image) pack factory
 unfolding hex_out_speech export_answer
 refused_by pack factory e = rw e refl
 
@@ -91,12 +92,6 @@ long_factory pack factory long =
     last true = refl
     last false = refl
 
--- what is said of what was read is what is said of the two files
-pub both_seen : {pack factory s t : List ℕ} {i j n m : ℕ} → length pack ≡ 61 → length factory ≡ 61 → CountWithin i pack n →
-    CountWithin j factory m
-    → Front s pack i → Front t factory j → hex_out_speech (take n pack) (take m factory) ≡ hex_out_speech s t
-both_seen {pack} {factory} {s} {t} {i} {j} {n} {m} one two first second front other =
-    ap (λ (l : List ℕ). hex_out_speech l (take m factory)) (cut first)
-    ∙ ap (hex_out_speech (take i pack)) (cut second)
-    ∙ seen (λ l. hex_out_speech l (take j factory)) long_speech image_size (long_pack (take j factory)) one front
-    ∙ seen (hex_out_speech s) (hex_out_speech s []) image_size (long_factory s) two other
+pub alike : AlikeOfTwoFrom 61 61 hex_out_speech
+alike =
+    (λ t s s' long long'. long_pack t s long ∙ sym (long_pack t s' long'), λ s t t' long long'. long_factory s t long ∙ sym (long_factory s t' long'))

@@ -1,7 +1,8 @@
 -- The contracts of this program's functions leave no choice.
-use mathlib.Core.Path.{sym, ◌∙◌}
+use mathlib.Core.Path.{refl, sym, ◌∙◌}
 use Rattle.numbers.specs.Once.{Once}
-use Rattle.streams.proofs.Laws.{own, same_said, same_room}
+use Rattle.digits.proofs.Unique.{same}
+use Rattle.streams.proofs.Laws.{own_read, same_said, same_room}
 use Rattle.hex_out.proofs.put_refusal
 use Rattle.hex_out.specs.contracts.put_refusal as put_refusal'
 use Rattle.hex_out.proofs.put_side
@@ -16,7 +17,7 @@ use Rattle.hex_out.proofs.exported
 use Rattle.hex_out.specs.contracts.exported as exported'
 
 pub put_refusal_once : Once put_refusal'.ended put_refusal.Reads.Pre put_refusal.Reads.Learnt
-put_refusal_once κs a r r' w w' p h h' = (h.onward ∙ sym h'.onward, λ i. (tt, ((h.written ∙ sym h'.written) i, (tt, tt))))
+put_refusal_once κs a r r' w w' p h h' = (refl, λ i. (tt, (same h h' i, tt)))
 
 pub put_side_once : Once put_side'.ended put_side.Reads.Pre put_side.Reads.Learnt
 put_side_once κs a r r' w w' p h h' = (same_said h h', λ i. (tt, (tt, (tt, (same_room h h' i, tt)))))
@@ -28,12 +29,12 @@ pub put_why_once : Once put_why'.ended put_why.Reads.Pre put_why.Reads.Learnt
 put_why_once κs a r r' w w' p h h' = (same_said h h', λ i. (tt, (tt, (tt, (same_room h h' i, tt)))))
 
 pub put_export_once : Once put_export'.ended put_export.Reads.Pre put_export.Reads.Learnt
-put_export_once κs a r r' w w' p h h' = (same_said h h', λ i. (tt, (tt, (tt, (same_room h h' i, tt)))))
+put_export_once κs a r r' w w' p h h' = (same_said h h', λ i. (tt, (tt, (same_room h h' i, tt))))
 
 pub exported_once : Once exported'.ended exported.Reads.Pre exported.Reads.Learnt
 exported_once κs a r r' w w' p h h' =
-    let one = own a.0.now a.1.0.count in
-    let other = own a.1.1.0.now a.1.1.1.0.count in
-    let x = h.0 _ _ one other in
-    let y = h'.0 _ _ one other in
+    let one = own_read a.0.now a.1.0 in
+    let other = own_read a.1.1.0.now a.1.1.1.0 in
+    let x = h _ _ one other in
+    let y = h' _ _ one other in
     (same_said x y, λ i. (tt, (tt, (tt, (tt, (same_room x y i, tt))))))

@@ -1,5 +1,5 @@
 -- What the program says of a pack's image and the factory's: the text for the programmer, or why there is none.
-use Rattle.std.specs.Prelude.{Bool, List, [], ◌++◌, ℕ, eqb}
+use Rattle.std.specs.Prelude.{Ok, Err, Bool, List, [], ◌++◌, ℕ, eqb}
 use Rattle.numbers.specs.Choice.{pick}
 use Rattle.digits.specs.Ascii.{ascii}
 use Rattle.digits.specs.Digits.{decimal_text}
@@ -9,9 +9,7 @@ use Rattle.record.specs.Record.{taken_number, judged_of}
 use Rattle.text.specs.Text.{image_meaning}
 use Rattle.intel_hex.specs.declared.HexRefusal.{HexRefusal}
 use Rattle.intel_hex.specs.declared.HexRefusal.TheVariants.{Line, Whole, Image, Room}
-use Rattle.intel_hex.specs.declared.Answer.{Answer}
-use Rattle.intel_hex.specs.declared.Answer.TheVariants.{Done, Refused}
-use Rattle.intel_hex.specs.Export.{hex_refusal_number, export_label, export_text, export_size, export_answer}
+use Rattle.intel_hex.specs.Export.{Answer, hex_refusal_number, export_label, export_text, export_size, export_answer}
 
 -- ---- what the refusals mean
 
@@ -48,8 +46,8 @@ hex_out_refusal_words Room pack factory = hex_out_room_words
 
 -- the text goes to standard output, a refusal to standard error
 abbrev pub hex_out_by : Answer → List ℕ → List ℕ → Speech
-hex_out_by Done pack factory = output (export_text (export_label pack factory) (image_block pack))
-hex_out_by (Refused why) pack factory = error (refused_text (hex_refusal_number why) (hex_out_refusal_words why pack factory))
+hex_out_by (Ok _) pack factory = output (export_text (export_label pack factory) (image_block pack))
+hex_out_by (Err why) pack factory = error (refused_text (hex_refusal_number why) (hex_out_refusal_words why pack factory))
 
 -- with room for the whole text
 unfoldable pub hex_out_speech : List ℕ → List ℕ → Speech

@@ -1,25 +1,32 @@
 // hex_out PACK FACTORY: writes the label and block 1 of a pack as Intel HEX, the label of the factory's image where the pack's block 0 is not locked
 #![tactic(auto)]
 
-ghost use Rattle.std.specs.Prelude.{◌≡◌, List, ℕ, ◌+◌, ◌≤◌, length};
+ghost use Rattle.std.specs.Prelude.{◌≡◌, List, ℕ, ◌+◌, ◌≤◌, length, is_err, IfOk};
 ghost use Rattle.numbers.specs.Choice.{either};
 ghost use Rattle.streams.specs.Streams.{Front, Saying, error, refused_text};
-ghost use Rattle.digits.specs.Digits.{Writing};
+ghost use Rattle.digits.specs.Digits.{Appends};
 ghost use Rattle.intel_hex.specs.Export.{hex_refusal_number};
-ghost use Rattle.hex_out.specs.HexOut.{refused_as_text, side_words, refused_side_words, hex_out_refusal_words, hex_out_of};
+ghost use Rattle.hex_out.specs.HexOut.{refused_as_text, side_words, refused_side_words, hex_out_refusal_words, hex_out_speech, hex_out_of};
 
-use intel_hex::{Answer, HexRefusal};
-use streams::{Input, Said, Stream};
+use digits::Page;
+use intel_hex::HexRefusal;
+use streams::{Said, Stream, Unread};
+
+const PACK_ROOM: usize = 61;
+
+const FACTORY_ROOM: usize = 61;
+
+const TEXT_ROOM: usize = 144;
 
 // What a record of an image would be refused with.
-fn put_refusal(refusal: u8, room: &mut [u8], at: usize) -> usize
-    requires { at + 96 ≤ length room.old }
-    ensures { Writing 96 (refused_as_text refusal) room.old at result room.new }
+fn put_refusal(refusal: u8, page: &mut Page)
+    requires { page.old.used + 96 ≤ length page.old.room.now }
+    ensures { Appends 96 (refused_as_text refusal) page.old page.new }
 {
-    let a = digits::put_bytes(b" is refused in a record of kind 1 with ", room, at);
-    let b = digits::put_decimal(refusal as usize, room, a);
-    let c = digits::put_bytes(b": ", room, b);
-    text::put_meaning(refusal, room, c)
+    page.put_bytes(b" is refused in a record of kind 1 with ");
+    page.put_decimal(refusal as usize);
+    page.put_bytes(b": ");
+    text::put_meaning(refusal, page);
 }
 
 // The image of the pack or of the factory.
@@ -28,16 +35,16 @@ fn put_side(number: u8, side: &[u8], refusal: u8, room: &mut [u8]) -> Said
     requires room_len { length room.old ≡ 144 }
     ensures { Saying (error (refused_text number (side_words side.now refusal))) room.old result room.new }
 {
-    let a = digits::put_decimal(number as usize, room, 0);
-    let b = digits::put_bytes(b": ", room, a);
-    let c = digits::put_bytes(b"the image of the ", room, b);
-    let d = digits::put_bytes(side, room, c);
-    let e = put_refusal(refusal, room, d);
-    let count = digits::put_byte(b'\n', room, e);
-    let stream = Stream::Error;
+    let mut page = Page::new(room);
+    page.put_decimal(number as usize);
+    page.put_bytes(b": ");
+    page.put_bytes(b"the image of the ");
+    page.put_bytes(side);
+    put_refusal(refusal, &mut page);
+    page.put_byte(b'\n');
     Said {
-        stream: stream,
-        count: count,
+        stream: Stream::Error,
+        count: page.used,
     }
 }
 
@@ -60,10 +67,11 @@ fn put_why(why: HexRefusal, pack: &[u8], factory: &[u8], room: &mut [u8]) -> Sai
     ensures { Saying (error (refused_text (hex_refusal_number why) (hex_out_refusal_words why pack.now factory.now)))
         room.old result room.new }
 {
-    let number = intel_hex::answer_number(Answer::Refused(why));
+    let number = u8::from(why);
     match why {
-        HexRefusal::Line(_) => streams::put_refused(number, b"the text is refused", room),
-        HexRefusal::Whole => streams::put_refused(number, b"the text is refused", room),
+        HexRefusal::Line(_) | HexRefusal::Whole => {
+            streams::put_refused(number, b"the text is refused", room)
+        }
         HexRefusal::Image => put_image_refused(number, pack, factory, room),
         HexRefusal::Room => streams::put_refused(
             number,
@@ -73,58 +81,36 @@ fn put_why(why: HexRefusal, pack: &[u8], factory: &[u8], room: &mut [u8]) -> Sai
     }
 }
 
-// Of a file that was not read something was said already.
-fn put_export<'a>(unread: bool, pack: &'a [u8], factory: &'a [u8], room: &mut [u8]) -> Said
+fn put_export(pack: &[u8], factory: &[u8], room: &mut [u8]) -> Said
     requires { length room.old ≡ 144 }
-    ensures { Saying (hex_out_of unread pack.now factory.now) room.old result room.new }
+    ensures { Saying (hex_out_speech pack.now factory.now) room.old result room.new }
 {
-    if unread {
-        let stream = Stream::Error;
-        return Said {
-            stream: stream,
-            count: 0,
-        };
-    }
-    let answer = intel_hex::write_text(pack, factory, room);
-    match answer {
-        Answer::Done => {
-            let count = room.len();
-            let stream = Stream::Output;
-            Said {
-                stream: stream,
-                count: count,
-            }
-        }
-        Answer::Refused(why) => put_why(why, pack, factory, room),
+    match intel_hex::write_text(pack, factory, room) {
+        Ok(()) => Said {
+            stream: Stream::Output,
+            count: room.len(),
+        },
+        Err(why) => put_why(why, pack, factory, room),
     }
 }
 
-// What the program says. A byte more than an image has is enough to know of any file. (That the room keeps its length is said for `main`.)
-fn exported<'a>(
-    pack: &'a [u8; 61],
-    one: Input,
-    factory: &'a [u8; 61],
-    other: Input,
-    room: &mut [u8; 144],
+// What the program says. A byte more than an image has is enough to know of any file.
+fn exported(
+    pack: &[u8],
+    one: Result<usize, Unread>,
+    factory: &[u8],
+    other: Result<usize, Unread>,
+    room: &mut [u8],
 ) -> Said
-    ensures by_index { (s t : List ℕ) → Front s pack.now one.count → Front t factory.now other.count →
-        Saying (hex_out_of (either one.failed other.failed) s t) room.old result room.new }
-    ensures value { 144 ≡ length room.new }
+    requires pack_room { length pack.now ≡ 61 }
+    requires factory_room { length factory.now ≡ 61 }
+    requires text_room { length room.old ≡ 144 }
+    ensures by_index { (s t : List ℕ) → IfOk one (Front s pack.now) → IfOk other (Front t factory.now) →
+        Saying (hex_out_of (either (is_err one) (is_err other)) s t) room.old result room.new }
 {
-    let unread = numbers::or(one.failed, other.failed);
-    let n = streams::within(one.count, pack);
-    let m = streams::within(other.count, factory);
-    let all: &[u8] = pack;
-    let bytes: &[u8] = factory;
-    put_export(unread, &all[..n], &bytes[..m], room)
+    streams::put_answer_of_two(pack, one, factory, other, room, put_export)
 }
 
 fn main(rt: HostRuntime) {
-    let mut pack = [0u8; 61];
-    let one = streams::read_named(&rt, b"hex_out", 1, &mut pack);
-    let mut factory = [0u8; 61];
-    let other = streams::read_named(&rt, b"hex_out", 2, &mut factory);
-    let mut room = [0u8; 144];
-    let said = exported(&pack, one, &factory, other, &mut room);
-    streams::say(&rt, b"hex_out", said, &room);
+    streams::answer_files::<PACK_ROOM, FACTORY_ROOM, TEXT_ROOM, _>(&rt, b"hex_out", exported);
 }

@@ -1,18 +1,17 @@
 -- What follows of the definitions of what is wrong with a text: its number is that of the refusal, and the laws of the loop that looks for it.
-use Rattle.std.proofs.Common.{◌≡◌, ℕ, ◌+◌, ◌-◌, ◌≤◌, Bool, true, false, eqb, ltb, List, [], ◌∷◌, length, get_or, drop, sym, refl, ap, ◌∙◌, arith}
+use Rattle.std.specs.Prelude.{Option, Some, Ok, Err}
+use Rattle.std.proofs.Common.{◌≡◌, ℕ, ◌+◌, ◌-◌, ◌≤◌, Bool, true, false, eqb, ltb, List, [], ◌∷◌, length, get_or, sym, refl, ap, ◌∙◌, arith}
 use Rattle.numbers.specs.Choice.{pick}
 use Rattle.slices.specs.Slices.{part}
 use Rattle.digits.specs.Digits.{upper, hex_digits}
 use Rattle.intel_hex.specs.declared.Fault.{Fault}
 use Rattle.intel_hex.specs.declared.Fault.TheVariants as fault
-use Rattle.intel_hex.specs.declared.CheckedLine.{CheckedLine}
-use Rattle.intel_hex.specs.declared.CheckedLine.TheVariants.{Good, Bad}
 use Rattle.intel_hex.specs.declared.Cause.TheVariants as cause
+use Rattle.intel_hex.specs.declared.Flaw.{Flaw}
 use Rattle.intel_hex.specs.declared.HexRefusal.TheVariants as why
-use Rattle.intel_hex.specs.declared.Answer.TheVariants.{Refused}
-use Rattle.intel_hex.specs.Line.{colon, line_feed, digits_in, formed_of, sums_to_zero, expected_of, checked_line_of, fault_number}
+use Rattle.intel_hex.specs.Line.{CheckedLine, good, colon, line_feed, digits_in, formed_of, sums_to_zero, expected_of, checked_line_of, fault_number}
 use Rattle.intel_hex.specs.Export.{answer_number}
-use Rattle.intel_hex.specs.Import.{text_lines, Cut, after_line, lines_answer}
+use Rattle.intel_hex.specs.Import.{after_line, lines_answer}
 use Rattle.intel_hex.specs.Flaw.{carriage_return, pairs_cause, begun_cause, form_cause, cause_of, cause_number, flaw_by, flaw_from, FlawNumbers}
 
 -- ---- the number of a cause
@@ -36,15 +35,15 @@ form_number l =
 
 -- 0 where a line is good
 abbrev checked_number : CheckedLine → ℕ
-checked_number Good = 0
-checked_number (Bad fault) = fault_number fault
+checked_number (Ok _) = 0
+checked_number (Err fault) = fault_number fault
 
-cause_number_lem : (l : List ℕ) (fault : Fault) → checked_line_of l ≡ Bad fault → cause_number (cause_of l) ≡ fault_number fault
+cause_number_lem : (l : List ℕ) (fault : Fault) → checked_line_of l ≡ Err fault → cause_number (cause_of l) ≡ fault_number fault
 unfolding checked_line_of cause_of
 cause_number_lem l f e = by (formed_of l) (sums_to_zero l) (expected_of l) (ap checked_number e)
   where
     by : (formed summed expected : Bool)
-        → checked_number (pick formed (pick summed (pick expected Good (Bad fault.Record)) (Bad fault.Checksum)) (Bad fault.Form)) ≡ fault_number f
+        → checked_number (pick formed (pick summed (pick expected good (Err fault.Record)) (Err fault.Checksum)) (Err fault.Form)) ≡ fault_number f
         → cause_number (pick formed (pick summed cause.Place cause.Sum) (form_cause l)) ≡ fault_number f
     by true true true h = absurd (above f h)
       where
@@ -56,30 +55,22 @@ cause_number_lem l f e = by (formed_of l) (sums_to_zero l) (expected_of l) (ap c
     by true false x h = h
     by false x y h = form_number l ∙ h
 
-flaw_number : (number : ℕ) (fault : Fault) (ls : List (List ℕ)) → lines_answer ls ≡ Refused (why.Line fault)
-    → cause_number (flaw_from number ls).cause ≡ fault_number fault
-flaw_number number fault [] e = cc
+-- there is a bad line, and its cause has the number of the fault
+abbrev Numbered : Option Flaw → Fault → Type 0
+Numbered found fault = (flaw : Flaw) × (found ≡ Some flaw) × (cause_number flaw.cause ≡ fault_number fault)
+
+flaw_number : (number : ℕ) (fault : Fault) (ls : List (List ℕ)) → lines_answer ls ≡ Err (why.Line fault) → Numbered (flaw_from number ls) fault
+flaw_number number fault [] e = let z : ◌≡◌ {A = ℕ} 0 1 = cc in absurd (omega arith)
 flaw_number number fault (l ∷ ls) e = by (checked_line_of l) refl (flaw_number (number + 1) fault ls) e
   where
     by : (c : CheckedLine) → checked_line_of l ≡ c
-        → (lines_answer ls ≡ Refused (why.Line fault) → cause_number (flaw_from (number + 1) ls).cause ≡ fault_number fault)
-        → after_line c (lines_answer ls) ≡ Refused (why.Line fault) → cause_number (flaw_by c number l (flaw_from (number + 1) ls)).cause ≡ fault_number fault
-    by Good is later so = later so
-    by (Bad f) is later so = cause_number_lem l f is ∙ ap answer_number so
+        → (lines_answer ls ≡ Err (why.Line fault) → Numbered (flaw_from (number + 1) ls) fault)
+        → after_line c (lines_answer ls) ≡ Err (why.Line fault) → Numbered (flaw_by c number l (flaw_from (number + 1) ls)) fault
+    by (Ok _) is later so = later so
+    by (Err f) is later so = (record { line = number; cause = cause_of l }, refl, cause_number_lem l f is ∙ ap answer_number so)
 
 pub flaw_numbers : FlawNumbers
 flaw_numbers ls fault e = flaw_number 1 fault ls e
-
--- ---- from line to line
-
-module _ {text : List ℕ} {at end : ℕ} (cut : Cut text at end) (number : ℕ) where
-  pub flaw_good : checked_line_of (part (end - at) text at) ≡ Good
-      → flaw_from number (text_lines (drop at text)) ≡ flaw_from (number + 1) (text_lines (drop end text))
-  flaw_good good = ap (flaw_from number) cut.lines ∙ rw good refl
-
-  pub flaw_bad : {fault : Fault} → checked_line_of (part (end - at) text at) ≡ Bad fault
-      → flaw_from number (text_lines (drop at text)) ≡ record { line = number; cause = cause_of (part (end - at) text at) }
-  flaw_bad bad = ap (flaw_from number) cut.lines ∙ rw bad refl
 
 -- what is between the first byte and the last, as the code takes it
 pub digits_alone : (l : List ℕ) {told b : Bool} → 2 ≤ length l → told ≡ hex_digits upper (part (length l - 1 - 1) l 1) → told ≡ b

@@ -1,6 +1,6 @@
 -- What follows of the definitions of a line, for its functions.
 use Rattle.std.proofs.Common.{◌≡◌, ℕ, ◌+◌, ◌-◌, ◌*◌, ◌/◌, ◌%◌, ◌<◌, ◌≤◌, Bool, true, false, eqb, List, [], ◌∷◌, ◌++◌, length, get_or, take, drop, set}
-use Rattle.std.proofs.Common.{replicate, sym, refl, ap, ◌∙◌, add-one, arith, length-drop, length-take, get_or-drop, drop-cons, get_or-take, take_at, ne_eqb}
+use Rattle.std.proofs.Common.{replicate, sym, refl, ap, ◌∙◌, arith, length-drop, length-take, get_or-drop, get_or-take, take_at, ne_eqb}
 use Rattle.std.proofs.Common.{eqb-true}
 use lib.ListN.{get_or-eq_default}
 use lib.Seq.{set_at}
@@ -8,30 +8,9 @@ use Rattle.numbers.specs.Choice.{both}
 use Rattle.numbers.proofs.Bounds.{both_true}
 use Rattle.slices.specs.Slices.{part, put}
 use Rattle.slices.proofs.Laws.{put_next, put_front, part_length}
-use Rattle.digits.specs.Digits.{upper, pair_value, hex_bytes, hex_digits}
+use Rattle.digits.specs.Digits.{upper, pair_value, hex_digits}
 use Rattle.digits.proofs.Read.{bytes_length, byte_there}
-use Rattle.intel_hex.specs.Line.{colon, line_feed, byte_sum, checksum_of, content_of, data_record, digits_in, bytes_in, length_in, data_in, formed_of}
-
--- ---- sums
-
-pub sum_more : (s : List ℕ) (i : ℕ) → i < length s → byte_sum (drop i s) ≡ get_or s i 0 + byte_sum (drop (i + 1) s)
-sum_more s i h = rw (add-one, drop-cons s i 0) refl
-
--- of the bytes that digits stand for
-pub read_more : (s : List ℕ) (i : ℕ) → 2 ≤ length s - i
-    → byte_sum (hex_bytes upper (drop i s)) ≡ pair_value upper (get_or s i 0) (get_or s (i + 1) 0) + byte_sum (hex_bytes upper (drop (i + 2) s))
-read_more s i h =
-    let first : i < length s = omega arith in
-    let second : i + 1 < length s = omega arith in
-    let next : i + 1 + 1 ≡ i + 2 = omega arith in
-    let twice : drop i s ≡ get_or s i 0 ∷ get_or s (i + 1) 0 ∷ drop (i + 2) s
-    = rw (drop-cons s i 0 first, ← add-one i, drop-cons s (i + 1) 0 second, ← add-one (i + 1), next) refl in
-    rw twice refl
-
-pub read_end : (s : List ℕ) → length s < 2 → byte_sum (hex_bytes upper s) ≡ 0
-read_end [] h = refl
-read_end (a ∷ []) h = refl
-read_end (a ∷ b ∷ cs) h = absurd (omega arith)
+use Rattle.intel_hex.specs.Line.{colon, line_feed, checksum_of, content_of, data_record, digits_in, bytes_in, length_in, data_in, formed_of}
 
 -- ---- a record of data, laid over an array of 21
 

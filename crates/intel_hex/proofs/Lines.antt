@@ -1,134 +1,149 @@
 -- What follows of the definitions of lines, for the loops that go from line to line.
-use Rattle.std.proofs.Common.{◌≡◌, ℕ, suc, ◌+◌, ◌-◌, ◌<◌, ◌≤◌, Bool, true, false, eqb, ltb, List, [], ◌∷◌, ◌++◌, length, get_or, drop, sym, refl, ap, ◌∙◌}
-use Rattle.std.proofs.Common.{add-one, arith, length-append, length-drop, drop_of_length-le, length-take, get_or-drop, drop-cons, take-suc, ltb-false, eqb-true}
+use Rattle.std.proofs.Common.{◌≡◌, ℕ, suc, ◌+◌, ◌<◌, ◌≤◌, Bool, true, false, eqb, ltb, List, [], ◌∷◌, ◌++◌, length, drop, sym, refl, ap, ◌∙◌}
+use Rattle.std.specs.Prelude.{Option, Some, None, Ok, Err}
+use Rattle.std.specs.Borrow.{Bor}
+use Rattle.std.specs.Iterator.{YieldsFirstRef, Drains, DrainsIf}
+use Rattle.std.specs.List.{filter, last_or, position_or_len}
+use Rattle.std.proofs.lemmas.Iterator.{items_from_drains}
+use Rattle.std.proofs.lemmas.Iterator.Consumers.{YieldsList-from_first}
+use Rattle.intel_hex.specs.declared.TextLines.{TextLines}
+use Rattle.std.proofs.Common.{min, ltb-true, cond, map, arith, length-append, ltb-false, eq-eqb, eqb-true}
 use Rattle.numbers.specs.Choice.{pick, both}
-use Rattle.numbers.proofs.Bounds.{both_true}
-use Rattle.slices.specs.Slices.{part, put}
-use Rattle.slices.proofs.Laws.{put_next, put_front}
-use Rattle.intel_hex.specs.declared.Fault.{Fault}
-use Rattle.intel_hex.specs.declared.CheckedLine.{CheckedLine}
-use Rattle.intel_hex.specs.declared.CheckedLine.TheVariants.{Good, Bad}
-use Rattle.intel_hex.specs.Line.{line_feed, bytes_in, address_in, data_in, checked_line_of}
+use Rattle.numbers.proofs.Bounds.{picked, both_true}
+use Rattle.slices.specs.Slices.{put}
+use Rattle.slices.proofs.Laws.{put_front}
+use Rattle.digits.specs.Digits.{Writing}
+use Rattle.intel_hex.specs.Line.{CheckedLine, good, line_feed, bytes_in, address_in, data_in, checked_line_of}
 use Rattle.intel_hex.proofs.Laws.{data_length}
 use Rattle.intel_hex.proofs.OneLine.{good_long}
 use Rattle.intel_hex.specs.declared.HexRefusal.TheVariants as why
-use Rattle.intel_hex.specs.declared.Answer.{Answer}
-use Rattle.intel_hex.specs.declared.Answer.TheVariants.{Done, Refused}
-use Rattle.intel_hex.specs.Import.{ahead_of_lines, text_lines, Cut, after_line, lines_answer, count_of, once_of}
+use Rattle.intel_hex.specs.Export.{Answer, done}
+use Rattle.intel_hex.specs.Import.{ahead_of_lines, lines_left, text_lines, Cut, after_line, lines_answer, count_of, once_of}
 use Rattle.intel_hex.specs.Import.{last_address, whole_text, data_at, import_size, after_lines, import_answer}
 
--- ---- bytes in front of the first line
+-- ---- the end of the first line, looked for
 
-abbrev pub prefixed_of : List ℕ → List (List ℕ) → List (List ℕ)
-prefixed_of [] ls = ls
-prefixed_of (x ∷ xs) ls = ahead_of_lines x (prefixed_of xs ls)
+-- how many bytes come before the first line feed
+abbrev pub unfed : List ℕ → ℕ
+unfed text = position_or_len (λ (b : ℕ). eqb b line_feed) text
 
-prefixed_more : (xs : List ℕ) (c : ℕ) (ls : List (List ℕ)) → prefixed_of xs (ahead_of_lines c ls) ≡ prefixed_of (xs ++ (c ∷ [])) ls
-prefixed_more [] c ls = refl
-prefixed_more (x ∷ xs) c ls = ap (ahead_of_lines x) (prefixed_more xs c ls)
+abbrev end_of : List ℕ → ℕ
+end_of text = min (unfed text + 1) (length text)
 
-prefixed_line : (xs : List ℕ) (l : List ℕ) (ls : List (List ℕ)) → prefixed_of xs (l ∷ ls) ≡ (xs ++ l) ∷ ls
-prefixed_line [] l ls = refl
-prefixed_line (x ∷ xs) l ls = ap (ahead_of_lines x) (prefixed_line xs l ls)
+cut_first : (c : ℕ) (cs : List ℕ) → eqb c line_feed ≡ true → Cut (c ∷ cs) (end_of (c ∷ cs))
+cut_first c cs fed =
+    let none : unfed (c ∷ cs) ≡ 0 = rw fed refl in
+    let end : end_of (c ∷ cs) ≡ 1 = omega (arith, none) in
+    rw end (record { onward = omega arith; within = omega arith; lines = rw fed refl })
 
-prefixed_end : (x : ℕ) (xs : List ℕ) → prefixed_of (x ∷ xs) [] ≡ (x ∷ xs) ∷ []
-prefixed_end x [] = refl
-prefixed_end x (y ∷ ys) = ap (ahead_of_lines x) (prefixed_end y ys)
+cut_last : (c : ℕ) → eqb c line_feed ≡ false → Cut (c ∷ []) (end_of (c ∷ []))
+cut_last c other =
+    let end : end_of (c ∷ []) ≡ 1 = omega arith in
+    rw end (record { onward = omega arith; within = omega arith; lines = rw other refl })
 
-prefixed_some : (xs : List ℕ) → 0 < length xs → prefixed_of xs [] ≡ xs ∷ []
-prefixed_some [] h = absurd (omega arith)
-prefixed_some (x ∷ xs) h = prefixed_end x xs
+cut_later : (c : ℕ) (cs : List ℕ) → eqb c line_feed ≡ false → Cut cs (end_of cs) → Cut (c ∷ cs) (end_of (c ∷ cs))
+cut_later c cs other w =
+    let more : unfed (c ∷ cs) ≡ 1 + unfed cs = rw other refl in
+    let end : end_of (c ∷ cs) ≡ suc (end_of cs) = omega (arith, more) in
+    rw end (record { onward = omega arith; within = omega (arith, w.within); lines = rw (other, w.lines) refl })
 
--- ---- the end of a line, looked for
+line_cut : (text : List ℕ) → 0 < length text → Cut text (end_of text)
+line_cut [] some = absurd (omega arith)
+line_cut (c ∷ []) some = by (eqb c line_feed) refl
+  where
+    by : (b : Bool) → eqb c line_feed ≡ b → Cut (c ∷ []) (end_of (c ∷ []))
+    by true e = cut_first c [] e
+    by false e = cut_last c e
+line_cut (c ∷ d ∷ ds) some = by (eqb c line_feed) refl (line_cut (d ∷ ds) (omega arith))
+  where
+    by : (b : Bool) → eqb c line_feed ≡ b → Cut (d ∷ ds) (end_of (d ∷ ds)) → Cut (c ∷ d ∷ ds) (end_of (c ∷ d ∷ ds))
+    by true e w = cut_first c (d ∷ ds) e
+    by false e w = cut_later c (d ∷ ds) e w
 
--- no line feed so far
-abbrev pub Unfed : List ℕ → ℕ → ℕ → Type 0
-Unfed text at end = text_lines (drop at text) ≡ prefixed_of (part (end - at) text at) (text_lines (drop end text))
+-- by what `position` found
+abbrev pub end_by : Option ℕ → ℕ → ℕ
+end_by (Some i) size = i + 1
+end_by None size = size
 
-pub unfed_none : (text : List ℕ) (at : ℕ) → Unfed text at at
-unfed_none text at = let none : at - at ≡ 0 = omega arith in rw none refl
+pub cut_found : (text : List ℕ) (found : Option ℕ) → 0 < length text → found ≡ cond (ltb (unfed text) (length text)) (Some (unfed text)) None
+    → Cut text (end_by found (length text))
+cut_found text found some is = rw is (by (ltb (unfed text) (length text)) refl)
+  where
+    by : (b : Bool) → ltb (unfed text) (length text) ≡ b → Cut text (end_by (cond b (Some (unfed text)) None) (length text))
+    by true e =
+        let end : end_of text ≡ unfed text + 1 = omega (arith, ltb-true (unfed text) (length text) e) in
+        rw end at (line_cut text some)
+    by false e =
+        let end : end_of text ≡ length text = omega (arith, ltb-false (unfed text) (length text) e) in
+        rw end at (line_cut text some)
 
-module _ (text : List ℕ) (at end : ℕ) (from : at ≤ end) where
-  module _ (inside : end < length text) where
-    part_more : part (end - at) text at ++ (get_or text end 0 ∷ []) ≡ part (end + 1 - at) text at
-    part_more =
-        let there : end - at < length (drop at text) = omega (arith, length-drop at text) in
-        let back : at + (end - at) ≡ end = omega arith in
-        let next : suc (end - at) ≡ end + 1 - at = omega arith in
-        ap (λ (b : ℕ). part (end - at) text at ++ (b ∷ [])) (sym (get_or-drop at text (end - at) 0 ∙ ap (λ (n : ℕ). get_or text n 0) back))
-        ∙ sym (take-suc (drop at text) (end - at) 0 there)
-        ∙ ap (λ (n : ℕ). part n text at) next
+-- there are no more lines than bytes
+pub lines_few : (text : List ℕ) → length (text_lines text) ≤ length text
+lines_few [] = omega arith
+lines_few (c ∷ cs) =
+    picked (λ (ls : List (List ℕ)). length ls ≤ suc (length cs)) (eqb c line_feed) ((c ∷ []) ∷ text_lines cs) (ahead_of_lines c (text_lines cs))
+    (λ e. omega (arith, lines_few cs)) (λ e. by (text_lines cs) (lines_few cs))
+  where
+    by : (ls : List (List ℕ)) → length ls ≤ length cs → length (ahead_of_lines c ls) ≤ suc (length cs)
+    by [] h = omega arith
+    by (l ∷ ls) h = omega arith
 
-    rest : drop end text ≡ get_or text end 0 ∷ drop (end + 1) text
-    rest = rw add-one (drop-cons text end 0 inside)
+-- how many lines have an address, by the list of those that have it
+pub count_is : (address : ℕ) (ls : List (List ℕ)) → length (filter (λ (l : List ℕ). eqb (address_in l) address) ls) ≡ count_of address ls
+count_is address [] = refl
+count_is address (l ∷ ls) = by (eqb (address_in l) address) (count_is address ls)
+  where
+    by : (b : Bool) → length (filter (λ (m : List ℕ). eqb (address_in m) address) ls) ≡ count_of address ls
+        → length (cond b (l ∷ filter (λ (m : List ℕ). eqb (address_in m) address) ls) (filter (λ (m : List ℕ). eqb (address_in m) address) ls))
+        ≡ pick b 1 0 + count_of address ls
+    by true e = omega (arith, e)
+    by false e = omega (arith, e)
 
-    pub line_more : eqb (get_or text end 0) line_feed ≡ false → Unfed text at end → Unfed text at (end + 1)
-    line_more other so =
-        let first : text_lines (drop end text) ≡ ahead_of_lines (get_or text end 0) (text_lines (drop (end + 1) text)) = ap text_lines rest ∙ rw other refl in
-        so ∙ ap (prefixed_of (part (end - at) text at)) first
-        ∙ prefixed_more (part (end - at) text at) (get_or text end 0) (text_lines (drop (end + 1) text))
-        ∙ ap (λ (xs : List ℕ). prefixed_of xs (text_lines (drop (end + 1) text))) part_more
+-- the address of the last of some lines that an iterator gave, or of the line before them
+abbrev pub last_by : Option (Bor (List ℕ)) → ℕ
+last_by None = 1
+last_by (Some l) = address_in l.now
 
-    pub line_fed : eqb (get_or text end 0) line_feed ≡ true → Unfed text at end → Cut text at (end + 1)
-    line_fed fed so =
-        let feed = get_or text end 0 ∷ [] in
-        let first : text_lines (drop end text) ≡ feed ∷ text_lines (drop (end + 1) text) = ap text_lines rest ∙ rw fed refl in
-        record {
-          onward = omega arith;
-          within = omega arith;
-          lines =
-              so ∙ ap (prefixed_of (part (end - at) text at)) first
-              ∙ prefixed_line (part (end - at) text at) feed (text_lines (drop (end + 1) text))
-              ∙ ap (λ (xs : List ℕ). xs ∷ text_lines (drop (end + 1) text)) part_more;
-        }
+last_of : (first : Option (Bor (List ℕ))) (ls : List (Bor (List ℕ)))
+    → last_address (last_by first) (map (λ (l : Bor (List ℕ)). l.now) ls) ≡ last_by (last_or first ls)
+last_of first [] = refl
+last_of first (l ∷ ls) = last_of (Some l) ls
 
-  -- the text ends
-  pub line_last : at < length text → length text ≤ end → end ≤ length text → Unfed text at end → Cut text at end
-  line_last some past within so =
-      let none : drop end text ≡ [] = drop_of_length-le text {i = end} past in
-      let long : 0 < length (part (end - at) text at) = omega (arith, length-take (end - at) (drop at text), length-drop at text) in
-      record {
-        onward = omega arith;
-        within = within;
-        lines =
-            so ∙ ap (λ (r : List ℕ). prefixed_of (part (end - at) text at) (text_lines r)) none
-            ∙ prefixed_some (part (end - at) text at) long
-            ∙ ap (λ (r : List ℕ). part (end - at) text at ∷ text_lines r) (sym none);
-      }
+pub last_is : {it : TextLines} (text : List ℕ) {last : Option (Bor (List ℕ))} → lines_left it ≡ text_lines text
+    → (ls : List (Bor (List ℕ))) × Drains (YieldsFirstRef lines_left) it ls × (last ≡ last_or None ls) → last_by last ≡ last_address 1 (text_lines text)
+last_is {it = it} text left ran =
+    let drained : DrainsIf (YieldsFirstRef lines_left) (Unit {0}) it ran.0 = (ran.1.1.0, ran.1.1.1, λ _. (ran.1.0, ran.1.1.2)) in
+    let all = items_from_drains ran.0 drained (YieldsList-from_first (λ (l : Bor (List ℕ)). l.now) lines_left (text_lines text) left) in
+    ap last_by ran.2 ∙ sym (last_of None ran.0) ∙ ap (last_address 1) all
 
--- ---- from line to line
+-- no line is empty
+abbrev first_length : List (List ℕ) → ℕ
+first_length [] = 1
+first_length (l ∷ ls) = length l
 
-module _ {text : List ℕ} {at end : ℕ} (cut : Cut text at end) where
-  pub answer_good : checked_line_of (part (end - at) text at) ≡ Good → lines_answer (text_lines (drop at text)) ≡ lines_answer (text_lines (drop end text))
-  answer_good good = ap lines_answer cut.lines ∙ rw good refl
+first_some : (text : List ℕ) → 0 < first_length (text_lines text)
+first_some [] = omega arith
+first_some (c ∷ cs) =
+    picked (λ (ls : List (List ℕ)). 0 < first_length ls) (eqb c line_feed) ((c ∷ []) ∷ text_lines cs) (ahead_of_lines c (text_lines cs))
+    (λ e. omega arith) (λ e. by (text_lines cs))
+  where
+    by : (ls : List (List ℕ)) → 0 < first_length (ahead_of_lines c ls)
+    by [] = omega arith
+    by (l ∷ ls) = omega arith
 
-  pub answer_bad : {fault : Fault} → checked_line_of (part (end - at) text at) ≡ Bad fault →
-      lines_answer (text_lines (drop at text)) ≡ Refused (why.Line fault)
-  answer_bad bad = ap lines_answer cut.lines ∙ rw bad refl
+pub line_some : (text : List ℕ) {line : List ℕ} {ls : List (List ℕ)} → text_lines text ≡ line ∷ ls → 0 < length line
+line_some text e = omega (arith, first_some text, ap first_length e)
 
-  module _ (address : ℕ) where
-    pub count_more : count_of address (text_lines (drop at text))
-        ≡ pick (eqb (address_in (part (end - at) text at)) address) 1 0 + count_of address (text_lines (drop end text))
-    count_more = ap (count_of address) cut.lines
-
-    pub last_more : last_address address (text_lines (drop at text)) ≡ last_address (address_in (part (end - at) text at)) (text_lines (drop end text))
-    last_more = ap (last_address address) cut.lines
-
-    pub data_here : eqb (address_in (part (end - at) text at)) address ≡ true →
-        data_at address (text_lines (drop at text)) ≡ data_in (part (end - at) text at)
-    data_here same = ap (data_at address) cut.lines ∙ rw same refl
-
-    pub data_later : eqb (address_in (part (end - at) text at)) address ≡ false →
-        data_at address (text_lines (drop at text)) ≡ data_at address (text_lines (drop end text))
-    data_later other = ap (data_at address) cut.lines ∙ rw other refl
+pub data_here : {address : ℕ} {line : List ℕ} {ls rest : List (List ℕ)} → ls ≡ line ∷ rest → address_in line ≡ address → data_at address ls ≡ data_in line
+data_here {address} {line} first same = ap (data_at address) first ∙ rw (eq-eqb (address_in line) address same) refl
 
 -- ---- where no line is bad, the data at an address that is there once are 16 bytes
 
-after_done : (x : CheckedLine) (y : Answer) → after_line x y ≡ Done → (x ≡ Good) × (y ≡ Done)
-after_done Good y e = (refl, e)
-after_done (Bad fault) y e = let z : ◌≡◌ {A = ℕ} 0 1 = cc in absurd (omega arith)
+after_done : (x : CheckedLine) (y : Answer) → after_line x y ≡ done → (x ≡ good) × (y ≡ done)
+after_done (Ok _) y e = (refl, e)
+after_done (Err fault) y e = let z : ◌≡◌ {A = ℕ} 0 1 = cc in absurd (omega arith)
 
-pub data_sized : (address : ℕ) (ls : List (List ℕ)) → (address ≡ 0 → ⊥) → lines_answer ls ≡ Done → count_of address ls ≡ 1 →
+pub data_sized : (address : ℕ) (ls : List (List ℕ)) → (address ≡ 0 → ⊥) → lines_answer ls ≡ done → count_of address ls ≡ 1 →
     length (data_at address ls) ≡ 16
 data_sized address [] some good once = absurd (omega arith)
 data_sized address (l ∷ ls) some good once =
@@ -142,20 +157,20 @@ data_sized address (l ∷ ls) some good once =
         rw e (data_length l (omega arith))
     by false e later = rw e (later (omega (arith, rw e at once)))
 
--- ---- what `Done` tells
+-- ---- what `Ok` tells
 
 module _ (ls : List (List ℕ)) (room : ℕ) where
-  answered : (x : Answer) (b c : Bool) → after_lines x (pick b (pick c (Refused why.Room) Done) (Refused why.Whole)) ≡ Done →
-      (x ≡ Done) × (b ≡ true) × (c ≡ false)
-  answered Done true true e = let z : ◌≡◌ {A = ℕ} 0 1 = cc in absurd (omega arith)
-  answered Done true false e = (refl, refl, refl)
-  answered Done false c e = let z : ◌≡◌ {A = ℕ} 0 1 = cc in absurd (omega arith)
-  answered (Refused w) b c e = let z : ◌≡◌ {A = ℕ} 0 1 = cc in absurd (omega arith)
+  answered : (x : Answer) (b c : Bool) → after_lines x (pick b (pick c (Err why.Room) done) (Err why.Whole)) ≡ done →
+      (x ≡ done) × (b ≡ true) × (c ≡ false)
+  answered (Ok _) true true e = let z : ◌≡◌ {A = ℕ} 0 1 = cc in absurd (omega arith)
+  answered (Ok _) true false e = (refl, refl, refl)
+  answered (Ok _) false c e = let z : ◌≡◌ {A = ℕ} 0 1 = cc in absurd (omega arith)
+  answered (Err w) b c e = let z : ◌≡◌ {A = ℕ} 0 1 = cc in absurd (omega arith)
 
-  module _ (done : import_answer ls room ≡ Done) where
-    tests : (lines_answer ls ≡ Done) × (whole_text ls ≡ true) × (ltb room import_size ≡ false)
+  module _ (is : import_answer ls room ≡ done) where
+    tests : (lines_answer ls ≡ done) × (whole_text ls ≡ true) × (ltb room import_size ≡ false)
     unfolding import_answer
-    tests = answered (lines_answer ls) (whole_text ls) (ltb room import_size) done
+    tests = answered (lines_answer ls) (whole_text ls) (ltb room import_size) is
 
     pub import_fits : import_size ≤ room
     import_fits = ltb-false room import_size tests.2
@@ -178,13 +193,10 @@ module _ (ls : List (List ℕ)) (room : ℕ) where
     )
 
 -- three parts of 16 bytes, one behind the other, at the front of a room
-pub three_put : (a b c room : List ℕ) → length a ≡ 16 → length b ≡ 16 → length c ≡ 16 → import_size ≤ length room
-    → put (put (put room 0 a) 16 b) 32 c ≡ (a ++ (b ++ c)) ++ drop import_size room
-three_put a b c room p q r fits =
+pub three_put : (a b c : List ℕ) {most next : ℕ} {room after : List ℕ} → length a ≡ 16 → length b ≡ 16 → length c ≡ 16 → import_size ≤ length room
+    → Writing most (a ++ (b ++ c)) room 0 next after → after ≡ (a ++ (b ++ c)) ++ drop import_size room
+three_put a b c {room = room} p q r fits w =
     let all : length (a ++ (b ++ c)) ≡ import_size = omega (arith, length-append a (b ++ c), length-append b c) in
-    let two : 32 ≡ 16 + length b = omega arith in
-    let one : 16 ≡ 0 + length a = omega arith in
-    put_next (put room 0 a) 16 32 b c two
-    ∙ put_next room 0 16 a (b ++ c) one
+    w.written
     ∙ put_front room (a ++ (b ++ c)) (omega arith)
     ∙ ap (λ (n : ℕ). (a ++ (b ++ c)) ++ drop n room) all

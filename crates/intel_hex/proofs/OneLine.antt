@@ -8,9 +8,8 @@ use Rattle.numbers.proofs.Bounds.{both_true}
 use Rattle.slices.specs.Slices.{part}
 use Rattle.digits.specs.Digits.{hex_of, upper, hex_text, hex_digit, hex_value, hex_bytes, hex_digits}
 use Rattle.digits.proofs.Read.{either_true, Bytes, hex_length, bytes_back, digits_written, digits_back, bytes_small}
-use Rattle.intel_hex.specs.declared.CheckedLine.TheVariants.{Good}
 use Rattle.intel_hex.specs.Line.{colon, line_feed, hex_line_text, byte_sum, checksum_of, content_of, hex_record, data_record, end_record, digits_in, bytes_in}
-use Rattle.intel_hex.specs.Line.{length_in, address_in, type_in, data_in, formed_of, sums_to_zero, placed_of, headed_of, expected_of, checked_line_of}
+use Rattle.intel_hex.specs.Line.{length_in, address_in, type_in, data_in, formed_of, sums_to_zero, placed_of, headed_of, expected_of, checked_line_of, good}
 use Rattle.intel_hex.proofs.Laws.{digits_length, bytes_in_length, formed_long}
 
 -- ---- of any bytes
@@ -177,7 +176,7 @@ module _ (address : ℕ) (bytes : List ℕ) (near : address < 65536) (sized : le
   pub data_in_lem : data_in (hex_line_text (data_record address bytes)) ≡ bytes
   data_in_lem = rw (record_in_lem address 0 bytes near (omega arith) few small) (take_at bytes (checksum_of (content_of address 0 bytes) ∷ []) 16 sized)
 
-  pub data_good : placed_of address ≡ true → checked_line_of (hex_line_text (data_record address bytes)) ≡ Good
+  pub data_good : placed_of address ≡ true → checked_line_of (hex_line_text (data_record address bytes)) ≡ good
   unfolding checked_line_of expected_of
   data_good placed =
       let count : length_in (hex_line_text (data_record address bytes)) ≡ 16 = rw (record_in_lem address 0 bytes near (omega arith) few small) sized in
@@ -191,7 +190,7 @@ module _ (address : ℕ) (bytes : List ℕ) (near : address < 65536) (sized : le
         placed,
       ) refl
 
-pub end_good : checked_line_of (hex_line_text end_record) ≡ Good
+pub end_good : checked_line_of (hex_line_text end_record) ≡ good
 unfolding checked_line_of expected_of formed_of sums_to_zero hex_of hex_digit hex_value
 end_good = refl
 
@@ -201,7 +200,7 @@ end_address = refl
 
 -- ---- a good line is one of these
 
-module _ (l : List ℕ) (good : checked_line_of l ≡ Good) where
+module _ (l : List ℕ) (is : checked_line_of l ≡ good) where
   pub passed : (formed_of l ≡ true) × (sums_to_zero l ≡ true) × (expected_of l ≡ true)
   unfolding checked_line_of
   passed = by (formed_of l) refl (sums_to_zero l) refl (expected_of l) refl
@@ -209,9 +208,9 @@ module _ (l : List ℕ) (good : checked_line_of l ≡ Good) where
       by : (f : Bool) → formed_of l ≡ f → (s : Bool) → sums_to_zero l ≡ s → (k : Bool) → expected_of l ≡ k →
           (formed_of l ≡ true) × (sums_to_zero l ≡ true) × (expected_of l ≡ true)
       by true e true f true g = (e, f, g)
-      by true e true f false g = let z : ◌≡◌ {A = ℕ} 0 1 = cc (rw (e, f, g) at good) in absurd (omega arith)
-      by true e false f k g = let z : ◌≡◌ {A = ℕ} 0 1 = cc (rw (e, f) at good) in absurd (omega arith)
-      by false e s f k g = let z : ◌≡◌ {A = ℕ} 0 1 = cc (rw e at good) in absurd (omega arith)
+      by true e true f false g = let z : ◌≡◌ {A = ℕ} 0 1 = cc (rw (e, f, g) at is) in absurd (omega arith)
+      by true e false f k g = let z : ◌≡◌ {A = ℕ} 0 1 = cc (rw (e, f) at is) in absurd (omega arith)
+      by false e s f k g = let z : ◌≡◌ {A = ℕ} 0 1 = cc (rw e at is) in absurd (omega arith)
 
   kinds : ((headed_of 0 1 l ≡ true) × (address_in l ≡ 0)) ⊎ ((headed_of 16 0 l ≡ true) × (placed_of (address_in l) ≡ true))
   unfolding expected_of

@@ -8,11 +8,10 @@ use Rattle.slices.specs.Slices.{part}
 use Rattle.digits.specs.Digits.{hex_of, upper, hex_text}
 use Rattle.digits.proofs.Read.{either_true, bytes_small}
 use Rattle.record.specs.Image.{image_label, image_block, image_bl0}
-use Rattle.intel_hex.specs.declared.CheckedLine.TheVariants.{Good}
-use Rattle.intel_hex.specs.Line.{line_feed, hex_line_text, data_record, end_record, digits_in, bytes_in, address_in, data_in, placed_of, checked_line_of}
+use Rattle.intel_hex.specs.Line.{good, line_feed, hex_line_text, data_record, end_record, digits_in, bytes_in, address_in, data_in, placed_of, checked_line_of}
 use Rattle.intel_hex.proofs.OneLine.{good_is, good_long, data_good, data_address, data_in_lem, end_good, end_address}
-use Rattle.intel_hex.specs.declared.Answer.TheVariants.{Done}
-use Rattle.intel_hex.specs.Export.{answer_number, both_accepted, export_label, exported_of, label_line, low_line, high_line, end_line, export_text, export_size}
+use Rattle.intel_hex.specs.Export.{done, answer_number, both_accepted, export_label, exported_of}
+use Rattle.intel_hex.specs.Export.{label_line, low_line, high_line, end_line, export_text, export_size}
 use Rattle.intel_hex.specs.Import.{text_lines, whole_text, imported_of, import_size, import_answer}
 use Rattle.intel_hex.specs.Theorems.{DataLine, GoodLines, Among, InSomeOrder, joined_text, Bytes, RoundTrip, ExportedText}
 use Rattle.intel_hex.proofs.Texts.{granted, label_is, label_sized, block_sized, low_sized, high_sized, text_length}
@@ -54,7 +53,7 @@ text_lines_lem (one {line = line} {ls = ls} first w) =
 -- what is known of a line
 pub record Known (line : List ℕ) (address : ℕ) (bytes : List ℕ) : Type 0 where
   pub first : (rest : List ℕ) → text_lines (line ++ rest) ≡ line ∷ text_lines rest
-  pub good : checked_line_of line ≡ Good
+  pub passes : checked_line_of line ≡ good
   pub there : address_in line ≡ address
   pub has : data_in line ≡ bytes
 
@@ -77,7 +76,7 @@ module _ (A B C a b c : List ℕ) (fa : Known A 0x20 a) (fb : Known B 0x60 b) (f
   -- these are the lines of their text, which is taken, and has these bytes
   abbrev Taken : List (List ℕ) → Type 0
   Taken ls =
-      (text_lines (joined_text ls ++ end_line) ≡ ls ++ (end_line ∷ [])) × (import_answer (ls ++ (end_line ∷ [])) room ≡ Done)
+      (text_lines (joined_text ls ++ end_line) ≡ ls ++ (end_line ∷ [])) × (import_answer (ls ++ (end_line ∷ [])) room ≡ done)
       × (imported_of (ls ++ (end_line ∷ [])) ≡ a ++ (b ++ c))
 
   reads : {x y z l m n : List ℕ} {p q r : ℕ} → Known x p l → Known y q m → Known z r n → whole_by p q r ≡ true
@@ -85,7 +84,7 @@ module _ (A B C a b c : List ℕ) (fa : Known A 0x20 a) (fb : Known B 0x60 b) (f
   unfolding import_answer whole_text
   reads f g h whole bytes = (
     text_lines_lem (one f.first (one g.first (one h.first none))),
-    rw (f.good, g.good, h.good, end_good, f.there, g.there, h.there, end_address, whole, le-ltb room import_size fits) refl,
+    rw (f.passes, g.passes, h.passes, end_good, f.there, g.there, h.there, end_address, whole, le-ltb room import_size fits) refl,
     rw (f.there, g.there, h.there, end_address, f.has, g.has, h.has) bytes,
   )
 
@@ -159,12 +158,12 @@ placed_in address placed =
     (either_true (eqb address 0x20) (either (eqb address 0x60) (eqb address 0x70)) placed)
 
 -- one at such an address has 16 bytes
-good_sized : (l : List ℕ) → checked_line_of l ≡ Good → placed_of (address_in l) ≡ true → length (data_in l) ≡ 16
+good_sized : (l : List ℕ) → checked_line_of l ≡ good → placed_of (address_in l) ≡ true → length (data_in l) ≡ 16
 good_sized l good placed =
     let many = good_long l good (λ e. omega (arith, (placed_in (address_in l) placed).0)) in
     length-take-le 16 (drop 4 (bytes_in l)) (omega (arith, many, length-drop 4 (bytes_in l)))
 
-only_such : (l : List ℕ) → checked_line_of l ≡ Good → (l ≡ end_line) ⊎ DataLine (address_in l) (data_in l) l
+only_such : (l : List ℕ) → checked_line_of l ≡ good → (l ≡ end_line) ⊎ DataLine (address_in l) (data_in l) l
 only_such l good =
     ⊎_elim (λ e. inl e)
     (λ d. inr (record {
@@ -175,7 +174,7 @@ only_such l good =
     }))
     (good_is l good)
 
-such_read : (address : ℕ) (bytes l : List ℕ) → DataLine address bytes l → (checked_line_of l ≡ Good) × (address_in l ≡ address) × (data_in l ≡ bytes)
+such_read : (address : ℕ) (bytes l : List ℕ) → DataLine address bytes l → (checked_line_of l ≡ good) × (address_in l ≡ address) × (data_in l ≡ bytes)
 such_read address bytes l d =
     let near = (placed_in address d.placed).1 in (
       ap checked_line_of d.written ∙ data_good address bytes near d.sized d.small d.placed,
@@ -192,7 +191,7 @@ known : (address : ℕ) (bytes : List ℕ) → address < 65536 → placed_of add
     → Known (hex_line_text (data_record address bytes)) address bytes
 known address bytes near placed sized small = record {
   first = line_first (data_record address bytes);
-  good = data_good address bytes near sized small placed;
+  passes = data_good address bytes near sized small placed;
   there = data_address address bytes near sized small;
   has = data_in_lem address bytes near sized small;
 }
@@ -218,7 +217,7 @@ module _ (pack factory : List ℕ) (held : both_accepted pack factory ≡ true) 
 
     back : (room : ℕ) → import_size ≤ room → (ls : List (List ℕ))
         → InSomeOrder (label_line (export_label pack factory)) (low_line (image_block pack)) (high_line (image_block pack)) ls
-        → (import_answer (text_lines (joined_text ls ++ end_line)) room ≡ Done)
+        → (import_answer (text_lines (joined_text ls ++ end_line)) room ≡ done)
         × (imported_of (text_lines (joined_text ls ++ end_line)) ≡ exported_of pack factory)
     back room fits ls w =
         let label = export_label pack factory in

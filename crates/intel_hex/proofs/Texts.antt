@@ -1,4 +1,5 @@
 -- What follows of the definitions of an export.
+use Rattle.std.specs.Prelude.{Ok, Err}
 use Rattle.std.proofs.Common.{◌≡◌, ℕ, ◌≤◌, Bool, true, false, ltb, List, [], ◌∷◌, ◌++◌, length, drop, refl, ap, ◌∙◌, arith, length-append, ltb-false}
 use Rattle.numbers.specs.Choice.{pick}
 use Rattle.numbers.proofs.Bounds.{picked, both_true}
@@ -6,16 +7,13 @@ use Rattle.slices.specs.Slices.{part, put}
 use Rattle.slices.proofs.Laws.{part_length, put_front}
 use Rattle.digits.specs.Digits.{Writing}
 use Rattle.state.specs.declared.Profile.TheVariants.{Ds2781}
-use Rattle.record.specs.declared.Taken.{Taken}
-use Rattle.record.specs.declared.Taken.TheVariants as taken
 use Rattle.record.specs.Image.{image_size, image_label, image_block, image_bl0}
-use Rattle.record.specs.Record.{judged_of}
+use Rattle.record.specs.Record.{judged_of, Taken}
 use Rattle.record.proofs.Fits.{judged_sized}
 use Rattle.intel_hex.specs.Line.{hex_line_text, checksum_of, content_of, data_record, end_record}
 use Rattle.intel_hex.proofs.OneLine.{line_length}
 use Rattle.intel_hex.specs.declared.HexRefusal.TheVariants as why
-use Rattle.intel_hex.specs.declared.Answer.TheVariants.{Done, Refused}
-use Rattle.intel_hex.specs.Export.{accepted_by, image_accepted, both_accepted, export_label, label_line, low_line}
+use Rattle.intel_hex.specs.Export.{done, accepted_by, image_accepted, both_accepted, export_label, label_line, low_line}
 use Rattle.intel_hex.specs.Export.{high_line, end_line, export_text, export_size, export_answer}
 
 -- ---- images that are taken
@@ -24,8 +22,8 @@ accepted_sized : (image : List ℕ) → image_accepted image ≡ true → length
 accepted_sized image e = by (judged_of image) refl e
   where
     by : (t : Taken) → judged_of image ≡ t → accepted_by t ≡ true → length image ≡ image_size
-    by (taken.Run e) j a = judged_sized Ds2781 image j
-    by (taken.Refused r) j a = let z : ◌≡◌ {A = ℕ} 0 1 = cc in absurd (omega arith)
+    by (Ok e) j a = judged_sized Ds2781 image j
+    by (Err r) j a = let z : ◌≡◌ {A = ℕ} 0 1 = cc in absurd (omega arith)
 
 module _ (pack factory : List ℕ) (both-taken : both_accepted pack factory ≡ true) where
   pub pack_sized : length pack ≡ image_size
@@ -50,15 +48,15 @@ module _ (pack factory : List ℕ) (both-taken : both_accepted pack factory ≡ 
   pub block_sized : length (image_block pack) ≡ 32
   block_sized = part_length 32 pack 24 (omega (arith, pack_sized))
 
--- ---- what `Done` tells
+-- ---- what `Ok` tells
 
 module _ (pack factory : List ℕ) (room : ℕ) where
-  answered : (a b : Bool) → pick a (pick b (Refused why.Room) Done) (Refused why.Image) ≡ Done → (a ≡ true) × (b ≡ false)
+  answered : (a b : Bool) → pick a (pick b (Err why.Room) done) (Err why.Image) ≡ done → (a ≡ true) × (b ≡ false)
   answered true true e = let z : ◌≡◌ {A = ℕ} 0 1 = cc in absurd (omega arith)
   answered true false e = (refl, refl)
   answered false b e = let z : ◌≡◌ {A = ℕ} 0 1 = cc in absurd (omega arith)
 
-  pub granted : export_answer pack factory room ≡ Done → (both_accepted pack factory ≡ true) × (export_size ≤ room)
+  pub granted : export_answer pack factory room ≡ done → (both_accepted pack factory ≡ true) × (export_size ≤ room)
   unfolding export_answer
   granted done =
       let t = answered (both_accepted pack factory) (ltb room export_size) done in

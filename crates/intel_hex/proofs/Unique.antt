@@ -1,8 +1,11 @@
 -- The contracts of this crate's public functions leave no choice.
 use Rattle.std.proofs.Common.{◌≡◌, sym, refl, ◌∙◌}
 use Rattle.numbers.specs.Once.{Once}
-use Rattle.intel_hex.proofs.fault_number
-use Rattle.intel_hex.specs.contracts.fault_number as fault_number'
+use Rattle.digits.proofs.Unique.{same}
+use Rattle.intel_hex.proofs.U8FromFault.from as fault
+use Rattle.intel_hex.specs.contracts.U8FromFault.from as fault'
+use Rattle.intel_hex.proofs.U8FromHexRefusal.from as refusal
+use Rattle.intel_hex.specs.contracts.U8FromHexRefusal.from as refusal'
 use Rattle.intel_hex.proofs.data_record
 use Rattle.intel_hex.specs.contracts.data_record as data_record'
 use Rattle.intel_hex.proofs.put_line
@@ -22,8 +25,6 @@ use Rattle.intel_hex.specs.contracts.first_gap as first_gap'
 use contract.Lifetimes.{Lfts}
 use denote.Triple.Entry.{Args, Res}
 use denote.Triple.Clauses.{Ended, AtExit, Lasts, at_exit}
-use Rattle.intel_hex.proofs.answer_number
-use Rattle.intel_hex.specs.contracts.answer_number as answer_number'
 use Rattle.intel_hex.proofs.export_label
 use Rattle.intel_hex.specs.contracts.export_label as export_label'
 use Rattle.intel_hex.proofs.write_text
@@ -31,14 +32,14 @@ use Rattle.intel_hex.specs.contracts.write_text as write_text'
 use Rattle.intel_hex.proofs.read_text
 use Rattle.intel_hex.specs.contracts.read_text as read_text'
 
-pub fault_number_once : Once fault_number'.ended fault_number.Reads.Pre fault_number.Reads.Learnt
+pub fault_number_once : Once fault'.ended fault.Reads.Pre fault.Reads.Learnt
 fault_number_once κs a r r' w w' p h h' = (h ∙ sym h', refl)
 
 pub data_record_once : Once data_record'.ended data_record.Reads.Pre data_record.Reads.Learnt
 data_record_once κs a r r' w w' p h h' = (h ∙ sym h', refl)
 
 pub put_line_once : Once put_line'.ended put_line.Reads.Pre put_line.Reads.Learnt
-put_line_once κs a r r' w w' p h h' = (h.onward ∙ sym h'.onward, λ i. (tt, ((h.written ∙ sym h'.written) i, (tt, tt))))
+put_line_once κs a r r' w w' p h h' = (refl, λ i. (tt, (same h h' i, tt)))
 
 pub byte_in_once : Once byte_in'.ended byte_in.Reads.Pre byte_in.Reads.Learnt
 byte_in_once κs a r r' w w' p h h' = (h ∙ sym h', refl)
@@ -56,10 +57,10 @@ pub first_gap_once : Once first_gap'.ended first_gap.Reads.Pre first_gap.Reads.L
 first_gap_once κs a r r' w w' p h h' = (h ∙ sym h', refl)
 
 pub put_data_once : Once put_data'.ended put_data.Reads.Pre put_data.Reads.Learnt
-put_data_once κs a r r' w w' p h h' = (refl, λ i. (tt, ((h ∙ sym h') i, (tt, tt))))
+put_data_once κs a r r' w w' p h h' = (refl, λ i. (tt, (same h h' i, tt)))
 
-pub answer_number_once : Once answer_number'.ended answer_number.Reads.Pre answer_number.Reads.Learnt
-answer_number_once κs a r r' w w' p h h' = (h ∙ sym h', refl)
+pub refusal_number_once : Once refusal'.ended refusal.Reads.Pre refusal.Reads.Learnt
+refusal_number_once κs a r r' w w' p h h' = (h ∙ sym h', refl)
 
 -- `Once` of what is seen of a result. A part of what was lent is a place and its bytes; of these the contract fixes the bytes, and the lifetime that it
 -- is in one of the two images

@@ -1,16 +1,12 @@
 -- "Export 48 bytes": the label and block 1 as text for the programmer.
-use Rattle.std.specs.Prelude.{◌≡◌, ℕ, Bool, true, false, List, [], ◌++◌, length, drop, nat_lt}
+use Rattle.std.specs.Prelude.{◌≡◌, ⊤, Result, Ok, Err, ℕ, Bool, true, false, List, [], ◌++◌, length, drop, nat_lt}
 use Rattle.numbers.specs.Choice.{pick, both}
 use Rattle.slices.specs.Slices.{part}
-use Rattle.record.specs.declared.Taken.{Taken}
-use Rattle.record.specs.declared.Taken.TheVariants as taken
 use Rattle.record.specs.Image.{image_label, image_block, image_bl0}
-use Rattle.record.specs.Record.{judged_of}
+use Rattle.record.specs.Record.{judged_of, Taken}
 use Rattle.intel_hex.specs.Line.{hex_line_text, data_record, end_record, fault_number}
 use Rattle.intel_hex.specs.declared.HexRefusal.{HexRefusal}
 use Rattle.intel_hex.specs.declared.HexRefusal.TheVariants as why
-use Rattle.intel_hex.specs.declared.Answer.{Answer}
-use Rattle.intel_hex.specs.declared.Answer.TheVariants.{Done, Refused}
 
 -- ---- the answers' numbers
 
@@ -20,15 +16,21 @@ hex_refusal_number why.Whole = 43
 hex_refusal_number why.Image = 44
 hex_refusal_number why.Room = 45
 
+abbrev pub Answer : Type 0
+Answer = Result ⊤ HexRefusal
+
+abbrev pub done : Answer
+done = Ok tt
+
 abbrev pub answer_number : Answer → ℕ
-answer_number Done = 0
-answer_number (Refused w) = hex_refusal_number w
+answer_number (Ok _) = 0
+answer_number (Err w) = hex_refusal_number w
 
 -- ---- "44, in export, if an image record would refuse either image"
 
 abbrev pub accepted_by : Taken → Bool
-accepted_by (taken.Run e) = true
-accepted_by (taken.Refused r) = false
+accepted_by (Ok e) = true
+accepted_by (Err r) = false
 
 abbrev pub image_accepted : List ℕ → Bool
 image_accepted image = accepted_by (judged_of image)
@@ -70,11 +72,11 @@ export_size = 144
 
 unfoldable pub export_answer : List ℕ → List ℕ → ℕ → Answer
 export_answer pack factory room =
-    pick (both_accepted pack factory) (pick (nat_lt room export_size) (Refused why.Room) Done) (Refused why.Image)
+    pick (both_accepted pack factory) (pick (nat_lt room export_size) (Err why.Room) done) (Err why.Image)
 
 abbrev pub export_room : Answer → List ℕ → List ℕ → List ℕ → List ℕ
-export_room Done pack factory room = export_text (export_label pack factory) (image_block pack) ++ drop export_size room
-export_room (Refused w) pack factory room = room
+export_room (Ok _) pack factory room = export_text (export_label pack factory) (image_block pack) ++ drop export_size room
+export_room (Err w) pack factory room = room
 
 pub record Exporting (pack factory room : List ℕ) (said : Answer) (after : List ℕ) : Type 0 where
   pub number : answer_number said ≡ answer_number (export_answer pack factory (length room))

@@ -1,20 +1,17 @@
 -- What is wrong with a text that is refused with 40 to 43: the first bad line and why it is bad, or which record is not there once. The paper asks for
 -- the number alone; this is for the words beside it, and `FlawNumbers` says that the two agree.
-use Rattle.std.specs.Prelude.{◌≡◌, ℕ, ◌+◌, ◌-◌, List, [], ◌∷◌, length, ◌==◌, nat_lt, slice_index}
+use Rattle.std.specs.Prelude.{◌≡◌, Option, Some, None, Ok, Err, ℕ, ◌+◌, ◌-◌, List, [], ◌∷◌, length, ◌==◌, nat_lt, slice_index}
 use Prim.Native.Char.{code}
 use Rattle.numbers.specs.Choice.{pick}
 use Rattle.digits.specs.Digits.{upper, hex_digits}
 use Rattle.intel_hex.specs.declared.Fault.{Fault}
-use Rattle.intel_hex.specs.declared.CheckedLine.{CheckedLine}
-use Rattle.intel_hex.specs.declared.CheckedLine.TheVariants.{Good, Bad}
 use Rattle.intel_hex.specs.declared.Cause.{Cause}
 use Rattle.intel_hex.specs.declared.Cause.TheVariants as cause
 use Rattle.intel_hex.specs.declared.Flaw.{Flaw}
 use Rattle.intel_hex.specs.declared.Gap.{Gap}
 use Rattle.intel_hex.specs.declared.Gap.TheVariants as gap
 use Rattle.intel_hex.specs.declared.HexRefusal.TheVariants as why
-use Rattle.intel_hex.specs.declared.Answer.TheVariants.{Refused}
-use Rattle.intel_hex.specs.Line.{colon, line_feed, digits_in, formed_of, sums_to_zero, checked_line_of, fault_number}
+use Rattle.intel_hex.specs.Line.{CheckedLine, colon, line_feed, digits_in, formed_of, sums_to_zero, checked_line_of, fault_number}
 use Rattle.intel_hex.specs.Import.{lines_answer, once_of}
 
 -- ---- why a line is bad
@@ -54,18 +51,19 @@ cause_number cause.Place = 42
 
 -- ---- the first bad line, of lines that are numbered from a number on
 
-abbrev pub flaw_by : CheckedLine → ℕ → List ℕ → Flaw → Flaw
-flaw_by Good number l rest = rest
-flaw_by (Bad fault) number l rest = record { line = number; cause = cause_of l }
+abbrev pub flaw_by : CheckedLine → ℕ → List ℕ → Option Flaw → Option Flaw
+flaw_by (Ok _) number l rest = rest
+flaw_by (Err fault) number l rest = Some (record { line = number; cause = cause_of l })
 
-abbrev pub flaw_from : ℕ → List (List ℕ) → Flaw
-flaw_from number [] = record { line = 0; cause = cause.Place }
+abbrev pub flaw_from : ℕ → List (List ℕ) → Option Flaw
+flaw_from number [] = None
 flaw_from number (l ∷ ls) = flaw_by (checked_line_of l) number l (flaw_from (number + 1) ls)
 
--- a text that is refused for a line is refused with the number of the cause
+-- a text that is refused for a line has a bad line, and is refused with the number of its cause
 abbrev pub FlawNumbers : Type 0
 FlawNumbers =
-    (ls : List (List ℕ)) (fault : Fault) → lines_answer ls ≡ Refused (why.Line fault) → cause_number (flaw_from 1 ls).cause ≡ fault_number fault
+    (ls : List (List ℕ)) (fault : Fault) → lines_answer ls ≡ Err (why.Line fault)
+    → (flaw : Flaw) × (flaw_from 1 ls ≡ Some flaw) × (cause_number flaw.cause ≡ fault_number fault)
 
 -- ---- which record is not there once, or that the end record is not last
 

@@ -1,14 +1,10 @@
 -- "Import reads just this layout, record order free, and gives back the 48 bytes of every export."
-use Rattle.std.specs.Prelude.{◌≡◌, ℕ, ◌+◌, ◌-◌, ◌<◌, ◌≤◌, Bool, List, [], ◌∷◌, ◌++◌, length, drop, ◌==◌, nat_lt}
+use Rattle.std.specs.Prelude.{◌≡◌, Ok, Err, ℕ, ◌+◌, ◌<◌, ◌≤◌, Bool, List, [], ◌∷◌, ◌++◌, length, take, drop, ◌==◌, nat_lt}
 use Rattle.numbers.specs.Choice.{pick, both}
-use Rattle.slices.specs.Slices.{part}
-use Rattle.intel_hex.specs.declared.CheckedLine.{CheckedLine}
-use Rattle.intel_hex.specs.declared.CheckedLine.TheVariants.{Good, Bad}
-use Rattle.intel_hex.specs.Line.{line_feed, address_in, data_in, checked_line_of}
+use Rattle.intel_hex.specs.declared.TextLines.{TextLines}
+use Rattle.intel_hex.specs.Line.{CheckedLine, line_feed, address_in, data_in, checked_line_of}
 use Rattle.intel_hex.specs.declared.HexRefusal.TheVariants as why
-use Rattle.intel_hex.specs.declared.Answer.{Answer}
-use Rattle.intel_hex.specs.declared.Answer.TheVariants.{Done, Refused}
-use Rattle.intel_hex.specs.Export.{answer_number}
+use Rattle.intel_hex.specs.Export.{Answer, done, answer_number}
 
 -- ---- the lines of a text: each goes up to its line feed, and the last one to the end where it has none
 
@@ -21,20 +17,24 @@ abbrev pub text_lines : List ℕ → List (List ℕ)
 text_lines [] = []
 text_lines (c ∷ cs) = pick (c == line_feed) ((c ∷ []) ∷ text_lines cs) (ahead_of_lines c (text_lines cs))
 
--- the line that starts at an index goes up to another
-pub record Cut (text : List ℕ) (at end : ℕ) : Type 0 where
-  pub onward : at < end
+-- the first line of a text goes up to an index
+pub record Cut (text : List ℕ) (end : ℕ) : Type 0 where
+  pub onward : 0 < end
   pub within : end ≤ length text
-  pub lines : text_lines (drop at text) ≡ part (end - at) text at ∷ text_lines (drop end text)
+  pub lines : text_lines text ≡ take end text ∷ text_lines (drop end text)
+
+-- the lines that the iterator has left
+abbrev pub lines_left : TextLines → List (List ℕ)
+lines_left it = text_lines it.rest.now
 
 -- ---- "40 to 42 in that order at the first bad line, 43 only if no line is bad"
 
 abbrev pub after_line : CheckedLine → Answer → Answer
-after_line Good rest = rest
-after_line (Bad fault) rest = Refused (why.Line fault)
+after_line (Ok _) rest = rest
+after_line (Err fault) rest = Err (why.Line fault)
 
 abbrev pub lines_answer : List (List ℕ) → Answer
-lines_answer [] = Done
+lines_answer [] = done
 lines_answer (l ∷ ls) = after_line (checked_line_of l) (lines_answer ls)
 
 -- ---- "43 bytes missing or repeated, or an end record missing or not last". A good line at 0000h is the end record
@@ -72,16 +72,16 @@ import_size = 48
 -- ---- "45 .. (import: under 48, after 40 to 43)". "Nothing is written on a refusal"
 
 abbrev pub after_lines : Answer → Answer → Answer
-after_lines Done rest = rest
-after_lines (Refused w) rest = Refused w
+after_lines (Ok _) rest = rest
+after_lines (Err w) rest = Err w
 
 unfoldable pub import_answer : List (List ℕ) → ℕ → Answer
 import_answer ls room =
-    after_lines (lines_answer ls) (pick (whole_text ls) (pick (nat_lt room import_size) (Refused why.Room) Done) (Refused why.Whole))
+    after_lines (lines_answer ls) (pick (whole_text ls) (pick (nat_lt room import_size) (Err why.Room) done) (Err why.Whole))
 
 abbrev pub import_room : Answer → List (List ℕ) → List ℕ → List ℕ
-import_room Done ls room = imported_of ls ++ drop import_size room
-import_room (Refused w) ls room = room
+import_room (Ok _) ls room = imported_of ls ++ drop import_size room
+import_room (Err w) ls room = room
 
 pub record Importing (text room : List ℕ) (said : Answer) (after : List ℕ) : Type 0 where
   pub number : answer_number said ≡ answer_number (import_answer (text_lines text) (length room))

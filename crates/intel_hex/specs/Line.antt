@@ -1,6 +1,6 @@
 -- Intel HEX, a line of it: "a colon, the upper-case digit pairs its count asks and a line feed". The pairs are the count, the address, high byte
 -- first, the type, the data, as many bytes as the count says, and the checksum.
-use Rattle.std.specs.Prelude.{ℕ, ◌+◌, ◌-◌, ◌*◌, ◌/◌, ◌%◌, Bool, List, [], ◌∷◌, ◌++◌, length, ◌==◌, slice_index}
+use Rattle.std.specs.Prelude.{⊤, Result, Ok, Err, ℕ, ◌+◌, ◌-◌, ◌*◌, ◌/◌, ◌%◌, Bool, List, [], ◌∷◌, ◌++◌, length, ◌==◌, slice_index}
 use Prim.Native.Char.{code}
 use Rattle.numbers.specs.Choice.{pick, both, either}
 use Rattle.numbers.specs.Offset.{joined_of}
@@ -8,8 +8,6 @@ use Rattle.slices.specs.Slices.{part}
 use Rattle.digits.specs.Digits.{upper, hex_text, hex_bytes, hex_digits}
 use Rattle.intel_hex.specs.declared.Fault.{Fault}
 use Rattle.intel_hex.specs.declared.Fault.TheVariants.{Form, Checksum, Record}
-use Rattle.intel_hex.specs.declared.CheckedLine.{CheckedLine}
-use Rattle.intel_hex.specs.declared.CheckedLine.TheVariants.{Good, Bad}
 
 abbrev pub colon : ℕ
 colon = code ":"
@@ -87,14 +85,21 @@ headed_of count kind l = both (length_in l == count) (type_in l == kind)
 unfoldable pub expected_of : List ℕ → Bool
 expected_of l = either (both (headed_of 0 1 l) (address_in l == 0)) (both (headed_of 16 0 l) (placed_of (address_in l)))
 
+-- a line, judged by itself
+abbrev pub CheckedLine : Type 0
+CheckedLine = Result ⊤ Fault
+
+abbrev pub good : CheckedLine
+good = Ok tt
+
 -- "40 to 42 in that order"
 unfoldable pub checked_line_of : List ℕ → CheckedLine
 checked_line_of l =
     pick (formed_of l)
     (pick (sums_to_zero l)
-    (pick (expected_of l) Good (Bad Record))
-    (Bad Checksum))
-    (Bad Form)
+    (pick (expected_of l) good (Err Record))
+    (Err Checksum))
+    (Err Form)
 
 abbrev pub fault_number : Fault → ℕ
 fault_number Form = 40

@@ -1,18 +1,16 @@
 // Intel HEX: a line of it, and the text of a label and block 1, written and read.
 #![tactic(auto)]
 
-ghost use Rattle.std.specs.Prelude.{◌≡◌, ◌+◌, ◌*◌, ◌%◌, ◌<◌, ◌≤◌, ◌++◌, length, drop, slice_index};
-ghost use Rattle.slices.specs.Slices.{put};
-ghost use Rattle.digits.specs.Digits.{upper, hex_bytes, Writing};
+ghost use Rattle.std.specs.Prelude.{◌≡◌, ◌+◌, ◌*◌, ◌%◌, ◌<◌, ◌≤◌, ◌++◌, length, drop, slice_index, IfSome};
+ghost use Rattle.digits.specs.Digits.{upper, hex_bytes, Appends};
 ghost use Rattle.intel_hex.specs.Line.{hex_line_text, byte_sum, checksum_of, data_record, bytes_in, address_in, data_in, formed_of};
 ghost use Rattle.intel_hex.specs.Line.{sums_to_zero, placed_of, headed_of, expected_of, checked_line_of, fault_number};
-ghost use Rattle.numbers.specs.Choice.{pick};
-ghost use Rattle.intel_hex.specs.Export.{answer_number, image_accepted, both_accepted, export_label, export_text, export_size, export_answer, Exporting};
-ghost use Rattle.intel_hex.specs.Import.{text_lines, Cut, lines_answer, count_of, last_address, whole_text, data_at};
+ghost use Rattle.intel_hex.specs.Export.{hex_refusal_number, image_accepted, both_accepted, export_label, export_text, export_size, export_answer, Exporting};
+ghost use Rattle.intel_hex.specs.Import.{text_lines, Cut, lines_left, lines_answer, count_of, last_address, whole_text, data_at};
 ghost use Rattle.intel_hex.specs.Import.{imported_of, import_size, import_answer, Importing};
 ghost use Rattle.intel_hex.specs.Flaw.{pairs_cause, begun_cause, form_cause, cause_of, flaw_from, gap_of};
 
-use record::Taken;
+use digits::{Letters, Page};
 
 // What is wrong with a line: its form, its checksum, or which record it is.
 #[derive(Clone, Copy)]
@@ -22,19 +20,39 @@ pub enum Fault {
     Record,
 }
 
-#[derive(Clone, Copy)]
-pub enum CheckedLine {
-    Good,
-    Bad(Fault),
+// The answer's number.
+impl From<Fault> for u8 {
+    fn from(fault: Fault) -> u8
+        ensures { result ≡ fault_number fault }
+    {
+        match fault {
+            Fault::Form => 40,
+            Fault::Checksum => 41,
+            Fault::Record => 42,
+        }
+    }
 }
 
-pub fn fault_number(fault: Fault) -> u8
-    ensures { result ≡ fault_number fault }
-{
-    match fault {
-        Fault::Form => 40,
-        Fault::Checksum => 41,
-        Fault::Record => 42,
+// What keeps a text from being written or read: a line; lines that are not the whole; an image; or the room.
+#[derive(Clone, Copy)]
+pub enum HexRefusal {
+    Line(Fault),
+    Whole,
+    Image,
+    Room,
+}
+
+// The answer's number.
+impl From<HexRefusal> for u8 {
+    fn from(refusal: HexRefusal) -> u8
+        ensures { result ≡ hex_refusal_number refusal }
+    {
+        match refusal {
+            HexRefusal::Line(fault) => u8::from(fault),
+            HexRefusal::Whole => 43,
+            HexRefusal::Image => 44,
+            HexRefusal::Room => 45,
+        }
     }
 }
 
@@ -45,10 +63,8 @@ fn total(bytes: &[u8]) -> u8
     ensures { result ≡ byte_sum bytes.now % 256 }
 {
     let mut sum: u8 = 0;
-    let mut i = 0;
-    while i < bytes.len() {
-        sum = std::num::wrapping_add_u8(sum, bytes[i]);
-        i += 1;
+    for byte in bytes {
+        sum = sum.wrapping_add(*byte);
     }
     sum
 }
@@ -56,7 +72,7 @@ fn total(bytes: &[u8]) -> u8
 fn checksum(bytes: &[u8]) -> u8
     ensures { result ≡ checksum_of bytes.now }
 {
-    std::num::wrapping_sub_u8(0, total(bytes))
+    0u8.wrapping_sub(total(bytes))
 }
 
 // The bytes of a record of data: count, address, type, data and checksum.
@@ -65,21 +81,20 @@ pub fn data_record(address: u8, carried: &[u8]) -> [u8; 21]
     ensures { result ≡ data_record address carried.now }
 {
     let mut bytes = [0u8; 21];
-    slices::store4([16, 0, address, 0], &mut bytes, 0);
+    slices::store_array([16, 0, address, 0], &mut bytes, 0);
     slices::store(carried, &mut bytes, 4);
-    let sum = checksum(&bytes[..20]);
-    bytes[20] = sum;
+    bytes[20] = checksum(&bytes[..20]);
     bytes
 }
 
 // The line of some bytes.
-pub fn put_line(bytes: &[u8], out: &mut [u8], at: usize) -> usize
-    requires { at + (2 * length bytes.now + 2) ≤ length out.old }
-    ensures { Writing (1 + (2 * length bytes.now + 1)) (hex_line_text bytes.now) out.old at result out.new }
+pub fn put_line(bytes: &[u8], page: &mut Page)
+    requires { page.old.used + (2 * length bytes.now + 2) ≤ length page.old.room.now }
+    ensures { Appends (1 + (2 * length bytes.now + 1)) (hex_line_text bytes.now) page.old page.new }
 {
-    let a = digits::put_byte(b':', out, at);
-    let b = digits::put_upper(bytes, out, a);
-    digits::put_byte(b'\n', out, b)
+    page.put_byte(b':');
+    page.put_pairs(Letters::Upper, bytes);
+    page.put_byte(b'\n');
 }
 
 // ---- read
@@ -99,9 +114,10 @@ pub fn byte_in(line: &[u8], k: usize) -> u8
 pub fn address_in(line: &[u8]) -> u16
     ensures { result ≡ address_in line.now }
 {
-    numbers::joined(byte_in(line, 1), byte_in(line, 2))
+    u16::from_be_bytes([byte_in(line, 1), byte_in(line, 2)])
 }
 
+#[tactic(auto, using(crate::proofs::Laws::formed_short))]
 fn formed(line: &[u8]) -> bool
     ensures { result ≡ formed_of line.now }
 {
@@ -109,10 +125,11 @@ fn formed(line: &[u8]) -> bool
     if n < 12 {
         return false;
     }
-    let count = slices::wide(byte_in(line, 0));
-    let ends = numbers::and(line[0] == b':', line[n - 1] == b'\n');
-    let digits = digits::upper_digits(&line[1..n - 1]);
-    numbers::and(ends, numbers::and(digits, n - 2 == 2 * (count + 5)))
+    let pairs = usize::from(byte_in(line, 0)) + 5;
+    line[0] == b':'
+        && line[n - 1] == b'\n'
+        && digits::upper_digits(&line[1..n - 1])
+        && n - 2 == 2 * pairs
 }
 
 // The sum of the bytes that digits stand for, modulo 256.
@@ -120,10 +137,8 @@ fn total_read(text: &[u8]) -> u8
     ensures { result ≡ byte_sum (hex_bytes upper text.now) % 256 }
 {
     let mut sum: u8 = 0;
-    let mut i = 0;
-    while 2 <= text.len() - i {
-        sum = std::num::wrapping_add_u8(sum, digits::upper_byte(text[i], text[i + 1]));
-        i += 2;
+    for pair in text.chunks_exact(2) {
+        sum = sum.wrapping_add(digits::upper_byte(pair[0], pair[1]));
     }
     sum
 }
@@ -139,83 +154,49 @@ fn sums_to_zero(line: &[u8]) -> bool
 fn placed(address: u16) -> bool
     ensures { result ≡ placed_of address }
 {
-    numbers::or(
-        address == 0x20,
-        numbers::or(address == 0x60, address == 0x70),
-    )
+    matches!(address, 0x20 | 0x60 | 0x70)
 }
 
 fn headed(count: u8, kind: u8, line: &[u8]) -> bool
     ensures { result ≡ headed_of count kind line.now }
 {
-    numbers::and(byte_in(line, 0) == count, byte_in(line, 3) == kind)
+    byte_in(line, 0) == count && byte_in(line, 3) == kind
 }
 
 // Whether it is the end record, or 16 bytes at one of the three addresses.
+#[tactic(auto, unfolding(crate::specs::Line::expected_of))]
 fn expected(line: &[u8]) -> bool
     ensures { result ≡ expected_of line.now }
 {
     let at = address_in(line);
-    let end = numbers::and(headed(0, 1, line), at == 0);
-    numbers::or(end, numbers::and(headed(16, 0, line), placed(at)))
+    (headed(0, 1, line) && at == 0) || (headed(16, 0, line) && placed(at))
 }
 
 // A line, judged by itself.
-pub fn checked_line(line: &[u8]) -> CheckedLine
+#[tactic(auto, using(crate::proofs::Laws::formed_long), unfolding(crate::specs::Line::checked_line_of))]
+pub fn checked_line(line: &[u8]) -> Result<(), Fault>
     ensures { result ≡ checked_line_of line.now }
 {
-    if formed(line) {
-        if sums_to_zero(line) {
-            if expected(line) {
-                return CheckedLine::Good;
-            }
-            return CheckedLine::Bad(Fault::Record);
-        }
-        return CheckedLine::Bad(Fault::Checksum);
+    if !formed(line) {
+        return Err(Fault::Form);
     }
-    CheckedLine::Bad(Fault::Form)
+    if !sums_to_zero(line) {
+        return Err(Fault::Checksum);
+    }
+    if !expected(line) {
+        return Err(Fault::Record);
+    }
+    Ok(())
 }
 
-// The data of a record of 16 bytes, at a place of a lent buffer.
-pub fn put_data(line: &[u8], out: &mut [u8], at: usize)
+// The data of a record of 16 bytes.
+pub fn put_data(line: &[u8], page: &mut Page)
     requires in_bounds { 20 ≤ length (bytes_in line.now) }
-    requires at_in_bounds { at + 16 ≤ length out.old }
-    ensures { out.new ≡ put out.old at (data_in line.now) }
+    requires used_in_bounds { page.old.used + 16 ≤ length page.old.room.now }
+    ensures { Appends 16 (data_in line.now) page.old page.new }
 {
-    let mut i = 0;
-    while i < 16 {
-        out[at + i] = byte_in(line, 4 + i);
-        i += 1;
-    }
-}
-
-// What keeps a text from being written or read: a line; lines that are not the whole; an image; or the room.
-#[derive(Clone, Copy)]
-pub enum HexRefusal {
-    Line(Fault),
-    Whole,
-    Image,
-    Room,
-}
-
-#[derive(Clone, Copy)]
-pub enum Answer {
-    Done,
-    Refused(HexRefusal),
-}
-
-// The answer's number.
-pub fn answer_number(answer: Answer) -> u8
-    ensures { result ≡ answer_number answer }
-{
-    match answer {
-        Answer::Done => 0,
-        Answer::Refused(why) => match why {
-            HexRefusal::Line(fault) => fault_number(fault),
-            HexRefusal::Whole => 43,
-            HexRefusal::Image => 44,
-            HexRefusal::Room => 45,
-        },
+    for i in 0..16 {
+        page.put_byte(byte_in(line, 4 + i));
     }
 }
 
@@ -224,42 +205,40 @@ pub fn answer_number(answer: Answer) -> u8
 fn image_accepted(image: &[u8]) -> bool
     ensures { result ≡ image_accepted image.now }
 {
-    let judged = record::judged(image);
-    match judged {
-        Taken::Run(_) => true,
-        Taken::Refused(_) => false,
-    }
+    record::judged(image).is_ok()
 }
 
+#[tactic(auto, unfolding(crate::specs::Export::both_accepted))]
 fn both_accepted(pack: &[u8], factory: &[u8]) -> bool
     ensures { result ≡ both_accepted pack.now factory.now }
 {
-    numbers::and(image_accepted(pack), image_accepted(factory))
+    image_accepted(pack) && image_accepted(factory)
 }
 
 // The label for export, a part of one of the two images.
 pub fn export_label<'a>(pack: &'a [u8], factory: &'a [u8]) -> &'a [u8]
     ensures { result.now ≡ export_label pack.now factory.now }
 {
-    if both_accepted(pack, factory) {
-        if pack[record::LOCKS_AT] % 2 == 1 {
-            return &pack[record::LABEL_AT..record::BLOCK_AT];
-        }
-        return &factory[record::LABEL_AT..record::BLOCK_AT];
+    if !both_accepted(pack, factory) {
+        return &pack[..0];
     }
-    &pack[0..0]
+    if pack[record::LOCKS_AT] % 2 == 1 {
+        return &pack[record::LABEL_AT..record::BLOCK_AT];
+    }
+    &factory[record::LABEL_AT..record::BLOCK_AT]
 }
 
-fn export_answer(pack: &[u8], factory: &[u8], room: usize) -> Answer
+#[tactic(auto, unfolding(crate::specs::Export::export_answer))]
+fn export_answer(pack: &[u8], factory: &[u8], room: usize) -> Result<(), HexRefusal>
     ensures { result ≡ export_answer pack.now factory.now room }
 {
-    if both_accepted(pack, factory) {
-        if room < 144 {
-            return Answer::Refused(HexRefusal::Room);
-        }
-        return Answer::Done;
+    if !both_accepted(pack, factory) {
+        return Err(HexRefusal::Image);
     }
-    Answer::Refused(HexRefusal::Image)
+    if room < 144 {
+        return Err(HexRefusal::Room);
+    }
+    Ok(())
 }
 
 // Three records of data and the end record, a line each.
@@ -273,139 +252,130 @@ fn put_text(label: &[u8], block: &[u8], room: &mut [u8])
     let second = data_record(0x60, &block[0..16]);
     let third = data_record(0x70, &block[16..32]);
     let end = [0u8, 0, 0, 1, 0xff];
-    let a = put_line(&first, room, 0);
-    let b = put_line(&second, room, a);
-    let c = put_line(&third, room, b);
-    put_line(&end, room, c);
+    let mut page = Page::new(room);
+    put_line(&first, &mut page);
+    put_line(&second, &mut page);
+    put_line(&third, &mut page);
+    put_line(&end, &mut page);
 }
 
 // Writes the text at the front of the room, or nothing.
-pub fn write_text<'a>(pack: &'a [u8], factory: &'a [u8], room: &mut [u8]) -> Answer
+pub fn write_text<'a>(pack: &'a [u8], factory: &'a [u8], room: &mut [u8]) -> Result<(), HexRefusal>
     ensures { Exporting pack.now factory.now room.old result room.new }
 {
-    let found = export_answer(pack, factory, room.len());
-    match found {
-        Answer::Done => {
-            let chosen = export_label(pack, factory);
-            put_text(chosen, &pack[record::BLOCK_AT..record::ACR_AT], room);
-            Answer::Done
-        }
-        Answer::Refused(why) => Answer::Refused(why),
-    }
+    export_answer(pack, factory, room.len())?;
+    let label = export_label(pack, factory);
+    put_text(label, &pack[record::BLOCK_AT..record::ACR_AT], room);
+    Ok(())
 }
 
 // ---- import
 
-// Where the line ends that starts at an index: behind its line feed, or at the end of the text.
-fn line_end(text: &[u8], at: usize) -> usize
-    requires { at < length text.now }
-    ensures { Cut text.now at result }
+// Where the first line of a text ends: after its line feed, or at the end of the text.
+fn line_end(text: &[u8]) -> usize
+    requires { 0 < length text.now }
+    ensures { Cut text.now result }
 {
-    let mut end = at;
-    while end < text.len() {
-        if text[end] == b'\n' {
-            return end + 1;
-        }
-        end += 1;
+    match text.iter().position(|byte| *byte == b'\n') {
+        Some(i) => i + 1,
+        None => text.len(),
     }
-    end
+}
+
+// What is left of the lines of a text.
+#[derive(Drop)]
+struct TextLines<'a> {
+    rest: &'a [u8],
+}
+
+impl<'a> Iterator for TextLines<'a> {
+    ghost use Rattle.std.specs.Iterator.{item_count, YieldsFirstRef};
+
+    type Item = &'a [u8];
+
+    ghost next_gives = { YieldsFirstRef lines_left };
+
+    ghost remaining = { item_count lines_left };
+
+    fn next(&mut self) -> Option<&'a [u8]> {
+        if self.rest.is_empty() {
+            return None;
+        }
+        let (line, rest) = self.rest.split_at(line_end(self.rest));
+        self.rest = rest;
+        Some(line)
+    }
+}
+
+fn split_lines(text: &[u8]) -> TextLines<'_>
+    ensures { lines_left result ≡ text_lines text.now }
+{
+    TextLines { rest: text }
 }
 
 // The first bad line decides.
-fn lines_answer(text: &[u8]) -> Answer
+fn lines_answer(text: &[u8]) -> Result<(), HexRefusal>
     ensures { result ≡ lines_answer (text_lines text.now) }
 {
-    let mut at = 0;
-    while at < text.len() {
-        let end = line_end(text, at);
-        let line = checked_line(&text[at..end]);
-        match line {
-            CheckedLine::Good => {
-                at = end;
-            }
-            CheckedLine::Bad(fault) => {
-                return Answer::Refused(HexRefusal::Line(fault));
-            }
-        }
+    for line in split_lines(text) {
+        checked_line(line).map_err(HexRefusal::Line)?;
     }
-    Answer::Done
-}
-
-fn one(t: bool) -> usize
-    ensures { (result ≡ pick t 1 0) × (result ≤ 1) }
-{
-    if t { 1 } else { 0 }
+    Ok(())
 }
 
 // How many lines have an address.
 fn count(text: &[u8], address: u16) -> usize
     ensures { result ≡ count_of address (text_lines text.now) }
 {
-    let mut n = 0;
-    let mut at = 0;
-    while at < text.len() {
-        let end = line_end(text, at);
-        n += one(address_in(&text[at..end]) == address);
-        at = end;
-    }
-    n
+    split_lines(text)
+        .filter(|line| address_in(line) == address)
+        .count()
 }
 
 // The address of the last line, or 1.
 fn last_address(text: &[u8]) -> u16
     ensures { result ≡ last_address 1 (text_lines text.now) }
 {
-    let mut address = 1;
-    let mut at = 0;
-    while at < text.len() {
-        let end = line_end(text, at);
-        address = address_in(&text[at..end]);
-        at = end;
+    match split_lines(text).last() {
+        Some(line) => address_in(line),
+        None => 1,
     }
-    address
 }
 
 // Whether each of the four records is there once, the end record last.
+#[tactic(auto, unfolding(crate::specs::Import::whole_text))]
 fn whole_text(text: &[u8]) -> bool
     ensures { result ≡ whole_text (text_lines text.now) }
 {
-    let block = numbers::and(count(text, 0x60) == 1, count(text, 0x70) == 1);
-    let ended = numbers::and(count(text, 0) == 1, last_address(text) == 0);
-    numbers::and(numbers::and(count(text, 0x20) == 1, block), ended)
+    let data = count(text, 0x20) == 1 && count(text, 0x60) == 1 && count(text, 0x70) == 1;
+    data && count(text, 0) == 1 && last_address(text) == 0
 }
 
-fn import_answer(text: &[u8], room: usize) -> Answer
+#[tactic(auto, unfolding(crate::specs::Import::import_answer))]
+fn import_answer(text: &[u8], room: usize) -> Result<(), HexRefusal>
     ensures { result ≡ import_answer (text_lines text.now) room }
 {
-    let lines = lines_answer(text);
-    match lines {
-        Answer::Done => {
-            if whole_text(text) {
-                if room < 48 {
-                    return Answer::Refused(HexRefusal::Room);
-                }
-                return Answer::Done;
-            }
-            Answer::Refused(HexRefusal::Whole)
-        }
-        Answer::Refused(why) => Answer::Refused(why),
+    lines_answer(text)?;
+    if !whole_text(text) {
+        return Err(HexRefusal::Whole);
     }
+    if room < 48 {
+        return Err(HexRefusal::Room);
+    }
+    Ok(())
 }
 
-// Puts the data of the line at an address into the room.
-fn put_found(text: &[u8], address: u16, room: &mut [u8], to: usize)
+// The data of the line at an address.
+fn put_found(text: &[u8], address: u16, page: &mut Page)
     requires text_len { length (data_at address (text_lines text.now)) ≡ 16 }
-    requires to_in_bounds { to + 16 ≤ length room.old }
-    ensures { room.new ≡ put room.old to (data_at address (text_lines text.now)) }
+    requires used_in_bounds { page.old.used + 16 ≤ length page.old.room.now }
+    ensures { Appends 16 (data_at address (text_lines text.now)) page.old page.new }
 {
-    let mut at = 0;
-    while at < text.len() {
-        let end = line_end(text, at);
-        if address_in(&text[at..end]) == address {
-            put_data(&text[at..end], room, to);
+    for line in split_lines(text) {
+        if address_in(line) == address {
+            put_data(line, page);
             return;
         }
-        at = end;
     }
 }
 
@@ -417,23 +387,19 @@ fn put_imported(text: &[u8], room: &mut [u8])
     requires import_size_in_bounds { import_size ≤ length room.old }
     ensures { room.new ≡ imported_of (text_lines text.now) ++ drop import_size room.old }
 {
-    put_found(text, 0x20, room, 0);
-    put_found(text, 0x60, room, 16);
-    put_found(text, 0x70, room, 32);
+    let mut page = Page::new(room);
+    put_found(text, 0x20, &mut page);
+    put_found(text, 0x60, &mut page);
+    put_found(text, 0x70, &mut page);
 }
 
 // Reads the 48 bytes to the front of the room, or nothing.
-pub fn read_text(text: &[u8], room: &mut [u8]) -> Answer
+pub fn read_text(text: &[u8], room: &mut [u8]) -> Result<(), HexRefusal>
     ensures { Importing text.now room.old result room.new }
 {
-    let found = import_answer(text, room.len());
-    match found {
-        Answer::Done => {
-            put_imported(text, room);
-            Answer::Done
-        }
-        Answer::Refused(why) => Answer::Refused(why),
-    }
+    import_answer(text, room.len())?;
+    put_imported(text, room);
+    Ok(())
 }
 
 // ---- what is wrong with a text, for the words of a refusal
@@ -451,7 +417,7 @@ pub enum Cause {
     Place,
 }
 
-// The first bad line of a text by its number, from 1 on, and why it is bad. 0 where none is.
+// A bad line of a text: its number, from 1 on, and why it is bad.
 #[derive(Clone, Copy)]
 pub struct Flaw {
     pub line: usize,
@@ -459,6 +425,7 @@ pub struct Flaw {
 }
 
 // Of a line that has a colon, a line feed and a checksum's length between them.
+#[tactic(auto, using(crate::proofs::Flaws::digits_alone), unfolding(crate::specs::Flaw::pairs_cause))]
 fn pairs_cause(line: &[u8]) -> Cause
     requires { 12 ≤ length line.now }
     ensures { result ≡ pairs_cause line.now }
@@ -474,21 +441,23 @@ fn pairs_cause(line: &[u8]) -> Cause
 }
 
 // Of a line that has a colon.
+#[tactic(auto, unfolding(crate::specs::Flaw::begun_cause))]
 fn begun_cause(line: &[u8]) -> Cause
     requires { 0 < length line.now }
     ensures { result ≡ begun_cause line.now }
 {
     let n = line.len();
-    if line[n - 1] == b'\n' {
-        if n < 12 {
-            return Cause::Pairs;
-        }
-        return pairs_cause(line);
+    if line[n - 1] != b'\n' {
+        return Cause::Feed;
     }
-    Cause::Feed
+    if n < 12 {
+        return Cause::Pairs;
+    }
+    pairs_cause(line)
 }
 
 // Why a line is not formed.
+#[tactic(auto, unfolding(crate::specs::Flaw::form_cause))]
 fn form_cause(line: &[u8]) -> Cause
     requires { 0 < length line.now }
     ensures { result ≡ form_cause line.now }
@@ -502,47 +471,33 @@ fn form_cause(line: &[u8]) -> Cause
     Cause::Colon
 }
 
+#[tactic(auto, using(crate::proofs::Laws::formed_long), unfolding(crate::specs::Flaw::cause_of))]
 fn cause_of(line: &[u8]) -> Cause
     requires { 0 < length line.now }
     ensures { result ≡ cause_of line.now }
 {
-    if formed(line) {
-        if sums_to_zero(line) {
-            return Cause::Place;
-        }
+    if !formed(line) {
+        return form_cause(line);
+    }
+    if !sums_to_zero(line) {
         return Cause::Sum;
     }
-    form_cause(line)
+    Cause::Place
 }
 
-pub fn first_bad(text: &[u8]) -> Flaw
+pub fn first_bad(text: &[u8]) -> Option<Flaw>
     ensures value { result ≡ flaw_from 1 (text_lines text.now) }
-    ensures small { result.line ≤ length text.now }
+    ensures small { IfSome result (λ flaw. flaw.line ≤ length text.now) }
 {
-    let mut number = 1;
-    let mut at = 0;
-    while at < text.len() {
-        let end = line_end(text, at);
-        let line = checked_line(&text[at..end]);
-        match line {
-            CheckedLine::Good => {
-                at = end;
-                number += 1;
-            }
-            CheckedLine::Bad(_) => {
-                let cause = cause_of(&text[at..end]);
-                return Flaw {
-                    line: number,
-                    cause: cause,
-                };
-            }
+    for (i, line) in split_lines(text).enumerate() {
+        if checked_line(line).is_err() {
+            return Some(Flaw {
+                line: i + 1,
+                cause: cause_of(line),
+            });
         }
     }
-    let none = Cause::Place;
-    Flaw {
-        line: 0,
-        cause: none,
-    }
+    None
 }
 
 // What a text without a bad line lacks.
@@ -555,6 +510,7 @@ pub enum Gap {
     Last,
 }
 
+#[tactic(auto, unfolding(crate::specs::Flaw::gap_of))]
 pub fn first_gap(text: &[u8]) -> Gap
     ensures { result ≡ gap_of (text_lines text.now) }
 {

@@ -7,26 +7,30 @@ ghost use Rattle.label.specs.Label.{in_label, in_block, label_written_of, label_
 use state::{Common, Label};
 
 // Whether the address is of block 0.
+#[tactic(auto, unfolding(crate::specs::Label::in_label))]
 pub fn in_label(a: usize) -> bool
     ensures { result ≡ in_label a }
 {
-    numbers::and(0x20 <= a, a < 0x30)
+    (0x20..0x30).contains(&a)
 }
 
 // Whether the address is of block 1.
+#[tactic(auto, unfolding(crate::specs::Label::in_block))]
 pub fn in_block(a: usize) -> bool
     ensures { result ≡ in_block a }
 {
-    numbers::and(0x60 <= a, a < 0x80)
+    (0x60..0x80).contains(&a)
 }
 
 // 6Ch: bytes written from the address a upward. A whole label, the usual write, is taken at once.
+#[tactic(auto, unfolding(crate::specs::Label::label_written_of))]
 pub fn written(mut label: Label, locked: bool, a: usize, bytes: &[u8]) -> Label
     requires { a < 256 }
     ensures { result ≡ label_written_of label locked a bytes.now }
 {
     if !locked {
-        if numbers::and(a == 0x20, 16 <= bytes.len()) {
+        if a == 0x20 && 16 <= bytes.len() {
+            // An array goes through a variable, here and below: the check covers none that is put straight into a field.
             let whole = slices::sixteen(bytes, 0);
             label.shadow = whole;
         } else {
@@ -39,10 +43,11 @@ pub fn written(mut label: Label, locked: bool, a: usize, bytes: &[u8]) -> Label
 }
 
 // 48h at the address a.
+#[tactic(auto, unfolding(crate::specs::Label::label_copied_of))]
 pub fn copied(mut label: Label, locked: bool, a: usize) -> Label
     ensures { result ≡ label_copied_of label locked a }
 {
-    if numbers::and_not(in_label(a), locked) {
+    if in_label(a) && !locked {
         let shadow = label.shadow;
         label.eeprom = shadow;
     }
@@ -59,6 +64,7 @@ pub fn powered(mut label: Label) -> Label
 }
 
 // B8h at the address a.
+#[tactic(auto, unfolding(crate::specs::Label::label_recalled_of))]
 pub fn recalled(mut label: Label, a: usize) -> Label
     ensures { result ≡ label_recalled_of label a }
 {
@@ -70,10 +76,10 @@ pub fn recalled(mut label: Label, a: usize) -> Label
 }
 
 // 6Ah at the address a.
+#[tactic(auto, unfolding(crate::specs::Label::common_locked_of))]
 pub fn locked(mut common: Common, lock: bool, a: usize) -> Common
     ensures { result ≡ common_locked_of common lock a }
 {
-    let bl0 = numbers::or(common.bl0, numbers::and(lock, in_label(a)));
-    common.bl0 = bl0;
+    common.bl0 = common.bl0 || lock && in_label(a);
     common
 }

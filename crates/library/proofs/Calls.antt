@@ -1,4 +1,5 @@
 -- What each entry hands back, from what the functions below it promise: once for any state that is kept as bytes.
+use Rattle.std.specs.Prelude.{⊤, Result, Ok, Err}
 use mathlib.Core.Path.{◌≡◌, refl, sym, ap, ◌∙◌}
 use mathlib.Core.Bool.{Bool, true, false}
 use mathlib.Core.List.{List}
@@ -12,18 +13,19 @@ use Rattle.numbers.proofs.Bounds.{both_true}
 use Rattle.slices.specs.Slices.{put}
 use Rattle.slices.proofs.Laws.{put_whole}
 use Rattle.gauge.proofs.Reached.{image_sized}
+use Rattle.runs.specs.Run.{Did}
 use Rattle.runs.specs.declared.Session.{Session}
 use Rattle.session_run.specs.SessionRun.{empty_of}
 use Rattle.tray_record.specs.declared.Tray.{Tray}
 use Rattle.tray_record.specs.Tray.{empty_tray}
-use Rattle.state_bytes.specs.declared.StateIn.{StateIn}
-use Rattle.state_bytes.specs.declared.TrayStateIn.{TrayStateIn}
-use Rattle.state_bytes.specs.State.{state_size, state_bytes, StateOut}
-use Rattle.state_bytes.specs.TrayState.{tray_state_size, tray_state_bytes, TrayStateOut}
+use Rattle.state_bytes.specs.State.{state_size, state_bytes, StateIn, state_in, number_in, session_in, state_refusal_number, StateOut}
+use Rattle.state_bytes.specs.TrayState.{tray_state_size, tray_state_bytes, TrayStateIn, tray_state_in, tray_in, TrayStateOut}
 use Rattle.state_bytes.proofs.Undoing.{state_length, undoing}
 use Rattle.state_bytes.proofs.TrayUndoing.{empty_tray_good, tray_state_length, tray_undoing}
-use Rattle.state_bytes.specs.declared.StateStep.{StateStep}
-use Rattle.state_bytes.specs.Steps.{StateStepped, TrayStateStepped}
+use Rattle.state_bytes.specs.declared.StateRefusal.{StateRefusal}
+use Rattle.state_bytes.specs.declared.StateRefusal.TheVariants as why
+use Rattle.state_bytes.specs.declared.Step.{Step}
+use Rattle.state_bytes.specs.Steps.{StateStep, said_of, StateStepped, TrayStateStepped}
 use Rattle.library.specs.Library.{KeptAs, kept_pack, kept_tray, Started, is_state, headed, doing, RecordDone, ImageTaken}
 
 never : true ≡ false → ⊥
@@ -57,31 +59,31 @@ module _ {S : Type 0} (k : KeptAs S) where
         }
 
     -- a step by state bytes: its number, answer, count and reply, what is left where nothing was run, and where something was
-    pub record_done : {s : StateStep} {after last : List ℕ} → 4 ≤ length bytes → s.number ≡ k.number_of state
-        → s.answer ≡ pick (is_state k state) (doing k state bytes room).answer 0
-        → s.replied ≡ pick (is_state k state) (length (doing k state bytes room).reply) 0
-        → (is_state k state ≡ false → after ≡ state) → (s.number ≡ 0 → after ≡ k.bytes_of (doing k state bytes room).state)
+    pub record_done : {read answer replied : ℕ} {after last : List ℕ} → 4 ≤ length bytes → read ≡ k.number_of state
+        → answer ≡ pick (is_state k state) (doing k state bytes room).answer 0
+        → replied ≡ pick (is_state k state) (length (doing k state bytes room).reply) 0
+        → (is_state k state ≡ false → after ≡ state) → (read ≡ 0 → after ≡ k.bytes_of (doing k state bytes room).state)
         → last ≡ pick (is_state k state) (put room 0 (doing k state bytes room).reply) room
-        → (s.number ≡ 0 → (k.number_of after ≡ 0) × (k.held after ≡ (doing k state bytes room).state))
-        → RecordDone k state bytes room (record { answer = pick (eqb s.number 0) s.answer s.number; count = s.replied }) after last
-    record_done {s} {after} {last} long number answered counted stays moves written again = by (is_state k state) refl
+        → (read ≡ 0 → (k.number_of after ≡ 0) × (k.held after ≡ (doing k state bytes room).state))
+        → RecordDone k state bytes room (record { answer = pick (eqb read 0) answer read; count = replied }) after last
+    record_done {read} {answer} {replied} {after} {last} long number answered counted stays moves written again = by (is_state k state) refl
       where
         head : leb 4 (length bytes) ≡ true
         head = le-leb 4 (length bytes) long
 
         by : (b : Bool) → is_state k state ≡ b
-            → RecordDone k state bytes room (record { answer = pick (eqb s.number 0) s.answer s.number; count = s.replied }) after last
+            → RecordDone k state bytes room (record { answer = pick (eqb read 0) answer read; count = replied }) after last
         by true held =
-            let zero : s.number ≡ 0 = number ∙ eqb-true (k.number_of state) 0 held in
+            let zero : read ≡ 0 = number ∙ eqb-true (k.number_of state) 0 held in
             record {
-              answered = simp (eq-eqb s.number 0 zero, answered, head, held);
+              answered = simp (eq-eqb read 0 zero, answered, head, held);
               counted = counted ∙ simp (head, held);
               kept = moves zero ∙ simp (head, held);
               written = written ∙ simp (head, held);
               again = λ run. again zero;
             }
         by false held =
-            let some = ne_eqb s.number 0 (λ e. eqb-false (k.number_of state) 0 held (sym number ∙ e)) in
+            let some = ne_eqb read 0 (λ e. eqb-false (k.number_of state) 0 held (sym number ∙ e)) in
             record {
               answered = (simp some) ∙ number ∙ simp (head, held);
               counted = counted ∙ simp (head, held);
@@ -115,7 +117,7 @@ module _ {S : Type 0} (k : KeptAs S) where
 
 -- ---- of one pack
 
-pub pack_started : {room after : List ℕ} {σ : Session} {done : Bool} → length room ≡ state_size → σ ≡ empty_of → StateOut σ room done after
+pub pack_started : {room after : List ℕ} {σ : Session} {done : Result ⊤ StateRefusal} → length room ≡ state_size → σ ≡ empty_of → StateOut σ room done after
     → Started kept_pack room 0 after
 pack_started {room} {after} {σ} size e h =
     let long = le-leb state_size (length room) (omega (arith, size)) in
@@ -123,27 +125,63 @@ pack_started {room} {after} {σ} size e h =
     let sized = image_sized _ _ (length-replicate {A = ℕ} 60 0) in
     started kept_pack size (state_length empty_of sized) (front ∙ ap (λ (s : Session). put room 0 (state_bytes s)) e)
 
-module _ {state bytes room after last : List ℕ} {s : StateStep} where
-  pub pack_done : 4 ≤ length bytes → StateStepped state bytes room s after last
-      → RecordDone kept_pack state bytes room (record { answer = pick (eqb s.number 0) s.answer s.number; count = s.replied }) after last
-  pack_done long h =
-      let moves : s.number ≡ 0 → after ≡ state_bytes (doing kept_pack state bytes room).state = λ z.
-      sym (undoing.forth after (ap (λ (x : StateIn). x.number) (h.again z))) ∙ ap (λ (x : StateIn). state_bytes x.session) (h.again z) in
-      record_done kept_pack long h.number h.answered h.counted (λ none. h.kept ∙ simp none) moves h.written
-      (λ z. (ap (λ (x : StateIn). x.number) (h.again z), ap (λ (x : StateIn). x.session) (h.again z)))
+-- ---- a step that was run, and one that was refused
+
+abbrev step_numbers : StateStep → ℕ × (ℕ × ℕ)
+step_numbers (Ok s) = (0, (s.answer, s.replied))
+step_numbers (Err r) = (state_refusal_number r, (0, 0))
+
+-- its number, its answer and its count, by what was read
+by_read : {S : Type 0} (x : Result S StateRefusal) (d : Did S)
+    → step_numbers (said_of x d) ≡ (number_in x, (pick (eqb (number_in x) 0) d.answer 0, pick (eqb (number_in x) 0) (length d.reply) 0))
+by_read (Ok σ) d = refl
+by_read (Err why.Size) d = refl
+by_read (Err why.Version) d = refl
+by_read (Err why.Unsound) d = refl
+
+module _ {state bytes room after last : List ℕ} {r : StateStep} where
+  module _ (long : 4 ≤ length bytes) (h : StateStepped state bytes room r after last) where
+    -- what the caller is told
+    pack_said : RecordDone kept_pack state bytes room (record {
+      answer = pick (eqb (step_numbers r).0 0) (step_numbers r).1.0 (step_numbers r).0;
+      count = (step_numbers r).1.1;
+    }) after last
+    pack_said =
+        let did = doing kept_pack state bytes room in
+        let told = ap step_numbers h.said ∙ by_read (state_in state) did in
+        let zero : (step_numbers r).0 ≡ 0 → number_in (state_in state) ≡ 0 = λ z. sym (ap (λ (n : ℕ × (ℕ × ℕ)). n.0) told) ∙ z in
+        let moves : (step_numbers r).0 ≡ 0 → after ≡ state_bytes did.state = λ z.
+        sym (undoing.forth after (ap (λ (x : StateIn). number_in x) (h.again (zero z))))
+        ∙ ap (λ (x : StateIn). state_bytes (session_in x)) (h.again (zero z)) in
+        record_done kept_pack long (ap (λ (n : ℕ × (ℕ × ℕ)). n.0) told) (ap (λ (n : ℕ × (ℕ × ℕ)). n.1.0) told) (ap (λ (n : ℕ × (ℕ × ℕ)). n.1.1) told)
+        (λ none. h.kept ∙ simp none) moves h.written
+        (λ z. (ap (λ (x : StateIn). number_in x) (h.again (zero z)), ap (λ (x : StateIn). session_in x) (h.again (zero z))))
+
+    pub pack_done : {s : Step} → r ≡ Ok s → RecordDone kept_pack state bytes room (record { answer = s.answer; count = s.replied }) after last
+    pack_done e = rw e at pack_said
 
   -- ---- of a tray
 
-  pub tray_done : 4 ≤ length bytes → TrayStateStepped state bytes room s after last
-      → RecordDone kept_tray state bytes room (record { answer = pick (eqb s.number 0) s.answer s.number; count = s.replied }) after last
-  tray_done long h =
-      let moves : s.number ≡ 0 → after ≡ tray_state_bytes (doing kept_tray state bytes room).state = λ z.
-      sym (tray_undoing.forth after (ap (λ (x : TrayStateIn). x.number) (h.again z)))
-      ∙ ap (λ (x : TrayStateIn). tray_state_bytes x.tray) (h.again z) in
-      record_done kept_tray long h.number h.answered h.counted (λ none. h.kept ∙ simp none) moves h.written
-      (λ z. (ap (λ (x : TrayStateIn). x.number) (h.again z), ap (λ (x : TrayStateIn). x.tray) (h.again z)))
+  module _ (long : 4 ≤ length bytes) (h : TrayStateStepped state bytes room r after last) where
+    tray_said : RecordDone kept_tray state bytes room (record {
+      answer = pick (eqb (step_numbers r).0 0) (step_numbers r).1.0 (step_numbers r).0;
+      count = (step_numbers r).1.1;
+    }) after last
+    tray_said =
+        let did = doing kept_tray state bytes room in
+        let told = ap step_numbers h.said ∙ by_read (tray_state_in state) did in
+        let zero : (step_numbers r).0 ≡ 0 → number_in (tray_state_in state) ≡ 0 = λ z. sym (ap (λ (n : ℕ × (ℕ × ℕ)). n.0) told) ∙ z in
+        let moves : (step_numbers r).0 ≡ 0 → after ≡ tray_state_bytes did.state = λ z.
+        sym (tray_undoing.forth after (ap (λ (x : TrayStateIn). number_in x) (h.again (zero z))))
+        ∙ ap (λ (x : TrayStateIn). tray_state_bytes (tray_in x)) (h.again (zero z)) in
+        record_done kept_tray long (ap (λ (n : ℕ × (ℕ × ℕ)). n.0) told) (ap (λ (n : ℕ × (ℕ × ℕ)). n.1.0) told) (ap (λ (n : ℕ × (ℕ × ℕ)). n.1.1) told)
+        (λ none. h.kept ∙ simp none) moves h.written
+        (λ z. (ap (λ (x : TrayStateIn). number_in x) (h.again (zero z)), ap (λ (x : TrayStateIn). tray_in x) (h.again (zero z))))
 
-pub tray_started : {room after : List ℕ} {τ : Tray} {done : Bool} → length room ≡ tray_state_size → τ ≡ empty_tray
+    pub tray_done : {s : Step} → r ≡ Ok s → RecordDone kept_tray state bytes room (record { answer = s.answer; count = s.replied }) after last
+    tray_done e = rw e at tray_said
+
+pub tray_started : {room after : List ℕ} {τ : Tray} {done : Result ⊤ StateRefusal} → length room ≡ tray_state_size → τ ≡ empty_tray
     → TrayStateOut τ room done after → Started kept_tray room 0 after
 tray_started {room} {after} {τ} size e h =
     let long = le-leb tray_state_size (length room) (omega (arith, size)) in

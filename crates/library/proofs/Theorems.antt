@@ -12,8 +12,8 @@ use Rattle.gauge.proofs.Reached.{image_sized, image_uncounted}
 use Rattle.runs.specs.Record.{rec_of}
 use Rattle.session_run.specs.SessionRun.{empty_of}
 use Rattle.tray_record.specs.Tray.{empty_tray}
-use Rattle.state_bytes.specs.declared.StateIn.{StateIn}
-use Rattle.state_bytes.specs.declared.TrayStateIn.{TrayStateIn}
+use Rattle.state_bytes.specs.State.{StateIn, number_in, session_in}
+use Rattle.state_bytes.specs.TrayState.{TrayStateIn, tray_in}
 use Rattle.state_bytes.specs.Theorems.{StateWf}
 use Rattle.state_bytes.proofs.Undoing.{undoing}
 use Rattle.state_bytes.proofs.TrayUndoing.{no_gauge_wf, empty_tray_good, tray_undoing}
@@ -75,8 +75,8 @@ theorems = record {
         uncounted = image_uncounted _ _;
       } in
       let back = undoing.back empty_of good in
-      after_call kept_pack (record { number = ap (λ (x : StateIn). x.number) back; held = ap (λ (x : StateIn). x.session) back });
+      after_call kept_pack (record { number = ap (λ (x : StateIn). number_in x) back; held = ap (λ (x : StateIn). session_in x) back });
   tray =
       let back = tray_undoing.back empty_tray empty_tray_good in
-      after_call kept_tray (record { number = ap (λ (x : TrayStateIn). x.number) back; held = ap (λ (x : TrayStateIn). x.tray) back });
+      after_call kept_tray (record { number = ap (λ (x : TrayStateIn). number_in x) back; held = ap (λ (x : TrayStateIn). tray_in x) back });
 }

@@ -11,8 +11,8 @@ use Rattle.session_run.specs.SessionRun.{empty_of, take_out_number, take_out_roo
 use Rattle.tray_record.specs.declared.Tray.{Tray}
 use Rattle.tray_record.specs.Tray.{empty_tray, pack_of, tray_did}
 use Rattle.tray_run.specs.TrayRun.{slot_out_number, slot_out_room}
-use Rattle.state_bytes.specs.State.{state_size, state_bytes, state_in}
-use Rattle.state_bytes.specs.TrayState.{tray_state_size, tray_state_bytes, tray_state_in}
+use Rattle.state_bytes.specs.State.{state_size, state_bytes, state_in, number_in, session_in}
+use Rattle.state_bytes.specs.TrayState.{tray_state_size, tray_state_bytes, tray_state_in, tray_in}
 use Rattle.library.specs.declared.LibraryResult.{LibraryResult}
 
 -- the numbers that are the library's own: a room that is not that of a state; a record too short for its header
@@ -39,8 +39,8 @@ kept_pack = record {
   size = state_size;
   first = empty_of;
   bytes_of = state_bytes;
-  number_of = λ b. (state_in b).number;
-  held = λ b. (state_in b).session;
+  number_of = λ b. number_in (state_in b);
+  held = λ b. session_in (state_in b);
   did = did_of;
 }
 
@@ -49,8 +49,8 @@ kept_tray = record {
   size = tray_state_size;
   first = empty_tray;
   bytes_of = tray_state_bytes;
-  number_of = λ b. (tray_state_in b).number;
-  held = λ b. (tray_state_in b).tray;
+  number_of = λ b. number_in (tray_state_in b);
+  held = λ b. tray_in (tray_state_in b);
   did = tray_did;
 }
 

@@ -4,7 +4,7 @@
 ghost use Rattle.std.specs.Prelude.{◌≡◌};
 ghost use Rattle.library.specs.Library.{kept_pack, kept_tray, Started, RecordDone, PackImage, SlotImage};
 
-// What a call says: its answer, and how many bytes stand at the front of the room that was lent for them.
+// What a call says: its answer, and how many bytes stand at the front of the room that was lent for them. (The C interface has no Result.)
 #[repr(C)]
 #[derive(Clone, Copy)]
 pub struct LibraryResult {
@@ -21,9 +21,12 @@ fn said(answer: u8, count: usize) -> LibraryResult
     }
 }
 
+// Each call stands here for a pack and for a tray: C asks for both by name. What they share is a match of two arms, which one function for both would
+// not make plainer.
+
 // ---- one pack
 
-// The state before the first record; 53 where the room is not that of a state.
+// The state before the first record; 53 where the room is not that of a state. (A number, here and below: the C interface.)
 #[unsafe(no_mangle)]
 pub extern "C" fn trovimbe_start(state: &mut [u8]) -> u8
     ensures { Started kept_pack state.old result state.new }
@@ -32,7 +35,7 @@ pub extern "C" fn trovimbe_start(state: &mut [u8]) -> u8
         return 53;
     }
     let before = session_run::empty();
-    state_bytes::state_out(before, state);
+    let _ = state_bytes::state_out(before, state);
     0
 }
 
@@ -44,11 +47,10 @@ pub extern "C" fn trovimbe_record(state: &mut [u8], bytes: &[u8], reply: &mut [u
     if bytes.len() < 4 {
         return said(54, 0);
     }
-    let stepped = state_bytes::state_step(state, bytes, reply);
-    said(
-        numbers::choose8(stepped.number == 0, stepped.answer, stepped.number),
-        stepped.replied,
-    )
+    match state_bytes::state_step(state, bytes, reply) {
+        Ok(step) => said(step.answer, step.replied),
+        Err(refusal) => said(u8::from(refusal), 0),
+    }
 }
 
 // The image of the pack as it is now, which is all that outlives a loss of power.
@@ -56,16 +58,14 @@ pub extern "C" fn trovimbe_record(state: &mut [u8], bytes: &[u8], reply: &mut [u
 pub extern "C" fn trovimbe_image(state: &[u8], image: &mut [u8]) -> LibraryResult
     ensures { PackImage state.now image.old result image.new }
 {
-    let held = state_bytes::state_in(state);
-    let session = held.session;
-    if held.number != 0 {
-        return said(held.number, 0);
+    let session = match state_bytes::state_in(state) {
+        Ok(session) => session,
+        Err(refusal) => return said(u8::from(refusal), 0),
+    };
+    match session_run::take_out(session, image) {
+        Ok(count) => said(0, count),
+        Err(reason) => said(u8::from(reason), 0),
     }
-    let answer = session_run::take_out(session, image);
-    if answer != 0 {
-        return said(answer, 0);
-    }
-    said(0, session_run::image_size(session))
 }
 
 // ---- a tray
@@ -79,7 +79,7 @@ pub extern "C" fn trovimbe_tray_start(state: &mut [u8]) -> u8
         return 53;
     }
     let before = tray_record::empty();
-    state_bytes::tray_state_out(before, state);
+    let _ = state_bytes::tray_state_out(before, state);
     0
 }
 
@@ -95,11 +95,10 @@ pub extern "C" fn trovimbe_tray_record(
     if bytes.len() < 4 {
         return said(54, 0);
     }
-    let ran = state_bytes::tray_state_step(state, bytes, reply);
-    said(
-        numbers::choose8(ran.number == 0, ran.answer, ran.number),
-        ran.replied,
-    )
+    match state_bytes::tray_state_step(state, bytes, reply) {
+        Ok(step) => said(step.answer, step.replied),
+        Err(refused) => said(u8::from(refused), 0),
+    }
 }
 
 // The image of the pack in a slot.
@@ -107,14 +106,12 @@ pub extern "C" fn trovimbe_tray_record(
 pub extern "C" fn trovimbe_tray_image(state: &[u8], slot: u8, image: &mut [u8]) -> LibraryResult
     ensures { SlotImage slot state.now image.old result image.new }
 {
-    let kept = state_bytes::tray_state_in(state);
-    let tray = kept.tray;
-    if kept.number != 0 {
-        return said(kept.number, 0);
+    let tray = match state_bytes::tray_state_in(state) {
+        Ok(tray) => tray,
+        Err(refused) => return said(u8::from(refused), 0),
+    };
+    match tray_run::take_out(tray, slot, image) {
+        Ok(count) => said(0, count),
+        Err(cause) => said(u8::from(cause), 0),
     }
-    let number = tray_run::take_out(tray, slot, image);
-    if number != 0 {
-        return said(number, 0);
-    }
-    said(0, tray_run::image_size(tray, slot))
 }

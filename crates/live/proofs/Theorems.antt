@@ -1,4 +1,5 @@
 -- The theorems of `live` and `resume`.
+use Rattle.std.specs.Prelude.{Ok}
 use mathlib.Core.Path.{◌≡◌, refl, sym, ap, subst, ◌∙◌}
 use mathlib.Core.List.{List, [], ◌∷◌, ◌++◌}
 use Prim.Native.Nat.{ℕ, ◌-◌}
@@ -15,8 +16,7 @@ use Rattle.runs.specs.Step.{own_room}
 use Rattle.runs.specs.Divided.{wholes_in}
 use Rattle.numbers.proofs.Bounds.{picked}
 use Rattle.runs.specs.SessionRecord.{SessionWf, did_of}
-use Rattle.state_bytes.specs.declared.StateIn.{StateIn}
-use Rattle.state_bytes.specs.State.{state_bytes, state_in}
+use Rattle.state_bytes.specs.State.{StateIn, state_bytes, state_in, number_in, session_in}
 use Rattle.state_bytes.specs.Theorems.{StateWf}
 use Rattle.state_bytes.proofs.Undoing.{undoing}
 use Rattle.state_bytes.proofs.TrayUndoing.{no_gauge_wf}
@@ -47,11 +47,11 @@ module _ (σ : Session) (rs : List Rec) (w : StateWf σ) (wf : SessionWf (live_e
     uncounted = run_keeps _ did_uncounted σ 256 rs w.uncounted;
   }
 
-  given_back : state_in (state_bytes (live_end did_of σ rs)) ≡ record { number = 0; session = live_end did_of σ rs }
+  given_back : state_in (state_bytes (live_end did_of σ rs)) ≡ Ok (live_end did_of σ rs)
   given_back = undoing.back (live_end did_of σ rs) end_good
 
   same_end : live_end did_of σ rs ≡ resumed_from σ rs
-  same_end = sym (ap (λ (x : StateIn). x.session) given_back)
+  same_end = sym (ap (λ (x : StateIn). session_in x) given_back)
 
 pub by_bytes : CutByBytes
 by_bytes = record {
@@ -82,17 +82,17 @@ turns_stand σ (t ∷ ts) d =
     ∙ sym ((resumed did_of).end σ (wholes_in 1024 t.bytes) (turns_records ts))
 
 module _ (σ : Session) (ts : List LiveTurn) (w : StateWf σ) (d : TurnsDone σ ts) where
-  turned_back : state_in (state_bytes (handed_on σ ts)) ≡ record { number = 0; session = handed_on σ ts }
+  turned_back : state_in (state_bytes (handed_on σ ts)) ≡ Ok (handed_on σ ts)
   turned_back = undoing.back (handed_on σ ts) (turns_good σ ts w d)
 
   -- the one run's end, and what the bytes give back
   same_turned : live_end did_of σ (turns_records ts) ≡ kept_from (handed_on σ ts)
-  same_turned = sym (turns_stand σ ts d) ∙ sym (ap (λ (x : StateIn). x.session) turned_back)
+  same_turned = sym (turns_stand σ ts d) ∙ sym (ap (λ (x : StateIn). session_in x) turned_back)
 
-held_good : (file : List ℕ) → (held_of file).number ≡ 0 → StateWf (held_of file).session
+held_good : (file : List ℕ) → number_in (held_of file) ≡ 0 → StateWf (session_in (held_of file))
 unfolding held_of
 held_good file =
-    picked (λ (x : StateIn). x.number ≡ 0 → StateWf x.session) (eqb (length file) 0) _ (state_in file)
+    picked (λ (x : StateIn). number_in x ≡ 0 → StateWf (session_in x)) (eqb (length file) 0) _ (state_in file)
     (λ e z. by_bytes.fresh) (λ e z. undoing.sound file z)
 
 pub by_turns : CutByTurns

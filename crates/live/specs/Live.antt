@@ -1,12 +1,11 @@
 -- What the program says: at its start, at the end of the input, and where an image is asked for.
-use Rattle.std.specs.Prelude.{◌≡◌, Bool, List, ℕ, eqb, length}
+use Rattle.std.specs.Prelude.{◌≡◌, Ok, Bool, List, ℕ, eqb, length}
 use Rattle.numbers.specs.Choice.{pick}
 use Rattle.digits.specs.Ascii.{ascii}
 use Rattle.streams.specs.Streams.{Speech, output, error, unread_text, refused_text}
 use Rattle.runs.specs.declared.Session.{Session}
 use Rattle.session_run.specs.SessionRun.{empty_of}
-use Rattle.state_bytes.specs.declared.StateIn.{StateIn}
-use Rattle.state_bytes.specs.State.{state_in}
+use Rattle.state_bytes.specs.State.{StateIn, state_in}
 use Rattle.text.specs.Text.{header_text, pack_speech}
 use Rattle.text.specs.Live.{left_text}
 
@@ -18,7 +17,7 @@ pub record Lent (room told text : ℕ) : Type 0 where
 
 -- the state in a file of such bytes; no bytes are a gauge before its first record
 unfoldable pub held_of : List ℕ → StateIn
-held_of kept = pick (eqb (length kept) 0) (record { number = 0; session = empty_of }) (state_in kept)
+held_of kept = pick (eqb (length kept) 0) (Ok empty_of) (state_in kept)
 
 -- why bytes are no state
 unfoldable pub state_words : ℕ → List ℕ

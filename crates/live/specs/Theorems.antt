@@ -1,19 +1,19 @@
 -- What is proved of `live` and `resume`. `theorems` of proofs/Theorems.antt is one value of this record.
-use Rattle.std.specs.Prelude.{◌≡◌, List, [], ◌∷◌, ◌++◌, ℕ}
+use Rattle.std.specs.Prelude.{◌≡◌, Ok, List, [], ◌∷◌, ◌++◌, ℕ}
 use Rattle.runs.specs.declared.Session.{Session}
 use Rattle.runs.specs.Record.{Rec}
 use Rattle.runs.specs.Divided.{wholes_in}
 use Rattle.streams.specs.declared.Said.{Said}
 use Rattle.runs.specs.SessionRecord.{SessionWf, did_of}
 use Rattle.session_run.specs.SessionRun.{empty_of}
-use Rattle.state_bytes.specs.State.{state_bytes, state_in}
+use Rattle.state_bytes.specs.State.{state_bytes, state_in, number_in, session_in}
 use Rattle.state_bytes.specs.Theorems.{StateWf}
 use Rattle.text.specs.Live.{live_lines, live_end, Turning, ReadByRead, Resumed}
 use Rattle.live.specs.Live.{held_of}
 
 -- the session that the bytes of a run's end give back
 abbrev pub resumed_from : Session → List Rec → Session
-resumed_from σ rs = (state_in (state_bytes (live_end did_of σ rs))).session
+resumed_from σ rs = session_in (state_in (state_bytes (live_end did_of σ rs)))
 
 -- The cut is by the bytes of STATE. The state that a run hands on is well-formed: the contract of `answered` says it (`kept`), and of its arrays and
 -- cycles the definitions. `CutByTurns` has it from there.
@@ -22,7 +22,7 @@ pub record CutByBytes : Type 0 where
   pub fresh : StateWf empty_of
   -- the bytes of the state at a cut are taken, give it back, and it is again one to go on from
   pub back : (σ : Session) (rs : List Rec) → StateWf σ → SessionWf (live_end did_of σ rs) →
-      state_in (state_bytes (live_end did_of σ rs)) ≡ record { number = 0; session = live_end did_of σ rs }
+      state_in (state_bytes (live_end did_of σ rs)) ≡ Ok (live_end did_of σ rs)
   pub on : (σ : Session) (rs : List Rec) → StateWf σ → SessionWf (live_end did_of σ rs) → StateWf (resumed_from σ rs)
   -- so what is resumed from them has the answers and replies of one run, and ends in its state
   pub lines : (σ : Session) (rs ts : List Rec) → StateWf σ → SessionWf (live_end did_of σ rs) →
@@ -69,17 +69,17 @@ turns_records (t ∷ ts) = wholes_in 1024 t.bytes ++ turns_records ts
 
 -- the state that its bytes give back
 abbrev pub kept_from : Session → Session
-kept_from σ = (state_in (state_bytes σ)).session
+kept_from σ = session_in (state_in (state_bytes σ))
 
 pub record CutByTurns : Type 0 where
   -- a start from no bytes, or from bytes that are taken, is from a well-formed state
-  pub started : (file : List ℕ) → (held_of file).number ≡ 0 → StateWf (held_of file).session
+  pub started : (file : List ℕ) → number_in (held_of file) ≡ 0 → StateWf (session_in (held_of file))
   -- turns from such a state hand on such a state, and it is the one behind their records
   pub good : (σ : Session) (ts : List LiveTurn) → StateWf σ → TurnsDone σ ts → StateWf (handed_on σ ts)
   pub stands : (σ : Session) (ts : List LiveTurn) → TurnsDone σ ts → handed_on σ ts ≡ live_end did_of σ (turns_records ts)
   -- its bytes are taken and give it back
   pub back : (σ : Session) (ts : List LiveTurn) → StateWf σ → TurnsDone σ ts →
-      state_in (state_bytes (handed_on σ ts)) ≡ record { number = 0; session = handed_on σ ts }
+      state_in (state_bytes (handed_on σ ts)) ≡ Ok (handed_on σ ts)
   -- so any records that are run from them on have the answers and replies of one run, and end in its state
   pub lines : (σ : Session) (ts : List LiveTurn) (rs : List Rec) → StateWf σ → TurnsDone σ ts →
       live_lines did_of σ (turns_records ts ++ rs)

@@ -2,15 +2,22 @@
 // resume STATE: the same, from the state in the file STATE, which then has the state behind the last record
 #![tactic(auto)]
 
-ghost use Rattle.std.specs.Prelude.{◌≡◌, ◌+◌, ◌≤◌, ◌<◌, length};
+ghost use Rattle.std.specs.Prelude.{◌≡◌, IfOk, ◌+◌, ◌≤◌, ◌<◌, length};
 ghost use Rattle.streams.specs.Streams.{Saying};
 ghost use Rattle.text.specs.Live.{Turning};
 ghost use Rattle.runs.specs.SessionRecord.{SessionWf, did_of};
+ghost use Rattle.state_bytes.specs.State.{number_in};
 ghost use Rattle.live.specs.Live.{Lent, held_of, start_speech, last_speech, at_end_speech};
 
+use digits::Page;
 use runs::Session;
-use state_bytes::StateIn;
+use state_bytes::StateRefusal;
 use streams::{Said, Stream};
+
+// 2^52.
+const TURNS: usize = 4503599627370496;
+
+const TEXT_ROOM: usize = 557056;
 
 // What a turn did: the state after it, how many records it answered, how many bytes they were, and what is said.
 #[derive(Clone, Copy)]
@@ -44,16 +51,15 @@ fn answered(
     let ran = session_run::run_on(session, &bytes[..used], replies, answers);
     let lines = ran.ended.lines;
     let replied = ran.ended.replied;
-    let after = ran.session;
-    let count = text::put_codes(first, &answers[..lines], &replies[..replied], out, 0);
-    let stream = Stream::Output;
+    let mut page = Page::new(out);
+    text::put_codes(first, &answers[..lines], &replies[..replied], &mut page);
     Turned {
-        session: after,
-        lines: lines,
-        used: used,
+        session: ran.state,
+        lines,
+        used,
         said: Said {
-            stream: stream,
-            count: count,
+            stream: Stream::Output,
+            count: page.used,
         },
     }
 }
@@ -70,49 +76,57 @@ fn ended(program: &[u8], number: usize, left: usize, failed: bool, out: &mut [u8
         return streams::put_unread(program, out);
     }
     let codes = [131072u64];
-    let few = slices::lesser(left, 1);
-    let count = text::put_codes(number, &codes[..few], b"", out, 0);
-    let stream = Stream::Output;
+    let few = left.min(1);
+    let mut page = Page::new(out);
+    text::put_codes(number, &codes[..few], b"", &mut page);
     Said {
-        stream: stream,
-        count: count,
+        stream: Stream::Output,
+        count: page.used,
     }
 }
 
 // The state that the file had: where there was none, or it was empty, that before the first record.
-fn held(kept: &[u8]) -> StateIn
+fn held(kept: &[u8]) -> Result<Session, StateRefusal>
     ensures value { result ≡ held_of kept.now }
-    ensures kept { SessionWf result.session }
+    ensures kept { IfOk result SessionWf }
 {
-    if kept.len() == 0 {
-        return StateIn {
-            number: 0,
-            session: session_run::empty(),
-        };
+    if kept.is_empty() {
+        return Ok(session_run::empty());
     }
     state_bytes::state_in(kept)
 }
 
 // The header, or why the bytes in the file are no state.
-fn put_start(number: u8, out: &mut [u8]) -> Said
+fn put_start(start: Result<Session, StateRefusal>, out: &mut [u8]) -> Said
     requires { 64 ≤ length out.old }
-    ensures { Saying (start_speech number) out.old result out.new }
+    ensures { Saying (start_speech (number_in start)) out.old result out.new }
 {
-    if number == 0 {
-        let count = text::put_header(out);
-        let stream = Stream::Output;
-        return Said {
-            stream: stream,
-            count: count,
-        };
+    match start {
+        Ok(_) => {
+            let mut page = Page::new(out);
+            text::put_header(&mut page);
+            Said {
+                stream: Stream::Output,
+                count: page.used,
+            }
+        }
+        Err(refusal) => {
+            let number = u8::from(refusal);
+            match refusal {
+                StateRefusal::Size => streams::put_refused(number, b"STATE is not 172 bytes", out),
+                StateRefusal::Version => streams::put_refused(
+                    number,
+                    b"STATE is of another version",
+                    out,
+                ),
+                StateRefusal::Unsound => streams::put_refused(
+                    number,
+                    b"STATE is no state of a gauge",
+                    out,
+                ),
+            }
+        }
     }
-    if number == 50 {
-        return streams::put_refused(number, b"STATE is not 172 bytes", out);
-    }
-    if number == 51 {
-        return streams::put_refused(number, b"STATE is of another version", out);
-    }
-    streams::put_refused(number, b"STATE is no state of a gauge", out)
 }
 
 // The image at the end.
@@ -120,42 +134,26 @@ fn put_image(session: Session, room: &mut [u8]) -> Said
     requires { length room.old ≡ 160 }
     ensures { Saying (at_end_speech session) room.old result room.new }
 {
-    let answer = session_run::take_out(session, room);
-    if answer == 0 {
-        let count = session_run::image_size(session);
-        let stream = Stream::Output;
-        return Said {
-            stream: stream,
-            count: count,
-        };
+    match session_run::take_out(session, room) {
+        Ok(count) => Said {
+            stream: Stream::Output,
+            count,
+        },
+        Err(refusal) => streams::put_refused(u8::from(refusal), b"no image was accepted", room),
     }
-    streams::put_refused(answer, b"no image was accepted", room)
 }
 
 // Writes the image to the second file, and then the state to the first.
 fn keep_both(rt: &HostRuntime, session: Session, state: &[u8]) {
     let mut room = [0u8; 160];
     let said = put_image(session, &mut room);
-    let stream = said.stream;
+    if said.stream == Stream::Error {
+        streams::say(rt, b"resume", said, &room);
+        return;
+    }
     let count = streams::within(said.count, &room);
-    match stream {
-        Stream::Output => {
-            if streams::write_named(rt, b"resume", 2, &room[..count]) {
-                streams::write_named(rt, b"resume", 1, state);
-            }
-        }
-        Stream::Error => {
-            let error = Stream::Error;
-            streams::say(
-                rt,
-                b"resume",
-                Said {
-                    stream: error,
-                    count: count,
-                },
-                &room,
-            );
-        }
+    if streams::write_named(rt, b"resume", 2, &room[..count]).is_ok() {
+        let _ = streams::write_named(rt, b"resume", 1, state);
     }
 }
 
@@ -165,15 +163,15 @@ fn keep(rt: &HostRuntime, words: usize, session: Session) {
         return;
     }
     let mut state = [0u8; 172];
-    state_bytes::state_out(session, &mut state);
+    let _ = state_bytes::state_out(session, &mut state);
     if 2 < words {
         keep_both(rt, session, &state);
         return;
     }
-    streams::write_named(rt, b"resume", 1, &state);
+    let _ = streams::write_named(rt, b"resume", 1, &state);
 }
 
-// Reads, answers and writes, turn by turn, up to the end of the input. No run comes to 2^52 turns.
+// Reads, answers and writes, turn by turn, up to the end of the input. No run comes to so many turns.
 fn serve(
     rt: &HostRuntime,
     program: &[u8],
@@ -192,35 +190,33 @@ fn serve(
     let mut session = start;
     let mut count = 0;
     let mut number = 1;
-    let mut turn = 0usize;
-    while turn < 4503599627370496 {
-        let most = slices::lesser(4096, bytes.len() - count);
+    for _ in 0..TURNS {
+        let most = (bytes.len() - count).min(4096);
         let got = streams::read_some(rt, bytes, count, most);
-        if got.count == 0 {
-            let last = ended(program, number, count, got.failed, out);
-            if streams::say_all(rt, program, last, out) {
+        let read = got.unwrap_or(0);
+        if read == 0 {
+            let last = ended(program, number, count, got.is_err(), out);
+            if streams::say_all(rt, program, last, out).is_ok() {
                 keep(rt, words, session);
             }
             return;
         }
-        let end = count + got.count;
+        let end = count + read;
         let turned = answered(session, number, &bytes[..end], replies, answers, out);
-        let said = turned.said;
         session = turned.session;
-        if !streams::say_all(rt, program, said, out) {
+        if streams::say_all(rt, program, turned.said, out).is_err() {
             return;
         }
         count = streams::keep_rest(bytes, turned.used, end);
-        number = number + turned.lines;
-        turn += 1;
+        number += turned.lines;
     }
 }
 
 // The room for the text of a turn. (That it has this size is said for the caller.)
-fn text_room() -> [u8; 557056]
+fn text_room() -> [u8; TEXT_ROOM]
     ensures { 557056 ≡ length result }
 {
-    [0u8; 557056]
+    [0u8; TEXT_ROOM]
 }
 
 // A read takes at most 4,096 bytes, which complete at most 1,024 records, of 256 bytes of reply and 32 bytes of a line and two for each byte of its reply.
@@ -230,9 +226,11 @@ fn begin(rt: &HostRuntime, program: &[u8], words: usize, kept: &[u8])
 {
     let start = held(kept);
     let mut out = text_room();
-    let head = put_start(start.number, &mut out);
-    let session = start.session;
-    if streams::say_all(rt, program, head, &out) {
+    let head = put_start(start, &mut out);
+    if streams::say_all(rt, program, head, &out).is_err() {
+        return;
+    }
+    if let Ok(session) = start {
         let mut bytes = [0u8; 69635];
         let mut replies = [0u8; 262144];
         let mut answers = [0u64; 1024];
@@ -256,10 +254,9 @@ fn main(rt: HostRuntime) {
         return;
     }
     let mut kept = [0u8; 173];
-    let was = streams::read_kept(&rt, b"resume", 1, &mut kept);
-    if was.failed {
+    let Ok(count) = streams::read_kept(&rt, b"resume", 1, &mut kept) else {
         return;
-    }
-    let n = streams::within(was.count, &kept);
+    };
+    let n = streams::within(count, &kept);
     begin(&rt, b"resume", words, &kept[..n]);
 }

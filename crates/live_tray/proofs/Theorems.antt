@@ -1,4 +1,5 @@
 -- The theorems of `live_tray` and `resume_tray`.
+use Rattle.std.specs.Prelude.{Ok}
 use mathlib.Core.Path.{◌≡◌, refl, sym, ap, subst, ◌∙◌}
 use mathlib.Core.List.{List, [], ◌∷◌, ◌++◌}
 use Prim.Native.Nat.{ℕ, ◌-◌}
@@ -14,8 +15,8 @@ use Rattle.runs.specs.Divided.{wholes_in}
 use Rattle.numbers.proofs.Bounds.{picked}
 use Rattle.tray_record.specs.declared.Tray.{Tray}
 use Rattle.tray_record.specs.Tray.{TrayWf, tray_did}
-use Rattle.state_bytes.specs.declared.TrayStateIn.{TrayStateIn}
-use Rattle.state_bytes.specs.TrayState.{tray_state_bytes, tray_state_in}
+use Rattle.state_bytes.specs.State.{number_in}
+use Rattle.state_bytes.specs.TrayState.{TrayStateIn, tray_state_bytes, tray_state_in, tray_in}
 use Rattle.state_bytes.specs.Theorems.{TrayStateWf}
 use Rattle.state_bytes.proofs.TrayUndoing.{empty_tray_good, tray_undoing}
 use Rattle.state_bytes.proofs.TrayKept.{tray_sized, tray_uncounted}
@@ -45,11 +46,11 @@ module _ (τ : Tray) (rs : List Rec) (w : TrayStateWf τ) (wf : TrayWf (live_end
     uncounted = run_keeps _ tray_uncounted τ 256 rs w.uncounted;
   }
 
-  given_back : tray_state_in (tray_state_bytes (live_end tray_did τ rs)) ≡ record { number = 0; tray = live_end tray_did τ rs }
+  given_back : tray_state_in (tray_state_bytes (live_end tray_did τ rs)) ≡ Ok (live_end tray_did τ rs)
   given_back = tray_undoing.back (live_end tray_did τ rs) end_good
 
   same_end : live_end tray_did τ rs ≡ tray_resumed_from τ rs
-  same_end = sym (ap (λ (x : TrayStateIn). x.tray) given_back)
+  same_end = sym (ap (λ (x : TrayStateIn). tray_in x) given_back)
 
 pub by_bytes : TrayCutByBytes
 by_bytes = record {
@@ -80,17 +81,17 @@ turns_stand τ (t ∷ ts) d =
     ∙ sym ((resumed tray_did).end τ (wholes_in 1024 t.bytes) (tray_turns_records ts))
 
 module _ (τ : Tray) (ts : List TrayTurn) (w : TrayStateWf τ) (d : TrayTurnsDone τ ts) where
-  turned_back : tray_state_in (tray_state_bytes (tray_handed_on τ ts)) ≡ record { number = 0; tray = tray_handed_on τ ts }
+  turned_back : tray_state_in (tray_state_bytes (tray_handed_on τ ts)) ≡ Ok (tray_handed_on τ ts)
   turned_back = tray_undoing.back (tray_handed_on τ ts) (turns_good τ ts w d)
 
   -- the one run's end, and what the bytes give back
   same_turned : live_end tray_did τ (tray_turns_records ts) ≡ tray_kept_from (tray_handed_on τ ts)
-  same_turned = sym (turns_stand τ ts d) ∙ sym (ap (λ (x : TrayStateIn). x.tray) turned_back)
+  same_turned = sym (turns_stand τ ts d) ∙ sym (ap (λ (x : TrayStateIn). tray_in x) turned_back)
 
-held_good : (file : List ℕ) → (tray_held_of file).number ≡ 0 → TrayStateWf (tray_held_of file).tray
+held_good : (file : List ℕ) → number_in (tray_held_of file) ≡ 0 → TrayStateWf (tray_in (tray_held_of file))
 unfolding tray_held_of
 held_good file =
-    picked (λ (x : TrayStateIn). x.number ≡ 0 → TrayStateWf x.tray) (eqb (length file) 0) _ (tray_state_in file)
+    picked (λ (x : TrayStateIn). number_in x ≡ 0 → TrayStateWf (tray_in x)) (eqb (length file) 0) _ (tray_state_in file)
     (λ e z. by_bytes.fresh) (λ e z. tray_undoing.sound file z)
 
 pub by_turns : TrayCutByTurns

@@ -12,6 +12,8 @@ use Rattle.live_tray.proofs.put_start
 use Rattle.live_tray.specs.contracts.put_start as put_start'
 use Rattle.live_tray.proofs.slot_named
 use Rattle.live_tray.specs.contracts.slot_named as slot_named'
+use Rattle.live_tray.proofs.take_out
+use Rattle.live_tray.specs.contracts.take_out as take_out'
 use Rattle.live_tray.proofs.put_image
 use Rattle.live_tray.specs.contracts.put_image as put_image'
 use Rattle.live_tray.proofs.keep_both
@@ -46,6 +48,9 @@ put_start_once κs a r r' w w' p h h' = (same_said h h', λ i. (tt, (same_room h
 
 pub slot_named_once : Once slot_named'.ended slot_named.Reads.Pre slot_named.Reads.Learnt
 slot_named_once κs a r r' w w' p h h' = (h ∙ sym h', refl)
+
+pub take_out_once : Once take_out'.ended take_out.Reads.Pre take_out.Reads.Learnt
+take_out_once κs a r r' w w' p h h' = (h.value ∙ sym h'.value, λ i. (tt, (tt, ((h.written ∙ sym h'.written) i, tt))))
 
 pub put_image_once : Once put_image'.ended put_image.Reads.Pre put_image.Reads.Learnt
 put_image_once κs a r r' w w' p h h' = (same_said h h', λ i. (tt, (tt, (same_room h h' i, tt))))

@@ -1,18 +1,19 @@
 -- What is proved of `live_tray` and `resume_tray`. `theorems` of proofs/Theorems.antt is one value of this record.
-use Rattle.std.specs.Prelude.{◌≡◌, List, [], ◌∷◌, ◌++◌, ℕ}
+use Rattle.std.specs.Prelude.{◌≡◌, Ok, List, [], ◌∷◌, ◌++◌, ℕ}
 use Rattle.runs.specs.Record.{Rec}
 use Rattle.runs.specs.Divided.{wholes_in}
 use Rattle.streams.specs.declared.Said.{Said}
 use Rattle.tray_record.specs.declared.Tray.{Tray}
 use Rattle.tray_record.specs.Tray.{TrayWf, empty_tray, tray_did}
-use Rattle.state_bytes.specs.TrayState.{tray_state_bytes, tray_state_in}
+use Rattle.state_bytes.specs.State.{number_in}
+use Rattle.state_bytes.specs.TrayState.{tray_state_bytes, tray_state_in, tray_in}
 use Rattle.state_bytes.specs.Theorems.{TrayStateWf}
 use Rattle.text.specs.Live.{live_lines, live_end, Turning, ReadByRead, Resumed}
 use Rattle.live_tray.specs.LiveTray.{tray_held_of}
 
 -- the tray that the bytes of a run's end give back
 abbrev pub tray_resumed_from : Tray → List Rec → Tray
-tray_resumed_from τ rs = (tray_state_in (tray_state_bytes (live_end tray_did τ rs))).tray
+tray_resumed_from τ rs = tray_in (tray_state_in (tray_state_bytes (live_end tray_did τ rs)))
 
 -- The cut is by the bytes of STATE. The tray that a run hands on is well-formed: the contract of `answered` says it (`kept`), and of its arrays and
 -- cycles the definitions. `TrayCutByTurns` has it from there.
@@ -21,7 +22,7 @@ pub record TrayCutByBytes : Type 0 where
   pub fresh : TrayStateWf empty_tray
   -- the bytes of the tray at a cut are taken, give it back, and it is again one to go on from
   pub back : (τ : Tray) (rs : List Rec) → TrayStateWf τ → TrayWf (live_end tray_did τ rs) →
-      tray_state_in (tray_state_bytes (live_end tray_did τ rs)) ≡ record { number = 0; tray = live_end tray_did τ rs }
+      tray_state_in (tray_state_bytes (live_end tray_did τ rs)) ≡ Ok (live_end tray_did τ rs)
   pub on : (τ : Tray) (rs : List Rec) → TrayStateWf τ → TrayWf (live_end tray_did τ rs) → TrayStateWf (tray_resumed_from τ rs)
   -- so what is resumed from them has the answers and replies of one run, and ends in its tray
   pub lines : (τ : Tray) (rs ts : List Rec) → TrayStateWf τ → TrayWf (live_end tray_did τ rs) →
@@ -68,17 +69,17 @@ tray_turns_records (t ∷ ts) = wholes_in 1024 t.bytes ++ tray_turns_records ts
 
 -- the tray that its bytes give back
 abbrev pub tray_kept_from : Tray → Tray
-tray_kept_from τ = (tray_state_in (tray_state_bytes τ)).tray
+tray_kept_from τ = tray_in (tray_state_in (tray_state_bytes τ))
 
 pub record TrayCutByTurns : Type 0 where
   -- a start from no bytes, or from bytes that are taken, is from a well-formed tray
-  pub started : (file : List ℕ) → (tray_held_of file).number ≡ 0 → TrayStateWf (tray_held_of file).tray
+  pub started : (file : List ℕ) → number_in (tray_held_of file) ≡ 0 → TrayStateWf (tray_in (tray_held_of file))
   -- turns from such a tray hand on such a tray, and it is the one behind their records
   pub good : (τ : Tray) (ts : List TrayTurn) → TrayStateWf τ → TrayTurnsDone τ ts → TrayStateWf (tray_handed_on τ ts)
   pub stands : (τ : Tray) (ts : List TrayTurn) → TrayTurnsDone τ ts → tray_handed_on τ ts ≡ live_end tray_did τ (tray_turns_records ts)
   -- its bytes are taken and give it back
   pub back : (τ : Tray) (ts : List TrayTurn) → TrayStateWf τ → TrayTurnsDone τ ts →
-      tray_state_in (tray_state_bytes (tray_handed_on τ ts)) ≡ record { number = 0; tray = tray_handed_on τ ts }
+      tray_state_in (tray_state_bytes (tray_handed_on τ ts)) ≡ Ok (tray_handed_on τ ts)
   -- so any records that are run from them on have the answers and replies of one run, and end in its tray
   pub lines : (τ : Tray) (ts : List TrayTurn) (rs : List Rec) → TrayStateWf τ → TrayTurnsDone τ ts →
       live_lines tray_did τ (tray_turns_records ts ++ rs)

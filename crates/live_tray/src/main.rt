@@ -2,15 +2,25 @@
 // resume_tray STATE: the same, from the state in the file STATE, which then has the state behind the last record
 #![tactic(auto)]
 
-ghost use Rattle.std.specs.Prelude.{◌≡◌, ◌+◌, ◌≤◌, ◌<◌, length};
+ghost use Rattle.std.specs.Prelude.{◌≡◌, IfOk, ◌+◌, ◌≤◌, ◌<◌, length};
 ghost use Rattle.streams.specs.Streams.{Saying};
 ghost use Rattle.text.specs.Live.{Turning};
 ghost use Rattle.tray_record.specs.Tray.{TrayWf, tray_did};
+ghost use Rattle.state_bytes.specs.State.{number_in};
+ghost use Rattle.text.specs.Session.{OutOf};
+ghost use Rattle.tray_run.specs.TrayRun.{named_held, named_pack};
 ghost use Rattle.live_tray.specs.LiveTray.{TrayLent, tray_held_of, tray_start_speech, tray_end_speech, slot_named, slot_at_end_speech};
 
-use state_bytes::TrayStateIn;
+use digits::Page;
+use record::Refusal;
+use state_bytes::StateRefusal;
 use streams::{Said, Stream};
 use tray_record::Tray;
+
+// 2^52.
+const TURNS: usize = 4503599627370496;
+
+const TEXT_ROOM: usize = 557056;
 
 // What a turn did: the state after it, how many records it answered, how many bytes they were, and what is said.
 #[derive(Clone, Copy)]
@@ -44,16 +54,15 @@ fn answered(
     let ran = tray_run::run_on(tray, &bytes[..used], replies, answers);
     let lines = ran.ended.lines;
     let replied = ran.ended.replied;
-    let after = ran.tray;
-    let count = text::put_codes(first, &answers[..lines], &replies[..replied], out, 0);
-    let stream = Stream::Output;
+    let mut page = Page::new(out);
+    text::put_codes(first, &answers[..lines], &replies[..replied], &mut page);
     Turned {
-        tray: after,
-        lines: lines,
-        used: used,
+        tray: ran.state,
+        lines,
+        used,
         said: Said {
-            stream: stream,
-            count: count,
+            stream: Stream::Output,
+            count: page.used,
         },
     }
 }
@@ -70,80 +79,99 @@ fn ended(program: &[u8], number: usize, left: usize, failed: bool, out: &mut [u8
         return streams::put_unread(program, out);
     }
     let codes = [131072u64];
-    let few = slices::lesser(left, 1);
-    let count = text::put_codes(number, &codes[..few], b"", out, 0);
-    let stream = Stream::Output;
+    let few = left.min(1);
+    let mut page = Page::new(out);
+    text::put_codes(number, &codes[..few], b"", &mut page);
     Said {
-        stream: stream,
-        count: count,
+        stream: Stream::Output,
+        count: page.used,
     }
 }
 
 // The state that the file had: where there was none, or it was empty, that before the first record.
-fn held(kept: &[u8]) -> TrayStateIn
+fn held(kept: &[u8]) -> Result<Tray, StateRefusal>
     ensures value { result ≡ tray_held_of kept.now }
-    ensures kept { TrayWf result.tray }
+    ensures kept { IfOk result TrayWf }
 {
-    if kept.len() == 0 {
-        return TrayStateIn {
-            number: 0,
-            tray: tray_record::empty(),
-        };
+    if kept.is_empty() {
+        return Ok(tray_record::empty());
     }
     state_bytes::tray_state_in(kept)
 }
 
 // The header, or why the bytes in the file are no state.
-fn put_start(number: u8, out: &mut [u8]) -> Said
+fn put_start(start: Result<Tray, StateRefusal>, out: &mut [u8]) -> Said
     requires { 64 ≤ length out.old }
-    ensures { Saying (tray_start_speech number) out.old result out.new }
+    ensures { Saying (tray_start_speech (number_in start)) out.old result out.new }
 {
-    if number == 0 {
-        let count = text::put_header(out);
-        let stream = Stream::Output;
-        return Said {
-            stream: stream,
-            count: count,
-        };
+    match start {
+        Ok(_) => {
+            let mut page = Page::new(out);
+            text::put_header(&mut page);
+            Said {
+                stream: Stream::Output,
+                count: page.used,
+            }
+        }
+        Err(refusal) => {
+            let number = u8::from(refusal);
+            match refusal {
+                StateRefusal::Size => streams::put_refused(number, b"STATE is not 1363 bytes", out),
+                StateRefusal::Version => streams::put_refused(
+                    number,
+                    b"STATE is of another version",
+                    out,
+                ),
+                StateRefusal::Unsound => streams::put_refused(
+                    number,
+                    b"STATE is no state of a tray",
+                    out,
+                ),
+            }
+        }
     }
-    if number == 50 {
-        return streams::put_refused(number, b"STATE is not 1363 bytes", out);
-    }
-    if number == 51 {
-        return streams::put_refused(number, b"STATE is of another version", out);
-    }
-    streams::put_refused(number, b"STATE is no state of a tray", out)
 }
 
-// The slot that a word of one digit names; 8, which no tray has, for any other word.
-fn slot_named(word: &[u8]) -> u8
+// The slot that a word of one digit names, of the eight of a tray.
+fn slot_named(word: &[u8]) -> Option<u8>
     ensures { result ≡ slot_named word.now }
 {
     if word.len() != 1 {
-        return 8;
+        return None;
     }
     let c = word[0];
-    if numbers::and(48 <= c, c <= 55) {
-        return c - 48;
+    if b'0' <= c && c <= b'7' {
+        return Some(c - b'0');
     }
-    8
+    None
+}
+
+// The image of a slot; one that no tray has is one without an image.
+fn take_out(tray: Tray, slot: Option<u8>, room: &mut [u8]) -> Result<usize, Refusal>
+    ensures { OutOf (named_held slot tray) (named_pack slot tray) room.old result room.new }
+{
+    match slot {
+        Some(slot) => tray_run::take_out(tray, slot, room),
+        None => Err(Refusal::Order),
+    }
 }
 
 // The image of the pack in a slot at the end.
-fn put_image(tray: Tray, slot: u8, room: &mut [u8]) -> Said
+fn put_image(tray: Tray, slot: Option<u8>, room: &mut [u8]) -> Said
     requires { length room.old ≡ 160 }
     ensures { Saying (slot_at_end_speech tray slot) room.old result room.new }
 {
-    let answer = tray_run::take_out(tray, slot, room);
-    if answer == 0 {
-        let count = tray_run::image_size(tray, slot);
-        let stream = Stream::Output;
-        return Said {
-            stream: stream,
-            count: count,
-        };
+    match take_out(tray, slot, room) {
+        Ok(count) => Said {
+            stream: Stream::Output,
+            count,
+        },
+        Err(refusal) => streams::put_refused(
+            u8::from(refusal),
+            b"no image was accepted for this slot",
+            room,
+        ),
     }
-    streams::put_refused(answer, b"no image was accepted for this slot", room)
 }
 
 // Writes the image of the slot that the second word names to the file of the third, and then the state to that of the first.
@@ -153,26 +181,13 @@ fn keep_both(rt: &HostRuntime, tray: Tray, state: &[u8]) {
     let slot = slot_named(&word[..length]);
     let mut room = [0u8; 160];
     let said = put_image(tray, slot, &mut room);
-    let stream = said.stream;
+    if said.stream == Stream::Error {
+        streams::say(rt, b"resume_tray", said, &room);
+        return;
+    }
     let count = streams::within(said.count, &room);
-    match stream {
-        Stream::Output => {
-            if streams::write_named(rt, b"resume_tray", 3, &room[..count]) {
-                streams::write_named(rt, b"resume_tray", 1, state);
-            }
-        }
-        Stream::Error => {
-            let error = Stream::Error;
-            streams::say(
-                rt,
-                b"resume_tray",
-                Said {
-                    stream: error,
-                    count: count,
-                },
-                &room,
-            );
-        }
+    if streams::write_named(rt, b"resume_tray", 3, &room[..count]).is_ok() {
+        let _ = streams::write_named(rt, b"resume_tray", 1, state);
     }
 }
 
@@ -182,15 +197,15 @@ fn keep(rt: &HostRuntime, words: usize, tray: Tray) {
         return;
     }
     let mut state = [0u8; 1363];
-    state_bytes::tray_state_out(tray, &mut state);
+    let _ = state_bytes::tray_state_out(tray, &mut state);
     if 2 < words {
         keep_both(rt, tray, &state);
         return;
     }
-    streams::write_named(rt, b"resume_tray", 1, &state);
+    let _ = streams::write_named(rt, b"resume_tray", 1, &state);
 }
 
-// Reads, answers and writes, turn by turn, up to the end of the input. No run comes to 2^52 turns.
+// Reads, answers and writes, turn by turn, up to the end of the input. No run comes to so many turns.
 fn serve(
     rt: &HostRuntime,
     program: &[u8],
@@ -209,35 +224,33 @@ fn serve(
     let mut tray = start;
     let mut count = 0;
     let mut number = 1;
-    let mut turn = 0usize;
-    while turn < 4503599627370496 {
-        let most = slices::lesser(4096, bytes.len() - count);
+    for _ in 0..TURNS {
+        let most = (bytes.len() - count).min(4096);
         let got = streams::read_some(rt, bytes, count, most);
-        if got.count == 0 {
-            let last = ended(program, number, count, got.failed, out);
-            if streams::say_all(rt, program, last, out) {
+        let read = got.unwrap_or(0);
+        if read == 0 {
+            let last = ended(program, number, count, got.is_err(), out);
+            if streams::say_all(rt, program, last, out).is_ok() {
                 keep(rt, words, tray);
             }
             return;
         }
-        let end = count + got.count;
+        let end = count + read;
         let turned = answered(tray, number, &bytes[..end], replies, answers, out);
-        let said = turned.said;
         tray = turned.tray;
-        if !streams::say_all(rt, program, said, out) {
+        if streams::say_all(rt, program, turned.said, out).is_err() {
             return;
         }
         count = streams::keep_rest(bytes, turned.used, end);
-        number = number + turned.lines;
-        turn += 1;
+        number += turned.lines;
     }
 }
 
 // The room for the text of a turn. (That it has this size is said for the caller.)
-fn text_room() -> [u8; 557056]
+fn text_room() -> [u8; TEXT_ROOM]
     ensures { 557056 ≡ length result }
 {
-    [0u8; 557056]
+    [0u8; TEXT_ROOM]
 }
 
 // A read takes at most 4,096 bytes, which complete at most 1,024 records, of 256 bytes of reply and 32 bytes of a line and two for each byte of its reply.
@@ -247,9 +260,11 @@ fn begin(rt: &HostRuntime, program: &[u8], words: usize, kept: &[u8])
 {
     let start = held(kept);
     let mut out = text_room();
-    let head = put_start(start.number, &mut out);
-    let tray = start.tray;
-    if streams::say_all(rt, program, head, &out) {
+    let head = put_start(start, &mut out);
+    if streams::say_all(rt, program, head, &out).is_err() {
+        return;
+    }
+    if let Ok(tray) = start {
         let mut bytes = [0u8; 69635];
         let mut replies = [0u8; 262144];
         let mut answers = [0u64; 1024];
@@ -273,10 +288,9 @@ fn main(rt: HostRuntime) {
         return;
     }
     let mut kept = [0u8; 1364];
-    let was = streams::read_kept(&rt, b"resume_tray", 1, &mut kept);
-    if was.failed {
+    let Ok(count) = streams::read_kept(&rt, b"resume_tray", 1, &mut kept) else {
         return;
-    }
-    let n = streams::within(was.count, &kept);
+    };
+    let n = streams::within(count, &kept);
     begin(&rt, b"resume_tray", words, &kept[..n]);
 }

@@ -1,5 +1,5 @@
 -- What the program says of a damaged image, and what it writes to the file: the lines of what was changed and the mended image, or a refusal.
-use Rattle.std.specs.Prelude.{◌≡◌, Bool, List, ℕ}
+use Rattle.std.specs.Prelude.{◌≡◌, Ok, Err, Bool, List, ℕ}
 use Rattle.numbers.specs.Choice.{pick}
 use Rattle.digits.specs.Ascii.{ascii}
 use Rattle.streams.specs.declared.Said.{Said}
@@ -7,9 +7,7 @@ use Rattle.streams.specs.Streams.{Speech, output, error, unread_text, refused_te
 use Rattle.record.specs.Image.{image_size}
 use Rattle.mending.specs.declared.MendRefusal.{MendRefusal}
 use Rattle.mending.specs.declared.MendRefusal.TheVariants.{Size, Family}
-use Rattle.mending.specs.declared.Mended.{Mended}
-use Rattle.mending.specs.declared.Mended.TheVariants.{Done, Refused}
-use Rattle.mending.specs.Mending.{mended_of, changes_of, mend_refusal_number, mending_answer}
+use Rattle.mending.specs.Mending.{Mended, mended_of, changes_of, mend_refusal_number, mending_answer}
 
 abbrev pub mend_name : List ℕ
 mend_name = ascii "mend"
@@ -30,13 +28,13 @@ mend_refusal_words Family = family_words
 
 -- the lines go to standard output, a refusal to standard error
 abbrev pub speech_by : Mended → List ℕ → Speech
-speech_by Done image = output (changes_of image)
-speech_by (Refused why) image = error (refused_text (mend_refusal_number why) (mend_refusal_words why))
+speech_by (Ok _) image = output (changes_of image)
+speech_by (Err why) image = error (refused_text (mend_refusal_number why) (mend_refusal_words why))
 
 -- the file's bytes; where nothing is written, what stood in the room for them
 abbrev pub file_by : Mended → List ℕ → List ℕ → List ℕ
-file_by Done image room = mended_of image
-file_by (Refused why) image room = room
+file_by (Ok _) image room = mended_of image
+file_by (Err why) image room = room
 
 -- with room for all of both
 unfoldable pub mend_speech : List ℕ → Speech

@@ -7,15 +7,14 @@ use native.Mathlib.Omega.{arith}
 use borrow.Author.Tests.{ltb-true, ltb-false}
 use lib.Dec.{ltb, ltb→lt}
 use lib.ListN.{get_or, replicate, get_or-eq_default}
+use Rattle.std.specs.Prelude.{Err}
 use Rattle.crc.specs.Crc as crc
 use Rattle.numbers.proofs.Table.{at}
 use Rattle.digits.specs.Ascii.{ascii}
 use Rattle.digits.specs.Digits.{hex_of}
 use Rattle.record.specs.declared.Refusal.TheVariants.{Address}
-use Rattle.record.specs.declared.Taken.TheVariants.{Refused}
 use Rattle.record.specs.Record.{kind_of, addressed_of, ordered_of, judged_among, taken_of}
-use Rattle.mending.specs.declared.Mended.TheVariants.{Done}
-use Rattle.mending.specs.Mending.{arranged_of, mended_of, change_text, changes_of, mending_answer, Mending}
+use Rattle.mending.specs.Mending.{mend_done, arranged_of, mended_of, change_text, changes_of, mending_answer, Mending}
 use Rattle.mending.specs.Worth.{Mendable, SoundImage}
 
 -- an address with a CRC, a label, the parameters from 60h to 7Bh, three breakpoints, 7Fh, saved ACR, saved AS and a lock byte
@@ -32,7 +31,7 @@ damaged = image_with 0x00 0xf4 0x00 0x55 200 0xfe
 abbrev pub whole : List ℕ
 whole = image_with 0xac 0x28 0x00 0xf4 128 0x02
 
-pub damaged_refused : taken_of 1 false damaged ≡ Refused Address
+pub damaged_refused : taken_of 1 false damaged ≡ Err Address
 unfolding taken_of kind_of judged_among addressed_of ordered_of crc.bit_of crc.eight_of crc.next_of
 damaged_refused = refl
 
@@ -60,6 +59,6 @@ sound_met = record { bytes = small; accepted = refl; young = omega arith; old = 
         by true e = ltb→lt (get_or whole i 0) 256 (at (λ k x. ltb x 256) whole tt i (ltb-true i 60 e))
         by false e = rw (get_or-eq_default whole 0 (ltb-false i 60 e)) (omega arith)
 
-pub done_met : Mending damaged (replicate 60 0) Done whole
+pub done_met : Mending damaged (replicate 60 0) mend_done whole
 unfolding mending_answer mended_of arranged_of crc.bit_of crc.eight_of crc.next_of
 done_met = record { number = refl; answer = refl; written = refl }

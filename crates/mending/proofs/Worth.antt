@@ -2,6 +2,7 @@
 use mathlib.Core.Path.{◌≡◌, refl, sym, ap, subst, ◌∙◌}
 use mathlib.Core.Bool.{Bool, true, false}
 use mathlib.Core.Logic.{◌≢◌}
+use Rattle.std.specs.Prelude.{Ok, Err}
 use mathlib.Core.List.{List, [], ◌∷◌, ◌++◌}
 use Prim.Native.Nat.{ℕ, suc, ◌+◌, ◌*◌, ◌%◌, ◌/◌, ◌≤◌, ◌<◌, min, max}
 use native.Mathlib.Omega.{arith}
@@ -11,6 +12,7 @@ use lib.IntN.{pos}
 use lib.Signed.{le_z}
 use lib.ListN.{length, get_or, take, drop, set, length-set, length-take, length-drop, length-append}
 use lib.Seq.{get_or-set_same, get_or-set_other, set-get_or, take-set-le, get_or-take, get_or-drop, take-take, take_at, drop_at, ext_get_or}
+use Rattle.std.specs.Prelude.{Ok, Err}
 use Rattle.numbers.specs.Choice.{pick}
 use Rattle.numbers.specs.Offset.{value, offset8_of, moved_into}
 use Rattle.numbers.proofs.Offset.{natural, at_most}
@@ -21,18 +23,14 @@ use Rattle.crc.specs.Crc.{crc_of}
 use Rattle.params.specs.declared.Breaks.{Breaks}
 use Rattle.state.specs.declared.Profile.TheVariants.{Ds2781}
 use Rattle.record.specs.declared.Event.TheVariants.{Image}
-use Rattle.record.specs.declared.Taken.TheVariants.{Run, Refused}
 use Rattle.record.specs.declared.Refusal.TheVariants as refusal
 use Rattle.record.specs.Image.{image_size, image_address, image_block, image_breaks, image_aging, image_locks}
 use Rattle.record.specs.Record.{kind_of, addressed_of, lockable_of, ordered_of, judged_among, judged_of, taken_of}
 use Rattle.record.proofs.Fits.{plain_taking}
 use Rattle.mending.specs.Mending.{mended_crc, mended_aging, mended_locks, cap_of, capped_of, arranged_of}
 use Rattle.mending.specs.Mending.{mended_breaks, mended_of, change_line, change_text, changes_from, changes_of, changes_size, mending_answer}
-use Rattle.mending.specs.Mending.{mended_room, listed_by, lines_by, Mending}
+use Rattle.mending.specs.Mending.{Mended, mend_done, mended_room, listed_by, lines_by, Mending}
 use Rattle.mending.specs.declared.MendRefusal.{MendRefusal}
-use Rattle.mending.specs.declared.Mended.{Mended}
-use Rattle.mending.specs.declared.Mended.TheVariants as mended
-use Rattle.mending.specs.declared.Listed.TheVariants as listed
 use Rattle.mending.specs.Worth.{Mendable, SoundImage, Arranged, KeptBytes, MendedBytes, MendedBreakpoints, LinesTold}
 use Rattle.mending.specs.Worth.{AcceptedTheorem, UnchangedTheorem, TwiceTheorem}
 use Rattle.mending.specs.Worth.{ArrangedTheorem, CappedTheorem, KeptTheorem, ByCallTheorem}
@@ -330,11 +328,11 @@ module _ (image : List ℕ) (size : length image ≡ image_size) where
   ordered : ordered_of (image_breaks m) ≡ true
   ordered = ap ordered_of breaks_there ∙ ascending_ordered b (ascends (image_breaks image))
 
-  judged : get_or image 0 0 ≡ 0x3d → judged_of m ≡ Run (Image Ds2781)
+  judged : get_or image 0 0 ≡ 0x3d → judged_of m ≡ Ok (Image Ds2781)
   unfolding judged_among
   judged family = rw (eq-eqb (length m) image_size long, addressed family, lockable, ordered) refl
 
-  taken : get_or image 0 0 ≡ 0x3d → taken_of 1 false m ≡ Run (Image Ds2781)
+  taken : get_or image 0 0 ≡ 0x3d → taken_of 1 false m ≡ Ok (Image Ds2781)
   unfolding taken_of kind_of
   taken family = rw (eq-eqb (length m) image_size long) (judged family)
 
@@ -398,18 +396,18 @@ module _ (image : List ℕ) (size : length image ≡ image_size) where
 -- ---- an image that is sound already
 
 module _ (image : List ℕ) (s : SoundImage image) where
-  judge : (false ≡ false) × (judged_of image ≡ Run (Image Ds2781)) × (length image ≡ image_size)
+  judge : (false ≡ false) × (judged_of image ≡ Ok (Image Ds2781)) × (length image ≡ image_size)
   judge = rw s.accepted at (plain_taking false image 1)
 
   tests : (t u v w : Bool) →
-      pick t (pick u (pick v (pick w (Run (Image Ds2781)) (Refused refusal.Breaks)) (Refused refusal.Locks)) (Refused refusal.Address))
-      (Refused refusal.Size) ≡ Run (Image Ds2781)
+      pick t (pick u (pick v (pick w (Ok (Image Ds2781)) (Err refusal.Breaks)) (Err refusal.Locks)) (Err refusal.Address))
+      (Err refusal.Size) ≡ Ok (Image Ds2781)
       → (u ≡ true) × (v ≡ true) × (w ≡ true)
   tests true true true true e = (refl, refl, refl)
-  tests true true true false e = let z : ◌≡◌ {A = ℕ} 0 1 = cc in absurd (omega arith)
-  tests true true false w e = let z : ◌≡◌ {A = ℕ} 0 1 = cc in absurd (omega arith)
-  tests true false v w e = let z : ◌≡◌ {A = ℕ} 0 1 = cc in absurd (omega arith)
-  tests false u v w e = let z : ◌≡◌ {A = ℕ} 0 1 = cc in absurd (omega arith)
+  tests true true true false e = absurd cc
+  tests true true false w e = absurd cc
+  tests true false v w e = absurd cc
+  tests false u v w e = absurd cc
 
   passed : (addressed_of Ds2781 (image_address image) ≡ true) × (lockable_of image ≡ true) × (ordered_of (image_breaks image) ≡ true)
   unfolding judged_among
@@ -472,7 +470,7 @@ twice image g = let e = again image g.sized in (e, quiet (mended_of image) e)
 pub kept : KeptTheorem
 kept image size = (keeps image size, stands image size, breaks_stand image size)
 
-by_done : (image room after : List ℕ) → Mending image room mended.Done after → Mendable image × (take image_size after ≡ mended_of image)
+by_done : (image room after : List ℕ) → Mending image room mend_done after → Mendable image × (take image_size after ≡ mended_of image)
 by_done image room after w =
     let g = granted image (length room) (sym w.answer) in
     let front : after ≡ mended_of image ++ drop image_size room = rw (sym w.answer) at w.written in (
@@ -502,15 +500,15 @@ unfolding changes_of
 lines_few image size = omega (arith, changes_few 0 image (mended_of image), size)
 
 -- an image that can be mended is, in a room that is large enough
-mendable_done : (image : List ℕ) (room : ℕ) → Mendable image → image_size ≤ room → mending_answer image room ≡ mended.Done
+mendable_done : (image : List ℕ) (room : ℕ) → Mendable image → image_size ≤ room → mending_answer image room ≡ mend_done
 unfolding mending_answer
 mendable_done image room g fits =
     rw (eq-eqb (length image) image_size g.sized, le-ltb room image_size fits, eq-eqb (get_or image 0 0) 0x3d g.family) refl
 
 told_by : (image room after : List ℕ) (n : ℕ) (m : Mended) → mending_answer image image_size ≡ m → length room ≡ changes_size
-    → listed.Lines n ≡ listed_by m image → after ≡ lines_by m image room → LinesTold image room n after
-told_by image room after n mended.Done done size said written =
-    let g = granted image image_size done in
+    → Ok n ≡ listed_by m image → after ≡ lines_by m image room → LinesTold image room n after
+told_by image room after n (Ok tt) is size said written =
+    let g = granted image image_size is in
     let many : n ≡ length (changes_of image) = cc in
     let fits = lines_few image g.sized in
     let front : after ≡ changes_of image ++ drop (length (changes_of image)) room = written ∙ put_front room (changes_of image) (omega (arith, fits, size)) in
@@ -520,13 +518,13 @@ told_by image room after n mended.Done done size said written =
       lines = rw (front, many) (take_at (changes_of image) (drop (length (changes_of image)) room) (length (changes_of image)) refl);
       behind = rw (front, many) (drop_at (changes_of image) (drop (length (changes_of image)) room) (length (changes_of image)) refl);
     }
-told_by image room after n (mended.Refused why) done size said written = let z : ◌≡◌ {A = ℕ} 0 1 = cc in absurd (omega arith)
+told_by image room after n (Err why) is size said written = absurd cc
 
 refused_by : (image room after : List ℕ) (why : MendRefusal) (m : Mended) → mending_answer image image_size ≡ m
-    → listed.Refused why ≡ listed_by m image → after ≡ lines_by m image room → (Mendable image → ⊥) × (after ≡ room)
-refused_by image room after why mended.Done done said written = let z : ◌≡◌ {A = ℕ} 0 1 = cc in absurd (omega arith)
-refused_by image room after why (mended.Refused w) done said written =
-    (λ g. let e = sym (mendable_done image image_size g (omega arith)) ∙ done in let z : ◌≡◌ {A = ℕ} 0 1 = cc in absurd (omega arith), written)
+    → Err why ≡ listed_by m image → after ≡ lines_by m image room → (Mendable image → ⊥) × (after ≡ room)
+refused_by image room after why (Ok tt) is said written = absurd cc
+refused_by image room after why (Err w) is said written =
+    (λ g. let e = sym (mendable_done image image_size g (omega arith)) ∙ is in absurd cc, written)
 
 lines_told : LinesTheorem
 lines_told image room after n size w = told_by image room after n (mending_answer image image_size) refl size w.answer w.written
@@ -541,21 +539,21 @@ lines_again image room after w lent last said l =
     let kept-family : get_or (mended_of image) 0 0 ≡ 0x3d =
     (keeps image c.0.sized).others 0 (λ e. omega arith) (λ e. omega arith) (λ e. omega arith) (λ e. omega arith) (λ e. omega arith) (λ e. omega arith)
     ∙ c.0.family in
-    let done : mending_answer (mended_of image) image_size ≡ mended.Done =
+    let again-done : mending_answer (mended_of image) image_size ≡ mend_done =
     mendable_done (mended_of image) image_size (record { sized = d.0; family = kept-family }) (omega arith) in
     let none : changes_of (mended_of image) ≡ [] = (twice image c.0).1 in
     let v = rw c.1 at l in
-    (v.answer ∙ rw (done, none) refl, v.written ∙ rw (done, none) refl)
+    (v.answer ∙ rw (again-done, none) refl, v.written ∙ rw (again-done, none) refl)
 
 sound_stays : StaysTheorem
 sound_stays image s room said after fits w lent heard last l =
     let g = sound_mendable image s in
-    let done = mendable_done image (length room) g fits in
+    let first-done = mendable_done image (length room) g fits in
     let listed-done = mendable_done image image_size g (omega arith) in
     let quiet-now = (unchanged image s).1 in
-    let front : after ≡ mended_of image ++ drop image_size room = w.written ∙ ap (λ (m : Mended). mended_room m image room) done in
+    let front : after ≡ mended_of image ++ drop image_size room = w.written ∙ ap (λ (m : Mended). mended_room m image room) first-done in
     record {
-      done = w.answer ∙ done;
+      done = w.answer ∙ first-done;
       same = ap (take image_size) front ∙ take_at (mended_of image) (drop image_size room) image_size (long image g.sized) ∙ (unchanged image s).0;
       none = l.answer ∙ rw (listed-done, quiet-now) refl;
       stays = l.written ∙ rw (listed-done, quiet-now) refl;

@@ -1,6 +1,6 @@
 -- Mending damaged images: the image that a session accepts, made of one that is damaged in up to four ways, the lines that tell what was changed,
 -- and when nothing is mended.
-use Rattle.std.specs.Prelude.{◌≡◌, List, [], ◌∷◌, ◌++◌, ℕ, suc, ◌+◌, ◌%◌, min, max, eqb, ltb, length, get_or, drop}
+use Rattle.std.specs.Prelude.{◌≡◌, ⊤, Result, Ok, Err, List, [], ◌∷◌, ◌++◌, ℕ, suc, ◌+◌, ◌%◌, min, max, eqb, ltb, length, get_or, drop}
 use Rattle.numbers.specs.Choice.{pick}
 use Rattle.numbers.specs.Offset.{zero_at, offset8_of, moved_into}
 use Rattle.slices.specs.Slices.{part, put}
@@ -11,10 +11,6 @@ use Rattle.params.specs.declared.Breaks.{Breaks}
 use Rattle.record.specs.Image.{image_size, address_at, aging_at, image_breaks, image_aging, image_locks}
 use Rattle.mending.specs.declared.MendRefusal.{MendRefusal}
 use Rattle.mending.specs.declared.MendRefusal.TheVariants.{Size, Family}
-use Rattle.mending.specs.declared.Mended.{Mended}
-use Rattle.mending.specs.declared.Mended.TheVariants.{Done, Refused}
-use Rattle.mending.specs.declared.Listed.{Listed}
-use Rattle.mending.specs.declared.Listed.TheVariants as listed
 
 -- ---- "address CRC recomputed": the eighth byte, of the first seven as they are
 
@@ -100,22 +96,29 @@ abbrev pub mend_refusal_number : MendRefusal → ℕ
 mend_refusal_number Size = 30
 mend_refusal_number Family = 31
 
+-- what a call of `mend` answers
+abbrev pub Mended : Type 0
+Mended = Result ⊤ MendRefusal
+
+abbrev pub mend_done : Mended
+mend_done = Ok tt
+
 abbrev pub mended_number : Mended → ℕ
-mended_number Done = 0
-mended_number (Refused why) = mend_refusal_number why
+mended_number (Ok _) = 0
+mended_number (Err why) = mend_refusal_number why
 
 -- of an image and a room of so many bytes
 unfoldable pub mending_answer : List ℕ → ℕ → Mended
 mending_answer image room =
     pick (eqb (length image) image_size)
-    (pick (ltb room image_size) (Refused Size) (pick (eqb (get_or image address_at 0) 0x3d) Done (Refused Family)))
-    (Refused Size)
+    (pick (ltb room image_size) (Err Size) (pick (eqb (get_or image address_at 0) 0x3d) mend_done (Err Family)))
+    (Err Size)
 
 -- ---- "neither writes anything"; what is beyond the 60 bytes stays
 
 abbrev pub mended_room : Mended → List ℕ → List ℕ → List ℕ
-mended_room Done image room = mended_of image ++ drop image_size room
-mended_room (Refused why) image room = room
+mended_room (Ok _) image room = mended_of image ++ drop image_size room
+mended_room (Err why) image room = room
 
 pub record Mending (image room : List ℕ) (said : Mended) (after : List ℕ) : Type 0 where
   pub number : mended_number said ≡ mended_number (mending_answer image (length room))
@@ -125,17 +128,21 @@ pub record Mending (image room : List ℕ) (said : Mended) (after : List ℕ) : 
 -- ---- the lines, in a room for all that they may be: how many bytes they are, and these at its front. There are none where the image is refused by
 -- itself, which is in a room that is large enough
 
+-- the lines, so many bytes, or why there are none
+abbrev pub Listed : Type 0
+Listed = Result ℕ MendRefusal
+
 abbrev pub listed_by : Mended → List ℕ → Listed
-listed_by Done image = listed.Lines (length (changes_of image))
-listed_by (Refused why) image = listed.Refused why
+listed_by (Ok _) image = Ok (length (changes_of image))
+listed_by (Err why) image = Err why
 
 abbrev pub lines_by : Mended → List ℕ → List ℕ → List ℕ
-lines_by Done image room = put room 0 (changes_of image)
-lines_by (Refused why) image room = room
+lines_by (Ok _) image room = put room 0 (changes_of image)
+lines_by (Err why) image room = room
 
 abbrev pub listed_number : Listed → ℕ
-listed_number (listed.Lines n) = 0
-listed_number (listed.Refused why) = mend_refusal_number why
+listed_number (Ok n) = 0
+listed_number (Err why) = mend_refusal_number why
 
 pub record Listing (image room : List ℕ) (said : Listed) (after : List ℕ) : Type 0 where
   pub number : listed_number said ≡ mended_number (mending_answer image image_size)

@@ -5,7 +5,7 @@
 --
 -- Stated of the judge that a session asks, of every image; `ByCallTheorem` says that these are the images of every call of `mend` that is not refused.
 -- `ListingTheorem` says what every call of `changes` tells, and the second of these sentences of the calls of both functions.
-use Rattle.std.specs.Prelude.{◌≡◌, false, ◌≢◌, List, [], ℕ, ◌+◌, ◌%◌, ◌≤◌, ◌<◌, pos, length, get_or, take, drop}
+use Rattle.std.specs.Prelude.{◌≡◌, false, ◌≢◌, Ok, Err, List, [], ℕ, ◌+◌, ◌%◌, ◌≤◌, ◌<◌, pos, length, get_or, take, drop}
 use Rattle.std.specs.Int.Signed.{le_z}
 use Rattle.numbers.specs.Choice.{pick}
 use Rattle.numbers.specs.Offset.{value, offset8_of}
@@ -14,15 +14,10 @@ use Rattle.params.specs.declared.Breaks.{Breaks}
 use Rattle.params.specs.Params.{byte_at}
 use Rattle.state.specs.declared.Profile.TheVariants.{Ds2781}
 use Rattle.record.specs.declared.Event.TheVariants.{Image}
-use Rattle.record.specs.declared.Taken.TheVariants.{Run}
 use Rattle.record.specs.Image.{image_size, address_at, image_address, image_label, image_block, image_breaks, image_acr, image_aging, image_bl0, image_bl1}
 use Rattle.record.specs.Record.{taken_of}
 use Rattle.mending.specs.declared.MendRefusal.{MendRefusal}
-use Rattle.mending.specs.declared.Mended.{Mended}
-use Rattle.mending.specs.declared.Mended.TheVariants.{Done}
-use Rattle.mending.specs.declared.Listed.{Listed}
-use Rattle.mending.specs.declared.Listed.TheVariants.{Lines, Refused}
-use Rattle.mending.specs.Mending.{cap_of, capped_of, arranged_of, mended_of, changes_of, changes_size, Mending, Listing}
+use Rattle.mending.specs.Mending.{Mended, Listed, mend_done, cap_of, capped_of, arranged_of, mended_of, changes_of, changes_size, Mending, Listing}
 
 -- an image that is not refused
 pub record Mendable (image : List ℕ) : Type 0 where
@@ -31,7 +26,7 @@ pub record Mendable (image : List ℕ) : Type 0 where
 
 -- an image that is accepted as the first record of a session
 abbrev pub Accepted : List ℕ → Type 0
-Accepted image = taken_of 1 false image ≡ Run (Image Ds2781)
+Accepted image = taken_of 1 false image ≡ Ok (Image Ds2781)
 
 -- ---- "a 60-byte image that is accepted"
 
@@ -112,7 +107,7 @@ KeptTheorem =
 -- ---- and so of every call of `mend` that is done, whatever it was given
 
 abbrev pub ByCallTheorem : Type 0
-ByCallTheorem = (image room after : List ℕ) → Mending image room Done after → Mendable image × (take image_size after ≡ mended_of image)
+ByCallTheorem = (image room after : List ℕ) → Mending image room mend_done after → Mendable image × (take image_size after ≡ mended_of image)
 
 -- ---- and of every call of `changes`, whose room has its size by its type
 
@@ -124,23 +119,23 @@ pub record LinesTold (image room : List ℕ) (n : ℕ) (after : List ℕ) : Type
   pub behind : drop n after ≡ drop n room
 
 abbrev pub LinesTheorem : Type 0
-LinesTheorem = (image room after : List ℕ) (n : ℕ) → length room ≡ changes_size → Listing image room (Lines n) after → LinesTold image room n after
+LinesTheorem = (image room after : List ℕ) (n : ℕ) → length room ≡ changes_size → Listing image room (Ok n) after → LinesTold image room n after
 
 -- it is refused only where no call of `mend` would be done, and then the room stays
 abbrev pub NoLinesTheorem : Type 0
-NoLinesTheorem = (image room after : List ℕ) (why : MendRefusal) → Listing image room (Refused why) after → (Mendable image → ⊥) × (after ≡ room)
+NoLinesTheorem = (image room after : List ℕ) (why : MendRefusal) → Listing image room (Err why) after → (Mendable image → ⊥) × (after ≡ room)
 
 -- of what a call of `mend` has written there are no lines
 abbrev pub LinesAgainTheorem : Type 0
 LinesAgainTheorem =
-    (image room after : List ℕ) → Mending image room Done after
-    → (lent last : List ℕ) (said : Listed) → Listing (take image_size after) lent said last → (said ≡ Lines 0) × (last ≡ lent)
+    (image room after : List ℕ) → Mending image room mend_done after
+    → (lent last : List ℕ) (said : Listed) → Listing (take image_size after) lent said last → (said ≡ Ok 0) × (last ≡ lent)
 
 -- "An acceptable image with AS in range comes out unchanged with no lines", of any calls of the two that are given one
 pub record StaysByCalls (image room : List ℕ) (said : Mended) (after lent : List ℕ) (heard : Listed) (last : List ℕ) : Type 0 where
-  pub done : said ≡ Done
+  pub done : said ≡ mend_done
   pub same : take image_size after ≡ image
-  pub none : heard ≡ Lines 0
+  pub none : heard ≡ Ok 0
   pub stays : last ≡ lent
 
 abbrev pub StaysTheorem : Type 0

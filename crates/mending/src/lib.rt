@@ -3,10 +3,11 @@
 
 ghost use Rattle.std.specs.Prelude.{◌≡◌, ◌++◌, ◌+◌, ◌≤◌, min, max, length, drop};
 ghost use Rattle.numbers.specs.Offset.{moved_into};
-ghost use Rattle.digits.specs.Digits.{lower, pairs_of, Writing};
-ghost use Rattle.mending.specs.Mending.{mended_number, mending_answer, capped_of, arranged_of, mended_breaks, mended_of};
+ghost use Rattle.digits.specs.Digits.{lower, pairs_of, Writing, Appends};
+ghost use Rattle.mending.specs.Mending.{mend_refusal_number, mending_answer, capped_of, arranged_of, mended_breaks, mended_of};
 ghost use Rattle.mending.specs.Mending.{change_line, change_text, changes_from, changes_size, Mending, Listing};
 
+use digits::Page;
 use params::Breaks;
 use record::{AGING_AT, BLOCK_AT, IMAGE_SIZE, LOCKS_AT};
 
@@ -17,17 +18,15 @@ pub enum MendRefusal {
     Family,
 }
 
-#[derive(Clone, Copy)]
-pub enum Mended {
-    Done,
-    Refused(MendRefusal),
-}
+impl From<MendRefusal> for u8 {
+    ghost from_gives = { λ refusal number. number ≡ mend_refusal_number refusal };
 
-// The lines, so many bytes, or why there are none.
-#[derive(Clone, Copy)]
-pub enum Listed {
-    Lines(usize),
-    Refused(MendRefusal),
+    fn from(refusal: MendRefusal) -> u8 {
+        match refusal {
+            MendRefusal::Size => 30,
+            MendRefusal::Family => 31,
+        }
+    }
 }
 
 // Where the CRC of the address stands, and the breakpoints, TBP34 first.
@@ -35,48 +34,23 @@ const CRC_AT: usize = 7;
 
 const BREAKS_AT: usize = 52;
 
-// The answer's number.
-pub fn mended_number(mended: Mended) -> u8
-    ensures { result ≡ mended_number mended }
-{
-    match mended {
-        Mended::Done => 0,
-        Mended::Refused(why) => match why {
-            MendRefusal::Size => 30,
-            MendRefusal::Family => 31,
-        },
-    }
-}
-
 // The answer for an image and a room of so many bytes.
-fn answer(image: &[u8], room: usize) -> Mended
+fn answer(image: &[u8], room: usize) -> Result<(), MendRefusal>
     ensures { result ≡ mending_answer image.now room }
 {
     if image.len() != IMAGE_SIZE {
-        return Mended::Refused(MendRefusal::Size);
+        return Err(MendRefusal::Size);
     }
     if room < IMAGE_SIZE {
-        return Mended::Refused(MendRefusal::Size);
+        return Err(MendRefusal::Size);
     }
     if image[0] != 0x3d {
-        return Mended::Refused(MendRefusal::Family);
+        return Err(MendRefusal::Family);
     }
-    Mended::Done
+    Ok(())
 }
 
 // ---- the breakpoints
-
-fn smaller(a: u8, b: u8) -> u8
-    ensures { result ≡ min a b }
-{
-    if a < b { a } else { b }
-}
-
-fn larger(a: u8, b: u8) -> u8
-    ensures { result ≡ max a b }
-{
-    if a < b { b } else { a }
-}
 
 // None above 40 °C.
 fn capped(breaks: Breaks) -> Breaks
@@ -84,9 +58,9 @@ fn capped(breaks: Breaks) -> Breaks
 {
     let top = numbers::ZERO7 + 40;
     Breaks {
-        b34: smaller(breaks.b34, top),
-        b23: smaller(breaks.b23, top),
-        b12: smaller(breaks.b12, top),
+        b34: breaks.b34.min(top),
+        b23: breaks.b23.min(top),
+        b12: breaks.b12.min(top),
     }
 }
 
@@ -94,12 +68,12 @@ fn capped(breaks: Breaks) -> Breaks
 fn arranged(breaks: Breaks) -> Breaks
     ensures { result ≡ arranged_of breaks }
 {
-    let low = smaller(breaks.b12, breaks.b23);
-    let high = larger(breaks.b12, breaks.b23);
+    let low = breaks.b12.min(breaks.b23);
+    let high = breaks.b12.max(breaks.b23);
     Breaks {
-        b34: larger(high, breaks.b34),
-        b23: larger(low, smaller(high, breaks.b34)),
-        b12: smaller(low, breaks.b34),
+        b34: high.max(breaks.b34),
+        b23: low.max(high.min(breaks.b34)),
+        b12: low.min(breaks.b34),
     }
 }
 
@@ -108,9 +82,8 @@ fn mended_breaks(image: &[u8]) -> Breaks
     requires { length image.now ≡ 60 }
     ensures { result ≡ mended_breaks image.now }
 {
-    let block = slices::thirty_two(image, BLOCK_AT);
-    let breaks = Breaks::of(&block);
-    arranged(capped(breaks))
+    let block = slices::array_at(image, BLOCK_AT);
+    arranged(capped(Breaks::of(&block)))
 }
 
 // ---- the image
@@ -119,17 +92,16 @@ fn mended_breaks(image: &[u8]) -> Breaks
 fn aged(x: u8) -> u8
     ensures { result ≡ moved_into 63 128 x }
 {
-    numbers::moved_into(63, 128, x as u64)
+    x.clamp(63, 128)
 }
 
 // The image with its damage mended.
-fn mended_image(image: &[u8]) -> [u8; 60]
+fn mended_image(image: &[u8]) -> [u8; IMAGE_SIZE]
     requires { length image.now ≡ 60 }
     ensures { result ≡ mended_of image.now }
 {
-    let mut mended = [0u8; 60];
-    slices::store(image, &mut mended, 0);
-    mended[CRC_AT] = crc::crc(&image[0..7]);
+    let mut mended: [u8; IMAGE_SIZE] = slices::array_at(image, 0);
+    mended[CRC_AT] = crc::crc(&image[..CRC_AT]);
     let breaks = mended_breaks(image);
     mended[BREAKS_AT] = numbers::offset8(breaks.b34);
     mended[BREAKS_AT + 1] = numbers::offset8(breaks.b23);
@@ -145,50 +117,44 @@ fn put_mended(image: &[u8], room: &mut [u8])
     requires in_bounds { 60 ≤ length room.old }
     ensures { room.new ≡ mended_of image.now ++ drop 60 room.old }
 {
-    let mended = mended_image(image);
-    slices::store(&mended, room, 0);
+    slices::store_array(mended_image(image), room, 0);
 }
 
 // Writes the mended image at the front of the room, or nothing.
-pub fn mend(image: &[u8], room: &mut [u8]) -> Mended
+pub fn mend(image: &[u8], room: &mut [u8]) -> Result<(), MendRefusal>
     ensures { Mending image.now room.old result room.new }
 {
-    let found = answer(image, room.len());
-    match found {
-        Mended::Done => {
-            put_mended(image, room);
-            Mended::Done
-        }
-        Mended::Refused(why) => Mended::Refused(why),
-    }
+    answer(image, room.len())?;
+    put_mended(image, room);
+    Ok(())
 }
 
 // ---- the lines
 
 // Offset, old and new, in hex.
-fn put_line(table: &[u8; 512], offset: u8, old: u8, new: u8, room: &mut [u8], at: usize) -> usize
+fn put_line(table: &[u8; 512], offset: u8, old: u8, new: u8, page: &mut Page)
     requires table_value { table.now ≡ pairs_of lower }
-    requires at_in_bounds { at + 9 ≤ length room.old }
-    ensures { Writing 9 (change_line offset old new) room.old at result room.new }
+    requires used_in_bounds { page.old.used + 9 ≤ length page.old.room.now }
+    ensures { Appends 9 (change_line offset old new) page.old page.new }
 {
-    let a = digits::put_entry(table, offset, room, at);
-    let b = digits::put_byte(b' ', room, a);
-    let c = digits::put_entry(table, old, room, b);
-    let d = digits::put_byte(b' ', room, c);
-    let e = digits::put_entry(table, new, room, d);
-    digits::put_byte(b'\n', room, e)
+    page.put_entry(table, offset);
+    page.put_byte(b' ');
+    page.put_entry(table, old);
+    page.put_byte(b' ');
+    page.put_entry(table, new);
+    page.put_byte(b'\n');
 }
 
 // The line of a byte, where it was changed.
-fn put_change(table: &[u8; 512], offset: u8, old: u8, new: u8, room: &mut [u8], at: usize) -> usize
+fn put_change(table: &[u8; 512], offset: u8, old: u8, new: u8, page: &mut Page)
     requires table_value { table.now ≡ pairs_of lower }
-    requires at_in_bounds { at + 9 ≤ length room.old }
-    ensures { Writing 9 (change_text offset old new) room.old at result room.new }
+    requires used_in_bounds { page.old.used + 9 ≤ length page.old.room.now }
+    ensures { Appends 9 (change_text offset old new) page.old page.new }
 {
     if old == new {
-        return at;
+        return;
     }
-    put_line(table, offset, old, new, room, at)
+    put_line(table, offset, old, new, page);
 }
 
 // The lines of two images, at the front of the room.
@@ -199,25 +165,19 @@ fn put_changes(old: &[u8], new: &[u8], room: &mut [u8]) -> usize
     ensures { Writing changes_size (changes_from 0 old.now new.now) room.old 0 result room.new }
 {
     let table = digits::lower_pairs();
-    let mut next = 0;
-    let mut i = 0;
-    while i < old.len() {
-        next = put_change(&table, i as u8, old[i], new[i], room, next);
-        i += 1;
+    let mut page = Page::new(room);
+    for i in 0..old.len() {
+        put_change(&table, i as u8, old[i], new[i], &mut page);
     }
-    next
+    page.used
 }
 
-// Writes a line for each byte that mending changes, or nothing. The lines of any image have room: there are nine bytes for each of its bytes.
-pub fn changes(image: &[u8], room: &mut [u8; 540]) -> Listed
+// Writes a line for each byte that mending changes, or nothing, and returns how many bytes the lines are. The lines of any image have room: there are
+// nine bytes for each of its bytes.
+pub fn changes(image: &[u8], room: &mut [u8; 540]) -> Result<usize, MendRefusal>
     ensures { Listing image.now room.old result room.new }
 {
-    let found = answer(image, IMAGE_SIZE);
-    match found {
-        Mended::Done => {
-            let mended = mended_image(image);
-            Listed::Lines(put_changes(image, &mended, room))
-        }
-        Mended::Refused(why) => Listed::Refused(why),
-    }
+    answer(image, IMAGE_SIZE)?;
+    let mended = mended_image(image);
+    Ok(put_changes(image, &mended, room))
 }

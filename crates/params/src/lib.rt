@@ -61,15 +61,16 @@ pub fn rnaop(shadow: &[u8; 32]) -> bool
 }
 
 impl Counting {
+    #[tactic(auto, using(crate::proofs::Laws::last_of_four))]
     pub fn of(shadow: &[u8; 32]) -> Counting
         ensures { result ≡ counting_of shadow.now }
     {
         // COB is taken with the three bytes before it: read alone, it is kept apart from them, and each transaction packs and unpacks the four.
-        let tail = slices::four(shadow, 24);
+        let tail: [u8; 4] = slices::array_at(shadow, 24);
         Counting {
             nben: 128 <= shadow[0],
             ab: numbers::offset8(shadow[1]),
-            ac: numbers::joined(shadow[2], shadow[3]),
+            ac: u16::from_be_bytes([shadow[2], shadow[3]]),
             cob: numbers::offset8(tail[3]),
         }
     }
@@ -94,7 +95,7 @@ impl Capacity {
     {
         Capacity {
             rsnsp: shadow[9],
-            full40: numbers::joined(shadow[10], shadow[11]),
+            full40: u16::from_be_bytes([shadow[10], shadow[11]]),
         }
     }
 }
@@ -111,23 +112,17 @@ impl Breaks {
     }
 }
 
-// A byte as a number of 32 bits. A cast of an element would ask for its bound.
-fn word(x: u8) -> u32
-    ensures { result ≡ x }
-{
-    x as u32
-}
-
 impl Slopes {
+    // The index is the address in its definition, less 60h.
     fn of(shadow: &[u8; 32], at: usize) -> Slopes
         requires { at ≤ 28 }
         ensures { result ≡ slopes_of shadow.now (0x60 + at) }
     {
         Slopes {
-            s4: word(shadow[at]),
-            s3: word(shadow[at + 1]),
-            s2: word(shadow[at + 2]),
-            s1: word(shadow[at + 3]),
+            s4: u32::from(shadow[at]),
+            s3: u32::from(shadow[at + 1]),
+            s2: u32::from(shadow[at + 2]),
+            s1: u32::from(shadow[at + 3]),
         }
     }
 }
@@ -136,16 +131,12 @@ impl Curves {
     pub fn of(shadow: &[u8; 32]) -> Curves
         ensures { result ≡ curves_of shadow.now }
     {
-        let breaks = Breaks::of(shadow);
-        let full = Slopes::of(shadow, 12);
-        let ae = Slopes::of(shadow, 16);
-        let se = Slopes::of(shadow, 20);
         Curves {
-            breaks: breaks,
+            breaks: Breaks::of(shadow),
             start: shadow[8],
-            full: full,
-            ae: ae,
-            se: se,
+            full: Slopes::of(shadow, 12),
+            ae: Slopes::of(shadow, 16),
+            se: Slopes::of(shadow, 20),
         }
     }
 }

@@ -1,5 +1,5 @@
 -- What the program says of an image and parameters: the session that sets block 1 to them, or why there is none.
-use Rattle.std.specs.Prelude.{Bool, List, [], ℕ}
+use Rattle.std.specs.Prelude.{Ok, Err, Bool, List, [], ℕ}
 use Rattle.numbers.specs.Choice.{pick}
 use Rattle.digits.specs.Ascii.{ascii}
 use Rattle.streams.specs.Streams.{Speech, output, error, refused_text}
@@ -7,9 +7,7 @@ use Rattle.record.specs.declared.Refusal.{Refusal}
 use Rattle.record.specs.declared.Refusal.TheVariants as refusal
 use Rattle.preset_session.specs.declared.PresetRefusal.{PresetRefusal}
 use Rattle.preset_session.specs.declared.PresetRefusal.TheVariants.{Image, Parameters, Locked, Room}
-use Rattle.preset_session.specs.declared.Written.{Written}
-use Rattle.preset_session.specs.declared.Written.TheVariants.{Done, Refused}
-use Rattle.preset_session.specs.PresetSession.{programming_of, programming_size, preset_refusal_number, preset_answer}
+use Rattle.preset_session.specs.PresetSession.{Written, programming_of, programming_size, preset_refusal_number, preset_answer}
 
 -- ---- what the refusals mean
 
@@ -60,8 +58,8 @@ preset_refusal_words Room = preset_room_words
 
 -- the session goes to standard output, a refusal to standard error
 abbrev pub preset_by : Written → List ℕ → List ℕ → Speech
-preset_by Done image wanted = output (programming_of image wanted)
-preset_by (Refused why) image wanted = error (refused_text (preset_refusal_number why) (preset_refusal_words why))
+preset_by (Ok _) image wanted = output (programming_of image wanted)
+preset_by (Err why) image wanted = error (refused_text (preset_refusal_number why) (preset_refusal_words why))
 
 -- with room for the whole session
 unfoldable pub preset_speech : List ℕ → List ℕ → Speech

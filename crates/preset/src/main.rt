@@ -1,120 +1,82 @@
 // preset IMAGE PARAMETERS: writes the session that sets block 1 of the pack image in one file to the 32 bytes in the other
 #![tactic(auto)]
 
-ghost use Rattle.std.specs.Prelude.{◌≡◌, List, ℕ, length};
+ghost use Rattle.std.specs.Prelude.{◌≡◌, List, ℕ, length, is_err, IfOk};
 ghost use Rattle.numbers.specs.Choice.{either};
 ghost use Rattle.streams.specs.Streams.{Front, Saying, error, refused_text};
 ghost use Rattle.preset_session.specs.PresetSession.{preset_refusal_number};
-ghost use Rattle.preset.specs.Preset.{preset_image_words, preset_refusal_words, preset_of};
+ghost use Rattle.preset.specs.Preset.{preset_image_words, preset_refusal_words, preset_speech, preset_of};
 
-use preset_session::{PresetRefusal, Written};
+use preset_session::PresetRefusal;
 use record::Refusal;
-use streams::{Input, Said, Stream};
+use streams::{Said, Stream, Unread};
+
+const IMAGE_ROOM: usize = 61;
+
+const PARAMETERS_ROOM: usize = 33;
+
+const TEXT_ROOM: usize = 120;
 
 // The refusal of an image.
 fn put_judged(number: u8, refusal: Refusal, room: &mut [u8]) -> Said
     requires { length room.old ≡ 120 }
     ensures { Saying (error (refused_text number (preset_image_words refusal))) room.old result room.new }
 {
-    match refusal {
-        Refusal::Size => streams::put_refused(number, b"the image is not 60 bytes", room),
-        Refusal::Address => streams::put_refused(
-            number,
-            b"the address of the image has another family code or a wrong CRC",
-            room,
-        ),
-        Refusal::Locks => streams::put_refused(
-            number,
-            b"the lock byte of the image is above 3",
-            room,
-        ),
-        Refusal::Breaks => streams::put_refused(
-            number,
-            b"the breakpoints of the image are crossed or above 40 degrees",
-            room,
-        ),
-        Refusal::Kind => streams::put_refused(number, b"the image is refused", room),
-        Refusal::Order => streams::put_refused(number, b"the image is refused", room),
-        Refusal::Count => streams::put_refused(number, b"the image is refused", room),
-        Refusal::Room => streams::put_refused(number, b"the image is refused", room),
-        Refusal::Interval => streams::put_refused(number, b"the image is refused", room),
-        Refusal::Repeated => streams::put_refused(number, b"the image is refused", room),
-    }
+    let words: &[u8] = match refusal {
+        Refusal::Size => b"the image is not 60 bytes",
+        Refusal::Address => b"the address of the image has another family code or a wrong CRC",
+        Refusal::Locks => b"the lock byte of the image is above 3",
+        Refusal::Breaks => b"the breakpoints of the image are crossed or above 40 degrees",
+        // An image is refused for no other cause.
+        _ => b"the image is refused",
+    };
+    streams::put_refused(number, words, room)
 }
 
 fn put_why(why: PresetRefusal, room: &mut [u8]) -> Said
     requires { length room.old ≡ 120 }
     ensures { Saying (error (refused_text (preset_refusal_number why) (preset_refusal_words why))) room.old result room.new }
 {
-    let number = preset_session::written_number(Written::Refused(why));
-    match why {
-        PresetRefusal::Image(refusal) => put_judged(number, refusal, room),
-        PresetRefusal::Parameters => streams::put_refused(
-            number,
-            b"the parameters are not 32 bytes",
-            room,
-        ),
-        PresetRefusal::Locked => streams::put_refused(number, b"block 1 is locked", room),
-        PresetRefusal::Room => streams::put_refused(
-            number,
-            b"the room for the session is too small",
-            room,
-        ),
-    }
+    let number = u8::from(why);
+    let words: &[u8] = match why {
+        PresetRefusal::Image(refusal) => return put_judged(number, refusal, room),
+        PresetRefusal::Parameters => b"the parameters are not 32 bytes",
+        PresetRefusal::Locked => b"block 1 is locked",
+        PresetRefusal::Room => b"the room for the session is too small",
+    };
+    streams::put_refused(number, words, room)
 }
 
-// Of a file that was not read something was said already.
-fn put_preset(unread: bool, image: &[u8], wanted: &[u8], room: &mut [u8]) -> Said
+fn put_preset(image: &[u8], wanted: &[u8], room: &mut [u8]) -> Said
     requires { length room.old ≡ 120 }
-    ensures { Saying (preset_of unread image.now wanted.now) room.old result room.new }
+    ensures { Saying (preset_speech image.now wanted.now) room.old result room.new }
 {
-    if unread {
-        let stream = Stream::Error;
-        return Said {
-            stream: stream,
-            count: 0,
-        };
-    }
-    let written = preset_session::write_session(image, wanted, room);
-    match written {
-        Written::Done => {
-            let count = room.len();
-            let stream = Stream::Output;
-            Said {
-                stream: stream,
-                count: count,
-            }
-        }
-        Written::Refused(why) => put_why(why, room),
+    match preset_session::write_session(image, wanted, room) {
+        Ok(()) => Said {
+            stream: Stream::Output,
+            count: room.len(),
+        },
+        Err(why) => put_why(why, room),
     }
 }
 
-// What the program says. A byte more than each file should have is enough to know of any file. (That the room keeps its length is said for `main`.)
+// What the program says. A byte more than each file should have is enough to know of any file.
 fn programmed(
-    image: &[u8; 61],
-    one: Input,
-    wanted: &[u8; 33],
-    other: Input,
-    room: &mut [u8; 120],
+    image: &[u8],
+    one: Result<usize, Unread>,
+    wanted: &[u8],
+    other: Result<usize, Unread>,
+    room: &mut [u8],
 ) -> Said
-    ensures by_index { (s t : List ℕ) → Front s image.now one.count → Front t wanted.now other.count →
-        Saying (preset_of (either one.failed other.failed) s t) room.old result room.new }
-    ensures value { 120 ≡ length room.new }
+    requires image_room { length image.now ≡ 61 }
+    requires wanted_room { length wanted.now ≡ 33 }
+    requires text_room { length room.old ≡ 120 }
+    ensures by_index { (s t : List ℕ) → IfOk one (Front s image.now) → IfOk other (Front t wanted.now) →
+        Saying (preset_of (either (is_err one) (is_err other)) s t) room.old result room.new }
 {
-    let unread = numbers::or(one.failed, other.failed);
-    let n = streams::within(one.count, image);
-    let m = streams::within(other.count, wanted);
-    let all: &[u8] = image;
-    let bytes: &[u8] = wanted;
-    put_preset(unread, &all[..n], &bytes[..m], room)
+    streams::put_answer_of_two(image, one, wanted, other, room, put_preset)
 }
 
 fn main(rt: HostRuntime) {
-    let mut image = [0u8; 61];
-    let one = streams::read_named(&rt, b"preset", 1, &mut image);
-    let mut wanted = [0u8; 33];
-    let other = streams::read_named(&rt, b"preset", 2, &mut wanted);
-    let mut room = [0u8; 120];
-    let said = programmed(&image, one, &wanted, other, &mut room);
-    streams::say(&rt, b"preset", said, &room);
+    streams::answer_files::<IMAGE_ROOM, PARAMETERS_ROOM, TEXT_ROOM, _>(&rt, b"preset", programmed);
 }

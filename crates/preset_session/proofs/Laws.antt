@@ -1,40 +1,39 @@
 -- What follows of the definitions, for the proofs of this crate and of those above it.
 use mathlib.Core.Path.{◌≡◌, refl, ap, ◌∙◌}
 use mathlib.Core.Bool.{Bool, true, false}
+use Rattle.std.specs.Prelude.{Err}
 use mathlib.Core.List.{List, ◌++◌}
 use Prim.Native.Nat.{ℕ, ◌≤◌}
 use native.Mathlib.Omega.{arith}
 use borrow.Author.Tests.{eqb-true, ltb-false, eq-eqb, le-ltb}
 use lib.Dec.{eqb, ltb}
 use lib.ListN.{length, take, drop, length-append}
+use Rattle.std.specs.Prelude.{Ok, Err}
 use Rattle.numbers.specs.Choice.{pick}
 use Rattle.slices.specs.Slices.{put}
 use Rattle.slices.proofs.Laws.{put_next, put_front, put_whole}
 use Rattle.state.specs.declared.Profile.TheVariants.{Ds2781}
-use Rattle.record.specs.declared.Taken.{Taken}
-use Rattle.record.specs.declared.Taken.TheVariants as taken
 use Rattle.record.specs.Image.{image_size, image_bl1}
-use Rattle.record.specs.Record.{judged_of}
+use Rattle.record.specs.Record.{judged_of, Taken}
 use Rattle.record.proofs.Fits.{judged_image}
-use Rattle.runs.specs.Record.{record_of, Recorded}
-use Rattle.runs.proofs.Records.{record_then}
+use Rattle.digits.specs.Digits.{Writing}
+use Rattle.runs.specs.Record.{record_of}
 use Rattle.preset_session.specs.declared.PresetRefusal.TheVariants.{Parameters, Locked, Room}
-use Rattle.preset_session.specs.declared.Written.TheVariants.{Done, Refused}
-use Rattle.preset_session.specs.PresetSession.{write_payload, copy_payload, read_payload, programming_of}
+use Rattle.preset_session.specs.PresetSession.{write_done, write_payload, copy_payload, read_payload, programming_of}
 use Rattle.preset_session.specs.PresetSession.{programming_size, preset_answer_by, preset_answer, Granted}
 
 -- ---- the answer
 
 module _ (image wanted : List ℕ) (room : ℕ) where
-  tests : (a b c : Bool) → pick a (pick b (Refused Locked) (pick c (Refused Room) Done)) (Refused Parameters) ≡ Done →
+  tests : (a b c : Bool) → pick a (pick b (Err Locked) (pick c (Err Room) write_done)) (Err Parameters) ≡ write_done →
       (a ≡ true) × (b ≡ false) × (c ≡ false)
-  tests true true c e = let z : ◌≡◌ {A = ℕ} 0 1 = cc in absurd (omega arith)
-  tests true false true e = let z : ◌≡◌ {A = ℕ} 0 1 = cc in absurd (omega arith)
+  tests true true c e = absurd cc
+  tests true false true e = absurd cc
   tests true false false e = (refl, refl, refl)
-  tests false b c e = let z : ◌≡◌ {A = ℕ} 0 1 = cc in absurd (omega arith)
+  tests false b c e = absurd cc
 
-  granted_by : (t : Taken) → judged_of image ≡ t → preset_answer_by t image wanted room ≡ Done → Granted image wanted room
-  granted_by (taken.Run e) judged done =
+  granted_by : (t : Taken) → judged_of image ≡ t → preset_answer_by t image wanted room ≡ write_done → Granted image wanted room
+  granted_by (Ok e) judged done =
       let held = tests (eqb (length wanted) 32) (image_bl1 image) (ltb room programming_size) done in
       record {
         accepted = judged_image Ds2781 image judged;
@@ -42,13 +41,13 @@ module _ (image wanted : List ℕ) (room : ℕ) where
         unlocked = held.1;
         fits = ltb-false room programming_size held.2;
       }
-  granted_by (taken.Refused r) judged done = let z : ◌≡◌ {A = ℕ} 0 1 = cc in absurd (omega arith)
+  granted_by (Err r) judged done = let z : ◌≡◌ {A = ℕ} 0 1 = cc in absurd (omega arith)
 
-  pub granted : preset_answer image wanted room ≡ Done → Granted image wanted room
+  pub granted : preset_answer image wanted room ≡ write_done → Granted image wanted room
   unfolding preset_answer
   granted done = granted_by (judged_of image) refl done
 
-  pub done : Granted image wanted room → preset_answer image wanted room ≡ Done
+  pub done : Granted image wanted room → preset_answer image wanted room ≡ write_done
   unfolding preset_answer
   done g = rw (g.accepted, eq-eqb (length wanted) 32 g.all, g.unlocked, le-ltb room programming_size g.fits) refl
 
@@ -70,12 +69,9 @@ module _ (image wanted : List ℕ) (sized : length image ≡ image_size) (all : 
       )
 
   -- four records, one behind the other, at the front of a room
-  module _ {room a b c d : List ℕ} {i j k n : ℕ} where
-    pub four : programming_size ≤ length room → Recorded 1 image room 0 i a → Recorded 4 (write_payload wanted) a i j b → Recorded 4 copy_payload b j k c
-        → Recorded 4 read_payload c k n d → d ≡ programming_of image wanted ++ drop programming_size room
-    four fits first second third fourth =
-        fourth.written ∙ record_then third (record_of 4 read_payload)
-        ∙ record_then second (record_of 4 copy_payload ++ record_of 4 read_payload)
-        ∙ record_then first (record_of 4 (write_payload wanted) ++ (record_of 4 copy_payload ++ record_of 4 read_payload))
-        ∙ put_front room (programming_of image wanted) (omega (arith, programming_length))
-        ∙ ap (λ (n : ℕ). programming_of image wanted ++ drop n room) programming_length
+  pub four : {most next : ℕ} {room after : List ℕ} → programming_size ≤ length room → Writing most (programming_of image wanted) room 0 next after
+      → after ≡ programming_of image wanted ++ drop programming_size room
+  four {room = room} fits w =
+      w.written
+      ∙ put_front room (programming_of image wanted) (omega (arith, programming_length))
+      ∙ ap (λ (n : ℕ). programming_of image wanted ++ drop n room) programming_length

@@ -1,17 +1,13 @@
 -- Programming packs at the bench: the session that sets block 1 of a pack to wanted bytes, and when it is not written.
-use Rattle.std.specs.Prelude.{◌≡◌, false, List, [], ◌∷◌, ◌++◌, ℕ, ◌≤◌, eqb, ltb, length, drop}
+use Rattle.std.specs.Prelude.{◌≡◌, false, ⊤, Result, Ok, Err, List, [], ◌∷◌, ◌++◌, ℕ, ◌≤◌, eqb, ltb, length, drop}
 use Rattle.numbers.specs.Choice.{pick}
 use Rattle.state.specs.declared.Profile.TheVariants.{Ds2781}
 use Rattle.record.specs.declared.Event.TheVariants as event
-use Rattle.record.specs.declared.Taken.{Taken}
-use Rattle.record.specs.declared.Taken.TheVariants as taken
 use Rattle.record.specs.Image.{image_bl1}
-use Rattle.record.specs.Record.{refusal_number, judged_of}
+use Rattle.record.specs.Record.{refusal_number, judged_of, Taken}
 use Rattle.runs.specs.Record.{record_of}
 use Rattle.preset_session.specs.declared.PresetRefusal.{PresetRefusal}
 use Rattle.preset_session.specs.declared.PresetRefusal.TheVariants.{Image, Parameters, Locked, Room}
-use Rattle.preset_session.specs.declared.Written.{Written}
-use Rattle.preset_session.specs.declared.Written.TheVariants.{Done, Refused}
 
 -- ---- "a session that starts with that image and sets block 1 by a write, a copy and a 32-byte read-back, one kind 4 record each, at 60h after
 -- CCh, nothing else read"
@@ -43,27 +39,34 @@ preset_refusal_number Parameters = 22
 preset_refusal_number Locked = 20
 preset_refusal_number Room = 21
 
+-- what a call of `write_session` answers
+abbrev pub Written : Type 0
+Written = Result ⊤ PresetRefusal
+
+abbrev pub write_done : Written
+write_done = Ok tt
+
 abbrev pub written_number : Written → ℕ
-written_number Done = 0
-written_number (Refused why) = preset_refusal_number why
+written_number (Ok _) = 0
+written_number (Err why) = preset_refusal_number why
 
 -- of an image that is accepted
 abbrev pub accepted_answer : List ℕ → List ℕ → ℕ → Written
 accepted_answer image wanted room =
     pick (eqb (length wanted) 32)
-    (pick (image_bl1 image) (Refused Locked) (pick (ltb room programming_size) (Refused Room) Done))
-    (Refused Parameters)
+    (pick (image_bl1 image) (Err Locked) (pick (ltb room programming_size) (Err Room) write_done))
+    (Err Parameters)
 
 abbrev pub preset_answer_by : Taken → List ℕ → List ℕ → ℕ → Written
-preset_answer_by (taken.Run e) image wanted room = accepted_answer image wanted room
-preset_answer_by (taken.Refused r) image wanted room = Refused (Image r)
+preset_answer_by (Ok e) image wanted room = accepted_answer image wanted room
+preset_answer_by (Err r) image wanted room = Err (Image r)
 
 unfoldable pub preset_answer : List ℕ → List ℕ → ℕ → Written
 preset_answer image wanted room = preset_answer_by (judged_of image) image wanted room
 
 -- a session is written where none of these applies
 pub record Granted (image wanted : List ℕ) (room : ℕ) : Type 0 where
-  pub accepted : judged_of image ≡ taken.Run (event.Image Ds2781)
+  pub accepted : judged_of image ≡ Ok (event.Image Ds2781)
   pub all : length wanted ≡ 32
   pub unlocked : image_bl1 image ≡ false
   pub fits : programming_size ≤ room
@@ -71,8 +74,8 @@ pub record Granted (image wanted : List ℕ) (room : ℕ) : Type 0 where
 -- ---- "the session room is lent; what is beyond the written session stays"; "nothing is written then"
 
 abbrev pub room_by : Written → List ℕ → List ℕ → List ℕ → List ℕ
-room_by Done image wanted room = programming_of image wanted ++ drop programming_size room
-room_by (Refused why) image wanted room = room
+room_by (Ok _) image wanted room = programming_of image wanted ++ drop programming_size room
+room_by (Err why) image wanted room = room
 
 pub record Programming (image wanted room : List ℕ) (said : Written) (after : List ℕ) : Type 0 where
   pub number : written_number said ≡ written_number (preset_answer image wanted (length room))

@@ -2,10 +2,11 @@
 #![tactic(auto)]
 
 ghost use Rattle.std.specs.Prelude.{◌≡◌, ◌++◌, ◌≤◌, length, drop};
-ghost use Rattle.preset_session.specs.PresetSession.{write_payload, programming_of, programming_size, written_number};
+ghost use Rattle.preset_session.specs.PresetSession.{write_payload, programming_of, programming_size, preset_refusal_number};
 ghost use Rattle.preset_session.specs.PresetSession.{accepted_answer, preset_answer, Programming};
 
-use record::{Refusal, Taken};
+use digits::Page;
+use record::Refusal;
 
 // What keeps a session from being written: the image, for what a record of it would be refused; the length of the parameters; block 1, which is
 // locked; or the room.
@@ -17,51 +18,43 @@ pub enum PresetRefusal {
     Room,
 }
 
-#[derive(Clone, Copy)]
-pub enum Written {
-    Done,
-    Refused(PresetRefusal),
-}
+impl From<PresetRefusal> for u8 {
+    ghost from_gives = { λ refusal number. number ≡ preset_refusal_number refusal };
 
-// The answer's number.
-pub fn written_number(written: Written) -> u8
-    ensures { result ≡ written_number written }
-{
-    match written {
-        Written::Done => 0,
-        Written::Refused(why) => match why {
-            PresetRefusal::Image(refusal) => record::taken_number(Taken::Refused(refusal)),
+    fn from(refusal: PresetRefusal) -> u8 {
+        match refusal {
+            PresetRefusal::Image(refusal) => u8::from(refusal),
             PresetRefusal::Parameters => 22,
             PresetRefusal::Locked => 20,
             PresetRefusal::Room => 21,
-        },
+        }
     }
 }
 
 // The answer for an image that is accepted.
-fn accepted_answer(image: &[u8], wanted: &[u8], room: usize) -> Written
+fn accepted_answer(image: &[u8], wanted: &[u8], room: usize) -> Result<(), PresetRefusal>
     requires { length image.now ≡ 60 }
     ensures { result ≡ accepted_answer image.now wanted.now room }
 {
     if wanted.len() != 32 {
-        return Written::Refused(PresetRefusal::Parameters);
+        return Err(PresetRefusal::Parameters);
     }
     if image[record::LOCKS_AT] / 2 % 2 == 1 {
-        return Written::Refused(PresetRefusal::Locked);
+        return Err(PresetRefusal::Locked);
     }
     if room < 120 {
-        return Written::Refused(PresetRefusal::Room);
+        return Err(PresetRefusal::Room);
     }
-    Written::Done
+    Ok(())
 }
 
-fn answer(image: &[u8], wanted: &[u8], room: usize) -> Written
+fn answer(image: &[u8], wanted: &[u8], room: usize) -> Result<(), PresetRefusal>
     ensures { result ≡ preset_answer image.now wanted.now room }
 {
     let judged = record::judged(image);
     match judged {
-        Taken::Run(_) => accepted_answer(image, wanted, room),
-        Taken::Refused(refusal) => Written::Refused(PresetRefusal::Image(refusal)),
+        Ok(_) => accepted_answer(image, wanted, room),
+        Err(refusal) => Err(PresetRefusal::Image(refusal)),
     }
 }
 
@@ -71,7 +64,7 @@ fn write_payload(wanted: &[u8]) -> [u8; 36]
     ensures { result ≡ write_payload wanted.now }
 {
     let mut payload = [0u8; 36];
-    slices::store4([0, 0xcc, 0x6c, 0x60], &mut payload, 0);
+    slices::store_array([0, 0xcc, 0x6c, 0x60], &mut payload, 0);
     slices::store(wanted, &mut payload, 4);
     payload
 }
@@ -86,22 +79,18 @@ fn put_session(image: &[u8], wanted: &[u8], room: &mut [u8])
     let writing = write_payload(wanted);
     let copying = [0u8, 0xcc, 0x48, 0x60];
     let reading = [32u8, 0xcc, 0x69, 0x60];
-    let a = runs::put_record(1, image, room, 0);
-    let b = runs::put_record(4, &writing, room, a);
-    let c = runs::put_record(4, &copying, room, b);
-    runs::put_record(4, &reading, room, c);
+    let mut page = Page::new(room);
+    runs::put_record(1, image, &mut page);
+    runs::put_record(4, &writing, &mut page);
+    runs::put_record(4, &copying, &mut page);
+    runs::put_record(4, &reading, &mut page);
 }
 
 // Writes the session at the front of the room, or nothing.
-pub fn write_session(image: &[u8], wanted: &[u8], room: &mut [u8]) -> Written
+pub fn write_session(image: &[u8], wanted: &[u8], room: &mut [u8]) -> Result<(), PresetRefusal>
     ensures { Programming image.now wanted.now room.old result room.new }
 {
-    let found = answer(image, wanted, room.len());
-    match found {
-        Written::Done => {
-            put_session(image, wanted, room);
-            Written::Done
-        }
-        Written::Refused(why) => Written::Refused(why),
-    }
+    answer(image, wanted, room.len())?;
+    put_session(image, wanted, room);
+    Ok(())
 }

@@ -8,13 +8,6 @@ use Rattle.params.specs.declared.Breaks.{Breaks}
 use Rattle.reading.specs.Reading.{forty}
 use Rattle.reading.specs.Product.{segments_of}
 
--- each end is at most 40 degrees, so that a segment has less than 256
-pub lower_still : {a b : ℕ} → a ≤ b → b ≤ forty → a ≤ forty
-lower_still p q = omega arith
-
-pub few : {a : ℕ} (b : ℕ) → a ≤ forty → a - b < 256
-few b h = omega arith
-
 -- ---- one segment: it starts at x and ends at its breakpoint b, or at x where b is above; but it neither starts nor ends below the lowest degree
 
 module _ (b t x low : ℕ) where

@@ -1,20 +1,18 @@
 -- What the definitions keep: a charge is well-formed after step 3, and bounds of what is seen; and what a per cent is.
-use mathlib.Core.Path.{◌≡◌, refl, sym}
+use mathlib.Core.Path.{◌≡◌, refl}
 use mathlib.Core.Bool.{Bool}
 use Prim.Native.Nat.{ℕ, ◌≤◌, ◌*◌, ◌/◌, ◌<◌}
 use native.Mathlib.Omega.{arith}
-use Rattle.numbers.specs.Choice.{pick, but_not}
+use Rattle.numbers.specs.Choice.{but_not}
 use Rattle.params.specs.declared.Limits.{Limits}
 use Rattle.state.specs.declared.Charge.{Charge}
-use Rattle.state.specs.State.{ChargeWf, MeterWf, acr_of}
+use Rattle.state.specs.State.{ChargeWf, acr_of}
 use Rattle.conversion.proofs.ChargeLaws.{share_high, set_wf}
-use Rattle.state.specs.declared.Results.{Results}
 use Rattle.reading.specs.declared.Seen.{Seen}
-use Rattle.reading.specs.Reading.{SeenWf, point_of, drained_of, results_shown, temp_of, degrees_of, emptied_of, percent_of, seen_of}
+use Rattle.reading.specs.Reading.{SeenWf, point_of, drained_of, temp_of, degrees_of, emptied_of, percent_of, seen_of}
 use Rattle.state.specs.declared.Meter.{Meter}
-use native.Mathlib.Nat.{le-div_iff_mul-le, div-lt_iff_lt-mul, div-zero}
-use lib.Dec.{ltb, eqb}
-use borrow.Author.Tests.{eqb-true, eqb-false}
+use native.Mathlib.Nat.{le-div_iff_mul-le, div-zero}
+use lib.Dec.{ltb}
 use Rattle.numbers.proofs.Bounds.{picked}
 use Rattle.params.specs.declared.Curves.{Curves}
 use Rattle.reading.proofs.ModelLaws.{lines_full, lines_ae}
@@ -38,14 +36,7 @@ unfolding drained_of
 drained_wf m p full40 s h seen w =
     emptied_wf m.charge s.holds (point_of m.shown.reading m.flow.trace p) _ (share_high _ full40 (omega (arith, seen.ae)) h) w
 
-pub results_shown_wf : (m : Meter) (s : Seen) (g : Charge) (r : Results) → SeenWf s → ChargeWf g → MeterWf m → MeterWf (results_shown m s g r)
-unfolding results_shown
-results_shown_wf m s g r seen h w = record { charge = h; average = w.average; full = seen.full; volt = seen.volt; temp = seen.temp }
-
--- ---- per cents: below 100 where N < D, else 100, or 0 where D is 0
-
-pub percent_low : (n d : ℕ) → n < d → 100 * n / d < 100
-percent_low n d h = let some : 0 < d = omega arith in (div-lt_iff_lt-mul some).1 (omega arith)
+-- ---- per cents: 100 where N is at least D, and D above 0; 0 where D is 0
 
 pub percent_full : (n d : ℕ) → 0 < d → d ≤ n → percent_of n d ≡ 100
 unfolding percent_of
@@ -56,8 +47,3 @@ percent_full n d some h =
 pub percent_none : (n : ℕ) → percent_of n 0 ≡ 0
 unfolding percent_of
 percent_none n = rw (div-zero (100 * n)) refl
-
-pub percent_high : (n d : ℕ) → d ≤ n → pick (eqb d 0) 0 100 ≡ percent_of n d
-percent_high n d h =
-    picked (λ (x : ℕ). x ≡ percent_of n d) (eqb d 0) 0 100 (λ e. sym (rw (eqb-true d 0 e) (percent_none n)))
-    (λ e. sym (percent_full n d (omega (arith, eqb-false d 0 e)) h))

@@ -114,7 +114,7 @@ seen_of limits curves v t = record {
   lines = model_lines curves (degrees_of (temp_of t));
 }
 
--- what holds of it
+-- what holds of it (a clause, as ChargeWf)
 pub record SeenWf (s : Seen) : Type 0 where
   pub volt : s.volt ≤ 1023
   pub temp : s.temp < 2 ^ 11

@@ -25,14 +25,16 @@ pub struct Seen {
 fn volt(raw: u32) -> u16
     ensures { result ≡ volt_of raw }
 {
-    numbers::at_most(1023, numbers::less(raw as u64, numbers::ZERO31 as u64)) as u16
+    u64::from(raw)
+        .saturating_sub(u64::from(numbers::ZERO31))
+        .min(1023) as u16
 }
 
 fn temp(raw: u32) -> u16
     ensures { result ≡ temp_of raw }
 {
-    let lowest = (numbers::ZERO31 as u64) - (numbers::ZERO10 as u64);
-    numbers::at_most(2047, numbers::less(raw as u64, lowest)) as u16
+    let lowest = u64::from(numbers::ZERO31) - u64::from(numbers::ZERO10);
+    u64::from(raw).saturating_sub(lowest).min(2047) as u16
 }
 
 // How many of the degrees from t up to 39 each segment has.
@@ -50,14 +52,14 @@ fn end(lowest: u64, top: u64, b: u8) -> u64
     ensures value { result ≡ moved_into lowest top b }
     ensures inside { (lowest ≤ result) × (result ≤ top) }
 {
-    numbers::at_least(lowest, numbers::at_most(top, b as u64))
+    (b as u64).clamp(lowest, top)
 }
 
 // Step 2: from 40 degrees, which stand as 168, down to t each segment starts where the one before it ends.
 fn segments(breaks: Breaks, t: u16) -> Degrees
     ensures { result ≡ segments_of breaks t }
 {
-    let end1 = numbers::at_most(168, t as u64);
+    let end1 = (t as u64).min(168);
     let end4 = end(end1, 168, breaks.b34);
     let end3 = end(end1, end4, breaks.b23);
     let end2 = end(end1, end3, breaks.b12);
@@ -91,15 +93,14 @@ fn weighed(degrees: Degrees, slopes: Slopes) -> u64
 fn full_line(slopes: u64) -> u16
     ensures { result ≡ full_line_of slopes }
 {
-    numbers::at_least(8192, numbers::less(16384, slopes)) as u16
+    16384u64.saturating_sub(slopes).max(8192) as u16
 }
 
 fn empty_line(start: u8, slopes: u64) -> u16
     requires { slopes < 2 ^ 42 }
     ensures { result ≡ empty_line_of start slopes }
 {
-    let line = 16 * (start as u64) + slopes;
-    numbers::at_most(8191, line) as u16
+    (16 * (start as u64) + slopes).min(8191) as u16
 }
 
 // Step 2: the three lines at t degrees.
@@ -107,15 +108,11 @@ pub fn model_lines(curves: Curves, t: u16) -> Model
     ensures value { result ≡ model_lines curves t }
     ensures small { (result.full ≤ 16384) × (result.ae ≤ 8191) }
 {
-    let breaks = curves.breaks;
-    let full = curves.full;
-    let ae = curves.ae;
-    let se = curves.se;
-    let degrees = segments(breaks, t);
+    let degrees = segments(curves.breaks, t);
     Model {
-        full: full_line(weighed(degrees, full)),
-        ae: empty_line(curves.start, weighed(degrees, ae)),
-        se: empty_line(0, weighed(degrees, se)),
+        full: full_line(weighed(degrees, curves.full)),
+        ae: empty_line(curves.start, weighed(degrees, curves.ae)),
+        se: empty_line(0, weighed(degrees, curves.se)),
     }
 }
 
@@ -127,12 +124,11 @@ impl Seen {
     {
         let volt = volt(v);
         let temp = temp(t);
-        let lines = model_lines(curves, (temp + 4) / 8);
         Seen {
-            volt: volt,
-            temp: temp,
+            volt,
+            temp,
             holds: 4 * (limits.vae as u16) <= volt,
-            lines: lines,
+            lines: model_lines(curves, (temp + 4) / 8),
         }
     }
 }
@@ -142,32 +138,30 @@ fn draining(trace: Trace, iae: u8) -> bool
     ensures { result ≡ draining_of trace iae }
 {
     let top = numbers::ZERO15 - 128 * (iae as u16);
-    let there = numbers::and(trace.any, trace.two);
-    numbers::and(there, numbers::and(trace.last < top, trace.before < top))
+    trace.any && trace.two && trace.last < top && trace.before < top
 }
 
 // Step 3: the empty point is found.
 pub fn point(reading: Reading, trace: Trace, limits: Limits) -> bool
     ensures { result ≡ point_of reading trace limits }
 {
-    let held = numbers::and(reading.known, 4 * (limits.vae as u16) <= reading.volt);
-    numbers::and(held, draining(trace, limits.iae))
+    reading.known && 4 * (limits.vae as u16) <= reading.volt && draining(trace, limits.iae)
 }
 
 // Step 3: holds says that VOLT ≥ 4 × VAE, point that the empty point is found, and e is E.
-pub fn emptied(mut charge: Charge, holds: bool, point: bool, e: u16) -> Charge
+pub fn emptied(charge: Charge, holds: bool, point: bool, e: u16) -> Charge
     ensures { result ≡ emptied_of charge holds point e }
 {
+    let cut = (e as u32) < charge.count / 4096 && !charge.learnf;
     if holds {
-        return charge;
+        charge
+    } else if point {
+        conversion::set(charge, e, 0 < e)
+    } else if cut {
+        conversion::set(charge, e, charge.learnf)
+    } else {
+        charge
     }
-    if point {
-        return conversion::set(charge, e, 0 < e);
-    }
-    if numbers::and_not((e as u32) < charge.count / 4096, charge.learnf) {
-        charge.count = (e as u32) * 4096;
-    }
-    charge
 }
 
 // Step 3.
@@ -188,23 +182,26 @@ fn left(acr: u16, empty: u16, full40: u16) -> u32
     ensures small { result ≤ 16384 * 65535 }
 {
     let spent = (empty as u64) * (full40 as u64);
-    numbers::less(16384 * (acr as u64), spent) as u32
+    (16384 * (acr as u64)).saturating_sub(spent) as u32
 }
 
 // Step 4: D, or 0 where it is not above 0.
 fn usable(af: u16, empty: u16, full40: u16) -> u32
     ensures { result ≡ usable_of af empty full40 }
 {
-    (numbers::less(af as u64, empty as u64) as u32) * (full40 as u32)
+    (af.saturating_sub(empty) as u32) * (full40 as u32)
 }
 
+// Step 4: a per cent. At 100 nothing is divided.
 fn percent(n: u32, d: u32) -> u8
     ensures { result ≡ percent_of n d }
 {
     if n < d {
         (100 * (n as u64) / (d as u64)) as u8
+    } else if d == 0 {
+        0
     } else {
-        numbers::choose8(d == 0, 0, 100)
+        100
     }
 }
 
@@ -244,13 +241,11 @@ pub fn rated(charge: Charge, lines: Model, capacity: Capacity) -> Results
 pub fn flagged(flags: Flags, holds: bool, results: Results) -> Flags
     ensures { result ≡ flagged_of flags holds results }
 {
-    let aef = numbers::and_not(flags.aef, 5 < results.rarc);
-    let sef = numbers::and_not(flags.sef, 15 < results.rsrc);
     Flags {
-        porf: flags.porf,
-        chgtf: numbers::and_not(flags.chgtf, results.rarc < 90),
-        aef: numbers::choose_bool(holds, aef, true),
-        sef: numbers::or(results.rsrc < 10, sef),
+        chgtf: flags.chgtf && 90 <= results.rarc,
+        aef: !holds || (flags.aef && results.rarc <= 5),
+        sef: results.rsrc < 10 || (flags.sef && results.rsrc <= 15),
+        ..flags
     }
 }
 
@@ -259,11 +254,14 @@ pub fn kept(saved: Saved, save: bool, charge: Charge, cycles: u8) -> Saved
     requires { ChargeWf charge }
     ensures { result ≡ kept_of saved save charge cycles }
 {
-    let acr = (charge.count / 4096) as u16;
-    Saved {
-        acr: numbers::choose16(save, acr, saved.acr),
-        aging: numbers::choose8(save, charge.aging, saved.aging),
-        cycles: numbers::choose8(save, cycles, saved.cycles),
+    if save {
+        Saved {
+            acr: (charge.count / 4096) as u16,
+            aging: charge.aging,
+            cycles,
+        }
+    } else {
+        saved
     }
 }
 
@@ -271,10 +269,13 @@ pub fn kept(saved: Saved, save: bool, charge: Charge, cycles: u8) -> Saved
 pub fn lowered(since: Since, volt: u16) -> Since
     ensures { result ≡ lowered_of since volt }
 {
-    let lower = numbers::at_most(volt as u64, since.lowest as u64) as u16;
     Since {
         any: true,
-        lowest: numbers::choose16(since.any, lower, volt),
+        lowest: if since.any {
+            since.lowest.min(volt)
+        } else {
+            volt
+        },
     }
 }
 
@@ -287,7 +288,8 @@ fn results_shown(mut meter: Meter, seen: Seen, charge: Charge, results: Results)
     ensures kept { MeterWf result }
 {
     let same = meter.shown.results.rarc / 4 == results.rarc / 4;
-    let save = numbers::and_not(meter.shown.reading.known, same);
+    let save = meter.shown.reading.known && !same;
+    // Field by field, here and below: a small struct that is stored at once is packed into one number wherever it goes.
     let saved = kept(meter.cells.saved, save, charge, meter.cycles.count);
     meter.cells.saved.acr = saved.acr;
     meter.cells.saved.aging = saved.aging;
@@ -296,10 +298,9 @@ fn results_shown(mut meter: Meter, seen: Seen, charge: Charge, results: Results)
     let since = lowered(meter.flow.since, seen.volt);
     meter.flow.since.any = since.any;
     meter.flow.since.lowest = since.lowest;
-    let lines = seen.lines;
-    let shown = Shown {
-        model: lines,
-        results: results,
+    meter.shown = Shown {
+        model: seen.lines,
+        results,
         reading: Reading {
             volt: seen.volt,
             temp: seen.temp,
@@ -307,12 +308,11 @@ fn results_shown(mut meter: Meter, seen: Seen, charge: Charge, results: Results)
         },
         flags: flagged(meter.shown.flags, seen.holds, results),
     };
-    meter.shown = shown;
     meter
 }
 
 // A reading of any signed 32-bit voltage and temperature, which come as z + 2^31.
-pub fn read(mut meter: Meter, v: u32, t: u32) -> Meter
+pub fn read(meter: Meter, v: u32, t: u32) -> Meter
     requires { MeterWf meter }
     ensures value { result ≡ read_of meter v t }
     ensures kept { MeterWf result }

@@ -7,6 +7,7 @@ use native.Mathlib.Omega.{arith}
 use borrow.Author.Tests.{le-ltb, leb-true, eqb-true, ne_eqb, not-true}
 use lib.Dec.{leb, eqb, ltb}
 use lib.ListN.{length, drop}
+use Rattle.std.specs.Prelude.{Ok, Err}
 use Rattle.numbers.proofs.Bounds.{picked, both_true}
 use Rattle.slices.specs.Slices.{pair_at}
 use Rattle.state.specs.declared.Tick.{Tick}
@@ -21,12 +22,10 @@ use Rattle.record.specs.declared.Refusal.{Refusal}
 use Rattle.record.specs.declared.Refusal.TheVariants as refusal
 use Rattle.record.specs.declared.Event.{Event}
 use Rattle.record.specs.declared.Event.TheVariants.{Image, Change, Transact}
-use Rattle.record.specs.declared.Taken.{Taken}
-use Rattle.record.specs.declared.Taken.TheVariants.{Run, Refused}
 use Rattle.record.specs.Image.{image_address, image_breaks}
 use Rattle.record.specs.Record.{refusal_number, kind_of, known_of, head_of, limit_of, read_count, sized_of, due_of, addressed_of, lockable_of, ordered_of}
 use Rattle.record.specs.Record.{judged_among, judged_by, transaction_in, transaction_of, event_of, taken_by, taken_of, event_timely, timed_of, fitted_of}
-use Rattle.record.specs.Record.{Mastered}
+use Rattle.record.specs.Record.{Mastered, Taken}
 
 -- ---- the forms
 
@@ -38,10 +37,14 @@ limit_few : (f : Form) → limit_of f ≤ 256
 limit_few Short = omega arith
 limit_few Long = omega arith
 
+-- a transaction asks for as many bytes as its read count says
+pub counts_asked : (f : Form) (p : List ℕ) → (transaction_in f p).count ≡ read_count f p
+counts_asked f p = (asked_placed (head_of f) (read_count f p) (drop (head_of f) p)).counts
+
 -- ---- what is taken: refused, or the event of its kind's size at its time
 
 module _ (again loaded : Bool) (p : List ℕ) (P : Taken → Type 0) where
-  taken_has : P (Refused refusal.Kind) → P (Refused refusal.Size) → P (Refused refusal.Order)
+  taken_has : P (Err refusal.Kind) → P (Err refusal.Size) → P (Err refusal.Order)
       → (k : Kind) → (sized_of k (length p) ≡ true → due_of k loaded ≡ true → P (event_of again k p)) → P (taken_by again k loaded p)
   taken_has kind size order k h =
       picked P (known_of k) _ _
@@ -54,17 +57,17 @@ module _ (again loaded : Bool) (p : List ℕ) (P : Taken → Type 0) where
 -- after one was
 
 abbrev pub Taking : Bool → Bool → List ℕ → Taken → Type 0
-Taking again loaded p (Run (Image f)) = (loaded ≡ false) × (judged_among f again p ≡ Run (Image f)) × (length p ≡ image_size_of f)
-Taking again loaded p (Run (Change c)) = loaded ≡ true
-Taking again loaded p (Run (Transact t)) = (loaded ≡ true) × Mastered t p
-Taking again loaded p (Refused r) = Unit
+Taking again loaded p (Ok (Image f)) = (loaded ≡ false) × (judged_among f again p ≡ Ok (Image f)) × (length p ≡ image_size_of f)
+Taking again loaded p (Ok (Change c)) = loaded ≡ true
+Taking again loaded p (Ok (Transact t)) = (loaded ≡ true) × Mastered t p
+Taking again loaded p (Err r) = Unit
 
 -- the judge accepts an image of its profile, or refuses
 abbrev Verdict : Profile → Taken → Type 0
-Verdict f (Run (Image g)) = f ≡ g
-Verdict f (Run (Change c)) = ⊥
-Verdict f (Run (Transact t)) = ⊥
-Verdict f (Refused r) = Unit
+Verdict f (Ok (Image g)) = f ≡ g
+Verdict f (Ok (Change c)) = ⊥
+Verdict f (Ok (Transact t)) = ⊥
+Verdict f (Err r) = Unit
 
 verdict : (f : Profile) (again : Bool) (p : List ℕ) → Verdict f (judged_among f again p)
 unfolding judged_among
@@ -81,11 +84,11 @@ verdict f again p =
 module _ (again loaded : Bool) (p : List ℕ) where
   image_taking : (f : Profile) (t : Taken) → Verdict f t → judged_among f again p ≡ t → loaded ≡ false → length p ≡ image_size_of f →
       Taking again loaded p t
-  image_taking f (Run (Image g)) v e l s =
-      (l, subst (λ (x : Profile). judged_among x again p ≡ Run (Image g)) v e, subst (λ (x : Profile). length p ≡ image_size_of x) v s)
-  image_taking f (Run (Change c)) v e l s = absurd v
-  image_taking f (Run (Transact t)) v e l s = absurd v
-  image_taking f (Refused r) v e l s = tt
+  image_taking f (Ok (Image g)) v e l s =
+      (l, subst (λ (x : Profile). judged_among x again p ≡ Ok (Image g)) v e, subst (λ (x : Profile). length p ≡ image_size_of x) v s)
+  image_taking f (Ok (Change c)) v e l s = absurd v
+  image_taking f (Ok (Transact t)) v e l s = absurd v
+  image_taking f (Err r) v e l s = tt
 
   mastered : (f : Form) → head_of f ≤ length p → read_count f p ≤ limit_of f → Mastered (transaction_in f p) p
   mastered f h few =
@@ -123,8 +126,8 @@ module _ (again loaded : Bool) (p : List ℕ) where
   timed_by last k = timed (taken_by again k loaded p) (taking k)
     where
       timed : (t : Taken) → Taking again loaded p t → Taking again loaded p (timed_of last t)
-      timed (Run e) h = picked (Taking again loaded p) (event_timely last e) (Run e) _ (λ timely. h) (λ other. tt)
-      timed (Refused r) h = tt
+      timed (Ok e) h = picked (Taking again loaded p) (event_timely last e) (Ok e) _ (λ timely. h) (λ other. tt)
+      timed (Err r) h = tt
 
 -- which event a kind asks, if it is not refused: an image, a change or a transaction
 
@@ -143,15 +146,15 @@ event_sort (Change c) = 1
 event_sort (Transact t) = 2
 
 abbrev pub Sorted : Kind → Taken → Type 0
-Sorted k (Run e) = event_sort e ≡ kind_sort k
-Sorted k (Refused r) = Unit
+Sorted k (Ok e) = event_sort e ≡ kind_sort k
+Sorted k (Err r) = Unit
 
 module _ (again loaded : Bool) (p : List ℕ) (last : Tick) where
   judged_sorted : (f : Profile) (t : Taken) → Verdict f t → Sorted (kind.Image f) t
-  judged_sorted f (Run (Image g)) v = refl
-  judged_sorted f (Run (Change c)) v = absurd v
-  judged_sorted f (Run (Transact t)) v = absurd v
-  judged_sorted f (Refused r) v = tt
+  judged_sorted f (Ok (Image g)) v = refl
+  judged_sorted f (Ok (Change c)) v = absurd v
+  judged_sorted f (Ok (Transact t)) v = absurd v
+  judged_sorted f (Err r) v = tt
 
   event_sorted : (k : Kind) → Sorted k (event_of again k p)
   event_sorted (kind.Image f) = judged_sorted f (judged_among f again p) (verdict f again p)
@@ -166,8 +169,8 @@ module _ (again loaded : Bool) (p : List ℕ) (last : Tick) where
   sorted_by k = timed (taken_by again k loaded p) (taken_has again loaded p (Sorted k) tt tt tt k (λ sized due. event_sorted k))
     where
       timed : (t : Taken) → Sorted k t → Sorted k (timed_of last t)
-      timed (Run e) h = picked (Sorted k) (event_timely last e) (Run e) _ (λ timely. h) (λ other. tt)
-      timed (Refused r) h = tt
+      timed (Ok e) h = picked (Sorted k) (event_timely last e) (Ok e) _ (λ timely. h) (λ other. tt)
+      timed (Err r) h = tt
 
 -- of a plain session
 pub plain_taking : (loaded : Bool) (p : List ℕ) (n : ℕ) → Taking false loaded p (taken_of n loaded p)
@@ -179,16 +182,16 @@ unfolding taken_of
 timed_taking loaded p last n = timed_by false loaded p last (kind_of n)
 
 -- what the judge accepts is an image of that profile
-pub judged_image : (f : Profile) (p : List ℕ) {e : Event} → judged_by f p ≡ Run e → judged_by f p ≡ Run (Image f)
+pub judged_image : (f : Profile) (p : List ℕ) {e : Event} → judged_by f p ≡ Ok e → judged_by f p ≡ Ok (Image f)
 judged_image f p {e} h = h ∙ by e (rw h at (verdict f false p))
   where
-    by : (e : Event) → Verdict f (Run e) → Run e ≡ Run (Image f)
-    by (Image g) v = ap (λ (x : Profile). Run (Image x)) (sym v)
+    by : (e : Event) → Verdict f (Ok e) → ◌≡◌ {A = Taken} (Ok e) (Ok (Image f))
+    by (Image g) v = ap (λ (x : Profile). Ok (Image x)) (sym v)
     by (Change c) v = absurd v
     by (Transact t) v = absurd v
 
 -- and it has the size of its profile
-pub judged_sized : (f : Profile) (p : List ℕ) {e : Event} → judged_by f p ≡ Run e → length p ≡ image_size_of f
+pub judged_sized : (f : Profile) (p : List ℕ) {e : Event} → judged_by f p ≡ Ok e → length p ≡ image_size_of f
 unfolding judged_among
 judged_sized f p {e} h = by (eqb (length p) (image_size_of f)) refl
   where
@@ -222,10 +225,10 @@ module _ (last : Tick) (again loaded : Bool) (p : List ℕ) where
     no_room = le-ltb room 0 zero-le
 
     verdict_passes : (f : Profile) (t : Taken) → Verdict f t → Passes t
-    verdict_passes f (Run (Image g)) v = rw no_room refl
-    verdict_passes f (Run (Change c)) v = absurd v
-    verdict_passes f (Run (Transact t)) v = absurd v
-    verdict_passes f (Refused r) v = refl
+    verdict_passes f (Ok (Image g)) v = rw no_room refl
+    verdict_passes f (Ok (Change c)) v = absurd v
+    verdict_passes f (Ok (Transact t)) v = absurd v
+    verdict_passes f (Err r) v = refl
 
     event_passes : (k : Kind) → Stateless k → Passes (event_of again k p)
     event_passes (kind.Image f) h = verdict_passes f (judged_among f again p) (verdict f again p)
@@ -260,8 +263,8 @@ refusal_range refusal.Repeated = (omega arith, omega arith)
 
 -- an event, or a refusal whose number is at most so much
 abbrev pub NumberedTo : ℕ → Taken → Type 0
-NumberedTo most (Run e) = Unit
-NumberedTo most (Refused r) = refusal_number r ≤ most
+NumberedTo most (Ok e) = Unit
+NumberedTo most (Err r) = refusal_number r ≤ most
 
 -- 12 is answered in no plain session
 plain_event : (k : Kind) (p : List ℕ) → NumberedTo 11 (event_of false k p)
@@ -287,19 +290,19 @@ plain_numbered last n loaded p =
     (taken_has false loaded p (NumberedTo 11) (omega arith) (omega arith) (omega arith) (kind_of n) (λ sized due. plain_event (kind_of n) p))
   where
     timed : (t : Taken) → NumberedTo 11 t → NumberedTo 11 (timed_of last t)
-    timed (Run e) h = picked (NumberedTo 11) (event_timely last e) (Run e) _ (λ timely. h) (λ other. omega arith)
-    timed (Refused r) h = h
+    timed (Ok e) h = picked (NumberedTo 11) (event_timely last e) (Ok e) _ (λ timely. h) (λ other. omega arith)
+    timed (Err r) h = h
 
 -- an image that is accepted beside others is one that is accepted by itself
-pub judged_alone : (f : Profile) (again : Bool) (p : List ℕ) → judged_among f again p ≡ Run (Image f) →
-    (again ≡ false) × (judged_by f p ≡ Run (Image f))
+pub judged_alone : (f : Profile) (again : Bool) (p : List ℕ) → judged_among f again p ≡ Ok (Image f) →
+    (again ≡ false) × (judged_by f p ≡ Ok (Image f))
 unfolding judged_among
 judged_alone f false p e = (refl, e)
 judged_alone f true p e = absurd (rw e at (never p))
   where
     Never : Taken → Type 0
-    Never (Run e) = ⊥
-    Never (Refused r) = Unit
+    Never (Ok e) = ⊥
+    Never (Err r) = Unit
 
     never : (p : List ℕ) → Never (judged_among f true p)
     never p =
@@ -308,7 +311,7 @@ judged_alone f true p e = absurd (rw e at (never p))
         (λ a. tt)
 
 -- 3, of every kind above the last one
-pub unknown_above : (n : ℕ) (loaded : Bool) (p : List ℕ) → 8 < n → taken_of n loaded p ≡ Refused refusal.Kind
+pub unknown_above : (n : ℕ) (loaded : Bool) (p : List ℕ) → 8 < n → taken_of n loaded p ≡ Err refusal.Kind
 unfolding taken_of kind_of
 unknown_above n loaded p h =
     let other : (k : ℕ) → k < n → eqb n k ≡ false = λ k l. ne_eqb n k (λ e. omega (arith, l, e)) in

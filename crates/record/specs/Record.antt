@@ -1,5 +1,5 @@
 -- What a record of a kind and a payload asks: a record is either an event or a numbered refusal.
-use Rattle.std.specs.Prelude.{◌≡◌, ℕ, ◌+◌, ◌≤◌, Bool, true, false, not, List, ltb, leb, eqb, ℤ, pos, length, get_or, drop}
+use Rattle.std.specs.Prelude.{◌≡◌, ℕ, ◌+◌, ◌≤◌, Bool, true, false, not, List, ltb, leb, eqb, ℤ, pos, length, get_or, drop, Result, Ok, Err}
 use Rattle.std.specs.Int.Signed.{le_z}
 use Rattle.numbers.specs.Choice.{pick, both}
 use Rattle.numbers.specs.Offset.{zero_at, offset32_of}
@@ -22,9 +22,11 @@ use Rattle.record.specs.declared.Change.{Change as Changes}
 use Rattle.record.specs.declared.Change.TheVariants as change
 use Rattle.record.specs.declared.Event.{Event}
 use Rattle.record.specs.declared.Event.TheVariants.{Image, Change, Transact}
-use Rattle.record.specs.declared.Taken.{Taken}
-use Rattle.record.specs.declared.Taken.TheVariants.{Run, Refused}
 use Rattle.record.specs.Image.{image_address, image_breaks, image_locks}
+
+-- a record is either an event or a numbered refusal
+abbrev pub Taken : Type 0
+Taken = Result Event Refusal
 
 -- ---- the answer numbers
 
@@ -41,8 +43,8 @@ refusal_number refusal.Interval = 11
 refusal_number refusal.Repeated = 12
 
 abbrev pub taken_number : Taken → ℕ
-taken_number (Run e) = 0
-taken_number (Refused r) = refusal_number r
+taken_number (Ok e) = 0
+taken_number (Err r) = refusal_number r
 
 -- ---- the kinds
 
@@ -105,6 +107,10 @@ due_of kind.PowerOn loaded = loaded
 due_of kind.Sample loaded = loaded
 due_of kind.Unknown loaded = false
 
+-- both, in this order
+abbrev pub front_of : Bool → Bool → Result Unit Refusal
+front_of sized due = pick sized (pick due (Ok tt) (Err refusal.Order)) (Err refusal.Size)
+
 -- ---- an image, judged by itself
 
 -- first address byte 3Dh, of kind 8 32h ("6 asks the profile's family"), and the eighth the CRC of the first seven
@@ -130,11 +136,11 @@ judged_among profile again p =
     (pick (addressed_of profile (image_address p))
     (pick (lockable_of p)
     (pick (not again)
-    (pick (ordered_of (image_breaks p)) (Run (Image profile)) (Refused refusal.Breaks))
-    (Refused refusal.Repeated))
-    (Refused refusal.Locks))
-    (Refused refusal.Address))
-    (Refused refusal.Size)
+    (pick (ordered_of (image_breaks p)) (Ok (Image profile)) (Err refusal.Breaks))
+    (Err refusal.Repeated))
+    (Err refusal.Locks))
+    (Err refusal.Address))
+    (Err refusal.Size)
 
 -- by itself
 abbrev pub judged_by : Profile → List ℕ → Taken
@@ -160,17 +166,17 @@ transaction_in form p = asked_of (head_of form) (read_count form p) (drop (head_
 
 -- 8: read count above 64, in kind 7 above 256
 abbrev pub transaction_of : Form → List ℕ → Taken
-transaction_of form p = pick (leb (read_count form p) (limit_of form)) (Run (Transact (transaction_in form p))) (Refused refusal.Count)
+transaction_of form p = pick (leb (read_count form p) (limit_of form)) (Ok (Transact (transaction_in form p))) (Err refusal.Count)
 
 -- the event of a record of its kind's size, at its time; of an image by whether another pack has its address
 abbrev pub event_of : Bool → Kind → List ℕ → Taken
 event_of again (kind.Image f) p = judged_among f again p
-event_of again kind.Reading p = Run (Change (change.Reading (count_at p 0) (count_at p 4)))
-event_of again kind.Conversion p = Run (Change (change.Conversion (count_at p 0)))
+event_of again kind.Reading p = Ok (Change (change.Reading (count_at p 0) (count_at p 4)))
+event_of again kind.Conversion p = Ok (Change (change.Conversion (count_at p 0)))
 event_of again (kind.Transaction f) p = transaction_of f p
-event_of again kind.PowerOn p = Run (Change change.PowerOn)
-event_of again kind.Sample p = Run (Change (change.Sample (count_at p 0) (pair_at p 4)))
-event_of again kind.Unknown p = Refused refusal.Kind
+event_of again kind.PowerOn p = Ok (Change change.PowerOn)
+event_of again kind.Sample p = Ok (Change (change.Sample (count_at p 0) (pair_at p 4)))
+event_of again kind.Unknown p = Err refusal.Kind
 
 -- ---- the first refusal that applies, or the event
 
@@ -178,9 +184,9 @@ abbrev pub taken_by : Bool → Kind → Bool → List ℕ → Taken
 taken_by again which loaded p =
     pick (known_of which)
     (pick (sized_of which (length p))
-    (pick (due_of which loaded) (event_of again which p) (Refused refusal.Order))
-    (Refused refusal.Size))
-    (Refused refusal.Kind)
+    (pick (due_of which loaded) (event_of again which p) (Err refusal.Order))
+    (Err refusal.Size))
+    (Err refusal.Kind)
 
 -- 3 to 8 and 10, by the record and whether an image was accepted
 unfoldable pub taken_of : ℕ → Bool → List ℕ → Taken
@@ -202,8 +208,8 @@ event_timely last (Transact t) = true
 
 -- 11: the difference is 0 or above 64
 abbrev pub timed_of : Tick → Taken → Taken
-timed_of last (Run e) = pick (event_timely last e) (Run e) (Refused refusal.Interval)
-timed_of last (Refused r) = Refused r
+timed_of last (Ok e) = pick (event_timely last e) (Ok e) (Err refusal.Interval)
+timed_of last (Err r) = Err r
 
 -- how many bytes of the reply room an event asks
 abbrev pub asks_of : Event → ℕ
@@ -213,8 +219,8 @@ asks_of (Transact t) = t.count
 
 -- 9: reply room left is less than the read count
 abbrev pub fitted_of : ℕ → Taken → Taken
-fitted_of room (Run e) = pick (ltb room (asks_of e)) (Refused refusal.Room) (Run e)
-fitted_of room (Refused r) = Refused r
+fitted_of room (Ok e) = pick (ltb room (asks_of e)) (Err refusal.Room) (Ok e)
+fitted_of room (Err r) = Err r
 
 -- ---- what the payload of an event has: an image the bytes of its profile; a transaction its master bytes, and in them those to be written
 

@@ -2,8 +2,8 @@
 #![tactic(auto)]
 
 ghost use Rattle.std.specs.Prelude.{false, ◌≡◌, ◌≤◌, length};
-ghost use Rattle.record.specs.Record.{taken_number, kind_of, head_of, limit_of, read_count, addressed_of, ordered_of};
-ghost use Rattle.record.specs.Record.{judged_among, judged_of, taken_by, taken_of, timed_of, fitted_of};
+ghost use Rattle.record.specs.Record.{refusal_number, taken_number, kind_of, head_of, limit_of, read_count, addressed_of, ordered_of};
+ghost use Rattle.record.specs.Record.{judged_among, judged_of, front_of, taken_by, taken_of, timed_of, fitted_of};
 
 use bus::Transaction;
 use params::Breaks;
@@ -77,20 +77,12 @@ pub enum Event {
     Transact(Transaction),
 }
 
-// A record is either an event or a numbered refusal.
-#[derive(Clone, Copy)]
-pub enum Taken {
-    Run(Event),
-    Refused(Refusal),
-}
-
-// The answer's number.
-pub fn taken_number(taken: Taken) -> u8
-    ensures { result ≡ taken_number taken }
-{
-    match taken {
-        Taken::Run(_) => 0,
-        Taken::Refused(refusal) => match refusal {
+// The number that a refusal is answered with.
+impl From<Refusal> for u8 {
+    fn from(refusal: Refusal) -> u8
+        ensures { result ≡ refusal_number refusal }
+    {
+        match refusal {
             Refusal::Kind => 3,
             Refusal::Size => 4,
             Refusal::Order => 5,
@@ -101,13 +93,25 @@ pub fn taken_number(taken: Taken) -> u8
             Refusal::Breaks => 10,
             Refusal::Interval => 11,
             Refusal::Repeated => 12,
-        },
+        }
+    }
+}
+
+// The answer's number: 0 of an event. (Of the whole answer: `runs::read_off` takes the number before its `let else` takes the event.)
+pub fn taken_number(taken: Result<Event, Refusal>) -> u8
+    ensures { result ≡ taken_number taken }
+{
+    match taken {
+        Ok(_) => 0,
+        Err(refusal) => u8::from(refusal),
     }
 }
 
 // No kind of a plain session is above it.
 pub const LAST_KIND: u16 = 8;
 
+// No `From`: a tray has other numbers.
+#[tactic(auto, unfolding(crate::specs::Record::kind_of))]
 fn kind_of(n: u16) -> Kind
     ensures { result ≡ kind_of n }
 {
@@ -125,48 +129,48 @@ fn kind_of(n: u16) -> Kind
 }
 
 // The address of eight bytes has the profile's family code and its own CRC.
+#[tactic(auto, unfolding(crate::specs::Record::addressed_of))]
 fn addressed(profile: Profile, address: &[u8]) -> bool
     requires { length address.now ≡ 8 }
     ensures { result ≡ addressed_of profile address.now }
 {
-    let c = crc::crc(&address[0..7]);
-    numbers::and(address[0] == state::family(profile), address[7] == c)
+    address[0] == state::family(profile) && address[7] == crc::crc(&address[..7])
 }
 
 // The breakpoints follow one another, and none is above 40 °C.
+#[tactic(auto, unfolding(crate::specs::Record::ordered_of))]
 fn ordered(breaks: Breaks) -> bool
     ensures { result ≡ ordered_of breaks }
 {
-    let upper = numbers::and(breaks.b23 <= breaks.b34, breaks.b34 <= numbers::ZERO7 + 40);
-    numbers::and(breaks.b12 <= breaks.b23, upper)
+    breaks.b12 <= breaks.b23 && breaks.b23 <= breaks.b34 && breaks.b34 <= numbers::ZERO7 + 40
 }
 
 // An image, judged by itself and by whether another pack has its address: whether it comes in its time is not asked here.
-fn judged_among(profile: Profile, again: bool, image: &[u8]) -> Taken
+#[tactic(auto, unfolding(crate::specs::Record::judged_among))]
+fn judged_among(profile: Profile, again: bool, image: &[u8]) -> Result<Event, Refusal>
     ensures { result ≡ judged_among profile again image.now }
 {
-    let mut taken = Taken::Refused(Refusal::Size);
-    if image.len() == state::image_size(profile) {
-        taken = Taken::Refused(Refusal::Address);
-        if addressed(profile, &image[ADDRESS_AT..LABEL_AT]) {
-            taken = Taken::Refused(Refusal::Locks);
-            if image[LOCKS_AT] <= 3 {
-                taken = Taken::Refused(Refusal::Repeated);
-                if !again {
-                    taken = Taken::Refused(Refusal::Breaks);
-                    let block = slices::thirty_two(image, BLOCK_AT);
-                    if ordered(Breaks::of(&block)) {
-                        taken = Taken::Run(Event::Image(profile));
-                    }
-                }
-            }
-        }
+    if image.len() != state::image_size(profile) {
+        return Err(Refusal::Size);
     }
-    taken
+    if !addressed(profile, &image[ADDRESS_AT..LABEL_AT]) {
+        return Err(Refusal::Address);
+    }
+    if image[LOCKS_AT] > 3 {
+        return Err(Refusal::Locks);
+    }
+    if again {
+        return Err(Refusal::Repeated);
+    }
+    let block = slices::array_at(image, BLOCK_AT);
+    if !ordered(Breaks::of(&block)) {
+        return Err(Refusal::Breaks);
+    }
+    Ok(Event::Image(profile))
 }
 
 // An image of kind 1, judged by itself.
-pub fn judged(image: &[u8]) -> Taken
+pub fn judged(image: &[u8]) -> Result<Event, Refusal>
     ensures { result ≡ judged_of image.now }
 {
     judged_among(Profile::Ds2781, false, image)
@@ -174,43 +178,41 @@ pub fn judged(image: &[u8]) -> Taken
 
 // ---- a reader for each kind
 
-fn image_taken(profile: Profile, again: bool, loaded: bool, image: &[u8]) -> Taken
+// What every reader asks first: a payload of its kind's size, and then whether the record is due.
+fn check_front(sized: bool, due: bool) -> Result<(), Refusal>
+    ensures { result ≡ front_of sized due }
+{
+    if !sized {
+        return Err(Refusal::Size);
+    }
+    if !due {
+        return Err(Refusal::Order);
+    }
+    Ok(())
+}
+
+fn image_taken(profile: Profile, again: bool, loaded: bool, image: &[u8]) -> Result<Event, Refusal>
     ensures { result ≡ taken_by again (Kind.Image profile) loaded image.now }
 {
-    if image.len() != state::image_size(profile) {
-        return Taken::Refused(Refusal::Size);
-    }
-    if !loaded {
-        return judged_among(profile, again, image);
-    }
-    Taken::Refused(Refusal::Order)
+    check_front(image.len() == state::image_size(profile), !loaded)?;
+    judged_among(profile, again, image)
 }
 
-fn reading_taken(loaded: bool, payload: &[u8]) -> Taken
+fn reading_taken(loaded: bool, payload: &[u8]) -> Result<Event, Refusal>
     ensures { result ≡ taken_by false Kind.Reading loaded payload.now }
 {
-    if payload.len() != 8 {
-        return Taken::Refused(Refusal::Size);
-    }
-    if loaded {
-        let volt = numbers::offset32(slices::quad(payload, 0));
-        let temp = numbers::offset32(slices::quad(payload, 4));
-        return Taken::Run(Event::Change(Change::Reading(volt, temp)));
-    }
-    Taken::Refused(Refusal::Order)
+    check_front(payload.len() == 8, loaded)?;
+    let volt = numbers::offset32(slices::quad(payload, 0));
+    let temp = numbers::offset32(slices::quad(payload, 4));
+    Ok(Event::Change(Change::Reading(volt, temp)))
 }
 
-fn conversion_taken(loaded: bool, payload: &[u8]) -> Taken
+fn conversion_taken(loaded: bool, payload: &[u8]) -> Result<Event, Refusal>
     ensures { result ≡ taken_by false Kind.Conversion loaded payload.now }
 {
-    if payload.len() != 4 {
-        return Taken::Refused(Refusal::Size);
-    }
-    if loaded {
-        let raw = numbers::offset32(slices::quad(payload, 0));
-        return Taken::Run(Event::Change(Change::Conversion(raw)));
-    }
-    Taken::Refused(Refusal::Order)
+    check_front(payload.len() == 4, loaded)?;
+    let raw = numbers::offset32(slices::quad(payload, 0));
+    Ok(Event::Change(Change::Conversion(raw)))
 }
 
 // How many bytes the read count of a form has.
@@ -240,67 +242,52 @@ fn read_count(form: Form, payload: &[u8]) -> u16
     ensures { result ≡ read_count form payload.now }
 {
     match form {
-        Form::Short => slices::wide(payload[0]) as u16,
+        Form::Short => u16::from(payload[0]),
         Form::Long => slices::pair(payload, 0),
     }
 }
 
 // The read count, which the room that is left must hold, and what the master bytes after it ask.
-fn transaction_taken(form: Form, loaded: bool, room: usize, payload: &[u8]) -> Taken
+fn transaction_taken(
+    form: Form,
+    loaded: bool,
+    room: usize,
+    payload: &[u8],
+) -> Result<Event, Refusal>
     ensures { result ≡ fitted_of room (taken_by false (Kind.Transaction form) loaded payload.now) }
 {
     let start = head(form);
     let most = limit(form);
-    if payload.len() < start {
-        return Taken::Refused(Refusal::Size);
+    check_front((start..=start + most).contains(&payload.len()), loaded)?;
+    let count = read_count(form, payload);
+    let n = count as usize;
+    if most < n {
+        return Err(Refusal::Count);
     }
-    if start + most < payload.len() {
-        return Taken::Refused(Refusal::Size);
+    if room < n {
+        return Err(Refusal::Room);
     }
-    if loaded {
-        let count = read_count(form, payload);
-        let n = count as usize;
-        if most < n {
-            return Taken::Refused(Refusal::Count);
-        }
-        if room < n {
-            return Taken::Refused(Refusal::Room);
-        }
-        let transaction = bus::asked(start as u32, count, &payload[start..]);
-        return Taken::Run(Event::Transact(transaction));
-    }
-    Taken::Refused(Refusal::Order)
+    Ok(Event::Transact(bus::asked(start as u32, count, &payload[start..])))
 }
 
-fn power_on_taken(loaded: bool, payload: &[u8]) -> Taken
+fn power_on_taken(loaded: bool, payload: &[u8]) -> Result<Event, Refusal>
     ensures { result ≡ taken_by false Kind.PowerOn loaded payload.now }
 {
-    let mut taken = Taken::Refused(Refusal::Size);
-    if payload.len() == 0 {
-        taken = Taken::Refused(Refusal::Order);
-        if loaded {
-            taken = Taken::Run(Event::Change(Change::PowerOn));
-        }
-    }
-    taken
+    check_front(payload.is_empty(), loaded)?;
+    Ok(Event::Change(Change::PowerOn))
 }
 
 // A sample, which comes 1 to 64 ticks after the one remembered.
-fn sample_taken(loaded: bool, last: Tick, payload: &[u8]) -> Taken
+fn sample_taken(loaded: bool, last: Tick, payload: &[u8]) -> Result<Event, Refusal>
     ensures { result ≡ timed_of last (taken_by false Kind.Sample loaded payload.now) }
 {
-    if payload.len() != 6 {
-        return Taken::Refused(Refusal::Size);
+    check_front(payload.len() == 6, loaded)?;
+    let current = numbers::offset32(slices::quad(payload, 0));
+    let tick = slices::pair(payload, 4);
+    if !state::timely(last, tick) {
+        return Err(Refusal::Interval);
     }
-    if loaded {
-        let current = numbers::offset32(slices::quad(payload, 0));
-        let tick = slices::pair(payload, 4);
-        if state::timely(last, tick) {
-            return Taken::Run(Event::Change(Change::Sample(current, tick)));
-        }
-        return Taken::Refused(Refusal::Interval);
-    }
-    Taken::Refused(Refusal::Order)
+    Ok(Event::Change(Change::Sample(current, tick)))
 }
 
 // The event of a record of a kind, or the first refusal that applies, with a tick that is remembered and so many bytes of reply room left; an
@@ -312,7 +299,7 @@ pub fn fitted_by(
     last: Tick,
     room: usize,
     payload: &[u8],
-) -> Taken
+) -> Result<Event, Refusal>
     ensures { result ≡ fitted_of room (timed_of last (taken_by again kind loaded payload.now)) }
 {
     match kind {
@@ -322,14 +309,20 @@ pub fn fitted_by(
         Kind::Transaction(form) => transaction_taken(form, loaded, room, payload),
         Kind::PowerOn => power_on_taken(loaded, payload),
         Kind::Sample => sample_taken(loaded, last, payload),
-        Kind::Unknown => Taken::Refused(Refusal::Kind),
+        Kind::Unknown => Err(Refusal::Kind),
     }
 }
 
 // The same of a record of a plain session.
-pub fn fitted(kind: u16, loaded: bool, last: Tick, room: usize, payload: &[u8]) -> Taken
+#[tactic(auto, unfolding(crate::specs::Record::taken_of))]
+pub fn fitted(
+    kind: u16,
+    loaded: bool,
+    last: Tick,
+    room: usize,
+    payload: &[u8],
+) -> Result<Event, Refusal>
     ensures { result ≡ fitted_of room (timed_of last (taken_of kind loaded payload.now)) }
 {
-    let decoded = kind_of(kind);
-    fitted_by(decoded, false, loaded, last, room, payload)
+    fitted_by(kind_of(kind), false, loaded, last, room, payload)
 }

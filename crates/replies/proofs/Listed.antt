@@ -2,13 +2,13 @@
 use mathlib.Core.Path.{◌≡◌, refl, sym, ap, ◌∙◌}
 use mathlib.Core.Bool.{Bool, true, false}
 use mathlib.Core.Logic.{inl, inr}
-use mathlib.Core.List.{List}
+use mathlib.Core.List.{List, ◌∷◌}
 use Prim.Native.Nat.{ℕ, zero, suc, ◌+◌, ◌-◌, ◌%◌, ◌≤◌, ◌<◌}
 use native.Mathlib.Nat.{sub-zero}
 use native.Mathlib.Numerals.{add-one}
 use native.Mathlib.Omega.{arith}
 use lib.Dec.{leb, ltb, eqb}
-use lib.ListN.{length, get_or, set, length-set}
+use lib.ListN.{length, get_or, set, length-set, replicate}
 use lib.Seq.{ext_get_or}
 use borrow.Author.Tests.{le-leb, lt-leb, lt-ltb, leb-true, leb-false, ltb-true, ltb-false, eqb-true, eqb-false}
 use Rattle.numbers.specs.Choice.{pick, both}
@@ -32,6 +32,11 @@ pub listed_at : (f : ℕ → ℕ) (i n j : ℕ) → j < n → get_or (listed f i
 listed_at f i zero j h = absurd (omega arith)
 listed_at f i (suc n) zero h = let e : i + 0 ≡ i = omega arith in rw e refl
 listed_at f i (suc n) (suc j) h = let e : i + 1 + j ≡ i + suc j = omega arith in listed_at f (i + 1) n j (omega arith) ∙ ap f e
+
+-- one value, over and over
+pub replicated : (x i n : ℕ) → replicate n x ≡ listed (λ k. x) i n
+replicated x i zero = refl
+replicated x i (suc n) = ap (λ (l : List ℕ). x ∷ l) (replicated x (i + 1) n)
 
 -- a list is that of its values
 itself : (l : List ℕ) → l ≡ listed (λ i. get_or l i 0) 0 (length l)
@@ -134,12 +139,6 @@ module _ (k : Common) (m : Meter) (a : ℕ) (p : Pair) (e : p ≡ register_of k 
   low_byte i odd =
       let at : a - a % 2 + 1 ≡ a + i = omega arith in
       ap (λ (p : Pair). p.low) e ∙ ap (λ (x : ℕ). get_or (registers_of k m) x 0) at
-
-  pub one_byte : pick (eqb (a % 2) 0) p.high p.low ≡ get_or (registers_of k m) (a + 0) 0
-  one_byte =
-      picked (λ (x : ℕ). x ≡ get_or (registers_of k m) (a + 0) 0) (eqb (a % 2) 0) p.high p.low
-      (λ even. high_byte 0 (omega (arith, eqb-true (a % 2) 0 even)))
-      (λ odd. low_byte 0 (omega (arith, eqb-false (a % 2) 0 odd)))
 
 module _ (k : Common) (l : Label) (m : Meter) where
   -- below 20h stand the registers

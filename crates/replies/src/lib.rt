@@ -22,16 +22,14 @@ pub enum Source {
 // ---- whom it selects
 
 // Whether the gauge with this address is selected: by CCh, or by 55h and its own address.
+#[tactic(auto, unfolding(crate::specs::Reply::selected_of))]
 pub fn selected(address: [u8; 8], transaction: Transaction, master: &[u8]) -> bool
     ensures { result ≡ selected_of address transaction master.now }
 {
-    let rom = transaction.rom;
-    match rom {
+    match transaction.rom {
         Rom::Skip => true,
         Rom::Match => bus::own(address, master),
-        Rom::Net33 => false,
-        Rom::Net39 => false,
-        Rom::Quiet => false,
+        Rom::Net33 | Rom::Net39 | Rom::Quiet => false,
     }
 }
 
@@ -42,11 +40,7 @@ fn read_source(command: Command, a: u8) -> Source
 {
     match command {
         Command::Read => Source::Bytes(a),
-        Command::Write => Source::Idle,
-        Command::Copy => Source::Idle,
-        Command::Recall => Source::Idle,
-        Command::Lock => Source::Idle,
-        Command::Nothing => Source::Idle,
+        _ => Source::Idle,
     }
 }
 
@@ -54,21 +48,9 @@ fn net_source(rom: Rom, rnaop: bool) -> Source
     ensures { result ≡ net_source_of rom rnaop }
 {
     match rom {
-        Rom::Net33 => {
-            if rnaop {
-                return Source::Idle;
-            }
-            Source::Address
-        }
-        Rom::Net39 => {
-            if rnaop {
-                return Source::Address;
-            }
-            Source::Idle
-        }
-        Rom::Skip => Source::Idle,
-        Rom::Match => Source::Idle,
-        Rom::Quiet => Source::Idle,
+        Rom::Net33 if !rnaop => Source::Address,
+        Rom::Net39 if rnaop => Source::Address,
+        _ => Source::Idle,
     }
 }
 
@@ -77,11 +59,10 @@ fn reply_source(shadow: &[u8; 32], transaction: Transaction, chosen: bool) -> So
     ensures { result ≡ reply_source_of chosen shadow.now transaction }
 {
     if chosen {
-        let command = transaction.command;
-        return read_source(command, transaction.address);
+        read_source(transaction.command, transaction.address)
+    } else {
+        net_source(transaction.rom, params::rnaop(shadow))
     }
-    let rom = transaction.rom;
-    net_source(rom, params::rnaop(shadow))
 }
 
 // ---- the reply, which fills a room
@@ -90,11 +71,7 @@ fn reply_source(shadow: &[u8; 32], transaction: Transaction, chosen: bool) -> So
 pub fn fill_ones(room: &mut [u8])
     ensures { room.new ≡ listed (λ i. 0xff) 0 (length room.old) }
 {
-    let mut i = 0;
-    while i < room.len() {
-        room[i] = 0xff;
-        i += 1;
-    }
+    room.fill(0xff);
 }
 
 // The address, then FFh where the room goes on.
@@ -107,15 +84,17 @@ fn net_reply(address: [u8; 8], room: &mut [u8])
     slices::laid(room, 0, 0, &address);
 }
 
+// One function that lays any array over a room proves, but then the arrays stay in memory: a read of 2 bytes takes 182 instructions more.
+
 // What stands from 60h on, laid over a room that stands from the address a upward, where that ends above it.
+#[tactic(auto, using(slices::proofs::Laws::laid_none))]
 fn block_laid(block: Block, a: usize, room: &mut [u8])
     requires { a < 256 }
     ensures room_after { room.new ≡ over_of 0x60 block.shadow a room.old }
     ensures sized { length block.shadow ≡ 32 }
 {
     if 0x60 < a + room.len() {
-        let shadow = block.shadow;
-        slices::laid(room, a, 0x60, &shadow);
+        slices::laid(room, a, 0x60, &block.shadow);
     }
 }
 
@@ -125,19 +104,18 @@ fn label_laid(label: Label, a: usize, room: &mut [u8])
     ensures room_after { room.new ≡ over_of 0x20 label.shadow a room.old }
     ensures sized { length label.shadow ≡ 16 }
 {
-    let shadow = label.shadow;
-    slices::laid(room, a, 0x20, &shadow);
+    slices::laid(room, a, 0x20, &label.shadow);
 }
 
 // What stands from 00h on: the registers, which are worked out only where the room starts among them.
+#[tactic(auto, using(slices::proofs::Laws::laid_none, registers::proofs::Meaning::registers_length))]
 fn registers_laid(common: Common, meter: Meter, a: usize, room: &mut [u8])
     requires meter_wf { MeterWf meter }
     requires a_bound { a < 256 }
     ensures { room.new ≡ over_of 0x00 (registers_of common meter) a room.old }
 {
     if a < 0x20 {
-        let registers = registers::registers(common, meter);
-        slices::laid(room, a, 0x00, &registers);
+        slices::laid(room, a, 0x00, &registers::registers(common, meter));
     }
 }
 
@@ -151,10 +129,8 @@ fn register_reply(common: Common, meter: Meter, a: usize, room: &mut [u8])
     if room.len() == 2 {
         room[0] = pair.high;
         room[1] = pair.low;
-    } else {
-        if room.len() == 1 {
-            room[0] = numbers::choose8(a % 2 == 0, pair.high, pair.low);
-        }
+    } else if room.len() == 1 {
+        room[0] = if a % 2 == 0 { pair.high } else { pair.low };
     }
 }
 
@@ -164,11 +140,9 @@ fn read_reply(common: Common, label: Label, meter: Meter, a: usize, room: &mut [
     requires a_bound { a < 256 }
     ensures { room.new ≡ listed (λ i. read_byte common label meter (a + i)) 0 (length room.old) }
 {
-    if a < 0x20 {
-        if a % 2 + room.len() <= 2 {
-            register_reply(common, meter, a, room);
-            return;
-        }
+    if a < 0x20 && a % 2 + room.len() <= 2 {
+        register_reply(common, meter, a, room);
+        return;
     }
     if 0x20 < a + room.len() {
         fill_ones(room);
@@ -178,21 +152,20 @@ fn read_reply(common: Common, label: Label, meter: Meter, a: usize, room: &mut [
     registers_laid(common, meter, a, room);
 }
 
+#[tactic(auto, unfolding(crate::specs::Reply::source_byte))]
 fn filled(common: Common, label: Label, meter: Meter, source: Source, room: &mut [u8])
     requires { MeterWf meter }
     ensures { room.new ≡ listed (source_byte common label meter source) 0 (length room.old) }
 {
     match source {
-        Source::Address => {
-            let address = common.address;
-            net_reply(address, room)
-        }
-        Source::Bytes(a) => read_reply(common, label, meter, slices::wide(a), room),
+        Source::Address => net_reply(common.address, room),
+        Source::Bytes(a) => read_reply(common, label, meter, usize::from(a), room),
         Source::Idle => fill_ones(room),
     }
 }
 
-// The reply of a gauge that is chosen or not goes to the front of the room, exactly the read count of bytes.
+// The reply of a gauge that is chosen or not goes to the front of the room, exactly the read count of bytes. (Its parts and no gauge, here and above: a
+// tray has them in three arrays, and `Gauge` stands in a crate above this one.)
 pub fn replied(
     common: Common,
     label: Label,

@@ -7,19 +7,17 @@ use native.Mathlib.Omega.{arith}
 use borrow.Author.Tests.{ltb-false}
 use lib.Dec.{ltb}
 use lib.ListN.{length}
+use Rattle.std.specs.Prelude.{Ok, Err}
 use Rattle.numbers.proofs.Bounds.{picked}
 use Rattle.slices.specs.Slices.{part, pair_at}
 use Rattle.record.specs.declared.Event.{Event}
 use Rattle.record.specs.declared.Event.TheVariants.{Image, Change, Transact}
-use Rattle.record.specs.declared.Taken.{Taken}
-use Rattle.record.specs.declared.Taken.TheVariants as taken
-use Rattle.record.specs.Record.{master_of, asks_of, fitted_of}
+use Rattle.record.specs.Record.{master_of, asks_of, fitted_of, Taken}
 use Rattle.record.proofs.Fits.{refusal_range}
 use Rattle.gauge.proofs.Acting.{reply_length}
 use Rattle.runs.specs.Record.{Rec, whole, cut, whole_of}
-use Rattle.runs.specs.Run.{Did}
+use Rattle.runs.specs.Run.{Did, Fits}
 use Rattle.runs.proofs.Records.{rec_whole, size_whole, rec_cut, size_cut}
-use Rattle.runs.proofs.Lines.{Fits}
 use Rattle.runs.specs.declared.Session.{Session}
 use Rattle.runs.specs.AnyRecord.{Steps, answered_by, record_by, refused_of, taken_read, front_by}
 use Rattle.runs.specs.SessionRecord.{event_did, of_session, did_of}
@@ -52,11 +50,11 @@ record Small {S : Type 0} (room : ℕ) (d : Did S) : Type 0 where
 
 module _ {S : Type 0} (k : Steps S) (h : Replying k) where
   taken_small : (σ : S) (room : ℕ) (p : List ℕ) (t : Taken) → Small room (answered_by k σ p (fitted_of room t))
-  taken_small σ room p (taken.Run e) =
+  taken_small σ room p (Ok e) =
       picked (λ (t : Taken). Small room (answered_by k σ p t)) (ltb room (asks_of e)) _ _
       (λ full. record { answer = omega arith; reply = zero-le })
       (λ fits. record { answer = omega (arith, h.answer σ p e); reply = omega (arith, h.reply σ p e, ltb-false room (asks_of e) fits) })
-  taken_small σ room p (taken.Refused r) = record { answer = omega (arith, (refusal_range r).1); reply = zero-le }
+  taken_small σ room p (Err r) = record { answer = omega (arith, (refusal_range r).1); reply = zero-le }
 
   small : (σ : S) (room : ℕ) (r : Rec) → Small room (record_by k σ room r)
   small σ room (whole kind p) = taken_small σ room p (k.told σ kind p)

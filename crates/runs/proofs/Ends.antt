@@ -1,5 +1,5 @@
 -- How a session ends, and that the promise of a run leaves no choice.
-use mathlib.Core.Path.{◌≡◌, refl, sym, ◌∙◌}
+use mathlib.Core.Path.{◌≡◌, refl, sym, ap, ◌∙◌}
 use mathlib.Core.Bool.{Bool, true, false}
 use mathlib.Core.List.{List}
 use Prim.Native.Nat.{ℕ, ◌≤◌, ◌<◌}
@@ -9,8 +9,9 @@ use lib.Dec.{ltb}
 use Rattle.numbers.specs.Choice.{pick}
 use Rattle.runs.specs.declared.Outcome.{Outcome}
 use Rattle.runs.specs.declared.Outcome.TheVariants.{Done, Over}
+use Rattle.runs.specs.declared.Ran.{Ran}
 use Rattle.runs.specs.Record.{Rec}
-use Rattle.runs.specs.Run.{Did, Result, outcome_of, Idle, RunsTo}
+use Rattle.runs.specs.Run.{Did, Result, result_of, outcome_of, Idle, RunsTo}
 
 -- ---- how a session ends
 
@@ -48,3 +49,11 @@ module _ {S : Type 0} (did : S → ℕ → Rec → Did S) (start : S) (s room an
       let n = h.replied ∙ sym k.replied in
       (λ i. record { outcome = o i; state = σ i; lines = l i; replied = n i }, h.replies ∙ sym k.replies, h.answered ∙ sym k.answered)
   runs_same Over h k = idle_same h k
+
+-- and what the code hands back is as equal
+ran_of : {S : Type 0} → Result S → Ran S
+ran_of r = record { state = r.state; ended = record { outcome = r.outcome; lines = r.lines; replied = r.replied } }
+
+pub ran_same : {S : Type 0} (r r' : Ran S) → result_of r ≡ result_of r' → r ≡ r'
+unfolding ran_of
+ran_same r r' e = ap ran_of e

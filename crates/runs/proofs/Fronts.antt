@@ -7,17 +7,14 @@ use native.Mathlib.Omega.{arith}
 use borrow.Author.Tests.{ltb-false}
 use lib.Dec.{ltb}
 use lib.ListN.{length}
+use Rattle.std.specs.Prelude.{Ok, Err, Some, None, Option}
 use Rattle.slices.specs.Slices.{part, pair_at}
 use Rattle.record.specs.declared.Event.{Event}
 use Rattle.record.specs.declared.Refusal.TheVariants.{Room}
-use Rattle.record.specs.declared.Taken.{Taken}
-use Rattle.record.specs.declared.Taken.TheVariants as taken
-use Rattle.record.specs.Record.{asks_of, fitted_of}
+use Rattle.record.specs.Record.{asks_of, fitted_of, Taken}
 use Rattle.runs.specs.Record.{whole_of, rec_of, size_of, kind_in}
 use Rattle.runs.specs.Run.{Did, silently}
 use Rattle.runs.proofs.Records.{rec_whole, size_whole, rec_cut, size_cut}
-use Rattle.runs.specs.declared.Asked.{Asked}
-use Rattle.runs.specs.declared.Asked.TheVariants as asked
 use Rattle.runs.specs.declared.Record.{Record}
 use Rattle.runs.specs.AnyRecord.{Steps, answered_by, record_by, refused_of, taken_read, front_by}
 use Rattle.runs.proofs.AnyRecord.{Replying, read_whole, read_cut}
@@ -31,12 +28,12 @@ module _ {S : Type 0} (k : Steps S) where
   pub record Ran (σ : S) (room : ℕ) (l : List ℕ) (used : ℕ) (e : Event) : Type 0 where
     pub head : 4 ≤ used
     pub held : asks_of e ≤ room
-    pub told : k.told σ (pair_at l 2) (payload_of used l) ≡ taken.Run e
+    pub told : k.told σ (pair_at l 2) (payload_of used l) ≡ Ok e
     pub did : record_by k σ room (rec_of l) ≡ k.event σ (payload_of used l) e
 
-  abbrev pub Does : S → ℕ → List ℕ → Record → Asked → Type 0
-  Does σ room l r asked.Nothing = record_by k σ room (rec_of l) ≡ silently σ r.answer
-  Does σ room l r (asked.Run e) = Ran σ room l r.used e
+  abbrev pub Does : S → ℕ → List ℕ → Record → (Option Event) → Type 0
+  Does σ room l r None = record_by k σ room (rec_of l) ≡ silently σ r.answer
+  Does σ room l r (Some e) = Ran σ room l r.used e
 
   pub record Front (σ : S) (room : ℕ) (l : List ℕ) (r : Record) : Type 0 where
     pub kind : r.kind ≡ kind_in (rec_of l)
@@ -45,10 +42,10 @@ module _ {S : Type 0} (k : Steps S) where
     pub does : Does σ room l r r.event
 
   -- the event that was read
-  pub ran : {σ : S} {room : ℕ} {l : List ℕ} {r : Record} {e : Event} → Front σ room l r → r.event ≡ asked.Run e → Ran σ room l r.used e
+  pub ran : {σ : S} {room : ℕ} {l : List ℕ} {r : Record} {e : Event} → Front σ room l r → r.event ≡ Some e → Ran σ room l r.used e
   ran {σ} {room} {l} {r} f t = subst (Does σ room l r) t f.does
 
-  pub idle : {σ : S} {room : ℕ} {l : List ℕ} {r : Record} → Front σ room l r → r.event ≡ asked.Nothing →
+  pub idle : {σ : S} {room : ℕ} {l : List ℕ} {r : Record} → Front σ room l r → r.event ≡ None →
       record_by k σ room (rec_of l) ≡ silently σ r.answer
   idle {σ} {room} {l} {r} f t = subst (Does σ room l r) t f.does
 
@@ -77,13 +74,13 @@ module _ {S : Type 0} (k : Steps S) where
       does : record_by k σ room (rec_of l) ≡ answered_by k σ p (fitted_of room (k.told σ kind p))
       does = rw (rec_whole l n kind w refl refl) refl
 
-      front_event : (e : Event) → k.told σ kind p ≡ taken.Run e → (b : Bool) → ltb room (asks_of e) ≡ b
-          → Front σ room l (taken_read kind (4 + n) (fitted_of room (taken.Run e)))
+      front_event : (e : Event) → k.told σ kind p ≡ Ok e → (b : Bool) → ltb room (asks_of e) ≡ b
+          → Front σ room l (taken_read kind (4 + n) (fitted_of room (Ok e)))
       front_event e t true full =
-          let g : fitted_of room (k.told σ kind p) ≡ taken.Refused Room = rw (t, full) refl in
+          let g : fitted_of room (k.told σ kind p) ≡ Err Room = rw (t, full) refl in
           rw full (front_refused kind 9 (4 + n) kinds takes (does ∙ ap (answered_by k σ p) g))
       front_event e t false fits =
-          let g : fitted_of room (k.told σ kind p) ≡ taken.Run e = rw (t, fits) refl in
+          let g : fitted_of room (k.told σ kind p) ≡ Ok e = rw (t, fits) refl in
           let f : record_by k σ room (rec_of l) ≡ k.event σ p e = does ∙ ap (answered_by k σ p) g in
           rw fits
           (record {
@@ -94,9 +91,9 @@ module _ {S : Type 0} (k : Steps S) where
           })
 
       front_taken : (t : Taken) → k.told σ kind p ≡ t → Front σ room l (taken_read kind (4 + n) (fitted_of room t))
-      front_taken (taken.Run e) t = front_event e t (ltb room (asks_of e)) refl
-      front_taken (taken.Refused x) t =
-          let g : fitted_of room (k.told σ kind p) ≡ taken.Refused x = rw t refl in
+      front_taken (Ok e) t = front_event e t (ltb room (asks_of e)) refl
+      front_taken (Err x) t =
+          let g : fitted_of room (k.told σ kind p) ≡ Err x = rw t refl in
           front_refused kind _ (4 + n) kinds takes (does ∙ ap (answered_by k σ p) g)
 
       front_whole : Front σ room l (front_by (k.told σ) room l)

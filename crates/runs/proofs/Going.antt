@@ -11,9 +11,9 @@ use Rattle.slices.specs.Slices.{put}
 use Rattle.slices.proofs.Laws.{put_next, put_length}
 use Rattle.runs.specs.declared.Outcome.TheVariants.{Done}
 use Rattle.runs.specs.Record.{Rec, rec_of, size_of, recs_of, kind_in}
-use Rattle.runs.specs.Run.{Did, Line, line_of, lines_after, end_after, replies_of, code_of, codes_of, Running}
+use Rattle.runs.specs.Run.{Did, Fits, Line, line_of, lines_after, end_after, replies_of, code_of, codes_of, Running}
 use Rattle.runs.proofs.Records.{recs_cons, sizes}
-use Rattle.runs.proofs.Lines.{Fits, lines_length}
+use Rattle.runs.proofs.Lines.{lines_length}
 
 -- what one record leaves: the state and the room after the record r, where the replies before it took so many bytes, and its line's number
 pub record Turned {S : Type 0} (did : S → ℕ → Rec → Did S) (σ : S) (room : List ℕ) (used : ℕ) (r : Rec) (τ : S) (after : List ℕ)

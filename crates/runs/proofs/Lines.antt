@@ -5,7 +5,7 @@ use Prim.Native.Nat.{ℕ, zero, suc, ◌+◌, ◌-◌, ◌/◌, ◌≤◌, ◌<�
 use native.Mathlib.Omega.{arith}
 use lib.ListN.{length, length-append}
 use Rattle.runs.specs.Record.{Rec, rec_of, recs_from, recs_of}
-use Rattle.runs.specs.Run.{Did, Line, lines_after, replies_of}
+use Rattle.runs.specs.Run.{Did, Fits, Line, lines_after, replies_of}
 use Rattle.runs.proofs.Records.{Bytes, rec_narrow, recs_few}
 
 -- what a line's number holds whole
@@ -16,11 +16,6 @@ pub record Coded (l : Line) : Type 0 where
 abbrev pub AllCoded : List Line → Type 0
 AllCoded [] = Unit
 AllCoded (l ∷ ls) = Coded l × AllCoded ls
-
--- what holds of each record's answer and reply: the answer is a byte, and the reply fits the room that is left
-pub record Fits {S : Type 0} (did : S → ℕ → Rec → Did S) : Type 0 where
-  pub answer : (σ : S) (room : ℕ) (r : Rec) → (did σ room r).answer < 256
-  pub reply : (σ : S) (room : ℕ) (r : Rec) → length (did σ room r).reply ≤ room
 
 module _ {S : Type 0} (did : S → ℕ → Rec → Did S) where
   pub lines_length : (σ : S) (room : ℕ) (rs : List Rec) → length (lines_after did σ room rs) ≡ length rs

@@ -7,10 +7,9 @@ use native.Mathlib.Omega.{arith}
 use lib.ListN.{length, get_or, take}
 use Rattle.slices.specs.Slices.{put, pair_at}
 use Rattle.runs.specs.Record.{Rec, cut, whole_of, rec_of, size_of, recs_of, kind_in}
-use Rattle.runs.specs.Run.{Did, silently, Result, Running}
+use Rattle.runs.specs.Run.{Did, Fits, silently, Result, Running}
 use Rattle.runs.specs.Step.{StepDone}
 use Rattle.runs.proofs.Records.{Bytes, rec_narrow, recs_whole, size_whole, rec_cut}
-use Rattle.runs.proofs.Lines.{Fits}
 
 -- the bytes of the record at the front are one record
 module _ (l : List ℕ) (n : ℕ) (w : whole_of l ≡ true) (e : n ≡ 4 + pair_at l 0) where

@@ -8,6 +8,7 @@ use Prim.Native.Nat.{ℕ, zero, suc, ◌+◌, ◌-◌, ◌≤◌, ◌<◌}
 use native.Mathlib.Omega.{arith}
 use lib.ListN.{length, take, drop, set, length-drop, length-take}
 use lib.Seq.{take-nil, drop-drop}
+use Rattle.std.specs.Prelude.{None}
 use Rattle.slices.specs.Slices.{part, put}
 use Rattle.slices.proofs.Laws.{part_rest, put_part}
 use Rattle.bus.specs.declared.Transaction.{Transaction}
@@ -16,11 +17,9 @@ use Rattle.record.specs.declared.Event.TheVariants.{Transact}
 use Rattle.record.specs.Record.{Mastered}
 use Rattle.runs.specs.declared.Outcome.TheVariants.{Done}
 use Rattle.runs.specs.Record.{Rec, rec_of, size_of, whole_of}
-use Rattle.runs.specs.Run.{Did, silently, code_of, Running}
+use Rattle.runs.specs.Run.{Did, Fits, silently, code_of, Running}
 use Rattle.runs.proofs.Records.{whole_head, size_cut}
-use Rattle.runs.proofs.Lines.{Fits}
 use Rattle.runs.proofs.Going.{Turned, Going, going_size, going_end, going_more}
-use Rattle.runs.specs.declared.Asked.TheVariants as asked
 use Rattle.runs.specs.declared.Record.{Record}
 use Rattle.runs.specs.AnyRecord.{Steps, record_by}
 use Rattle.runs.proofs.AnyRecord.{Replying, read_cut}
@@ -94,7 +93,7 @@ module _ {S : Type 0} (k : Steps S) (did : S → ℕ → Rec → Did S) (same : 
         }
 
     -- nothing is asked
-    pub turn_idle : r.event ≡ asked.Nothing → τ ≡ σ → after ≡ room → next ≡ used → line ≡ code_of r.kind r.answer 0
+    pub turn_idle : r.event ≡ None → τ ≡ σ → after ≡ room → next ≡ used → line ≡ code_of r.kind r.answer 0
         → Turn σ room used l τ after next line
     turn_idle a eτ er eu en = turned (idle k f a) eτ er (omega (arith, eu)) en
 

@@ -1,12 +1,9 @@
 -- One record of a run, of any state: what it asks in a state, what it then does, and what the code reads off it.
-use Rattle.std.specs.Prelude.{List, ℕ}
+use Rattle.std.specs.Prelude.{List, ℕ, Ok, Err, Some, None}
 use Rattle.record.specs.declared.Event.{Event}
-use Rattle.record.specs.declared.Taken.{Taken}
-use Rattle.record.specs.declared.Taken.TheVariants.{Run, Refused}
-use Rattle.record.specs.Record.{refusal_number, fitted_of}
+use Rattle.record.specs.Record.{refusal_number, fitted_of, Taken}
 use Rattle.runs.specs.Record.{Rec, whole, cut, rec_of, size_of}
 use Rattle.runs.specs.Run.{Did, silently}
-use Rattle.runs.specs.declared.Asked.TheVariants as asked
 use Rattle.runs.specs.declared.Record.{Record}
 
 pub record Steps (S : Type 0) : Type 0 where
@@ -18,8 +15,8 @@ pub record Steps (S : Type 0) : Type 0 where
 module _ {S : Type 0} (k : Steps S) where
   -- a refusal leaves state and room unchanged
   abbrev pub answered_by : S → List ℕ → Taken → Did S
-  answered_by σ p (Run e) = k.event σ p e
-  answered_by σ p (Refused r) = silently σ (refusal_number r)
+  answered_by σ p (Ok e) = k.event σ p e
+  answered_by σ p (Err r) = silently σ (refusal_number r)
 
   -- with so many bytes of reply room left. 2: a record that is cut
   abbrev pub record_by : S → ℕ → Rec → Did S
@@ -30,11 +27,11 @@ module _ {S : Type 0} (k : Steps S) where
 
 -- a record that asks nothing
 abbrev pub refused_of : ℕ → ℕ → ℕ → Record
-refused_of kind answer used = record { event = asked.Nothing; used = used; kind = kind; answer = answer }
+refused_of kind answer used = record { event = None; used = used; kind = kind; answer = answer }
 
 abbrev pub taken_read : ℕ → ℕ → Taken → Record
-taken_read kind used (Run e) = record { event = asked.Run e; used = used; kind = kind; answer = 0 }
-taken_read kind used (Refused r) = refused_of kind (refusal_number r) used
+taken_read kind used (Ok e) = record { event = Some e; used = used; kind = kind; answer = 0 }
+taken_read kind used (Err r) = refused_of kind (refusal_number r) used
 
 abbrev pub rec_read : (ℕ → List ℕ → Taken) → ℕ → ℕ → Rec → Record
 rec_read told room used (whole kind p) = taken_read kind used (fitted_of room (told kind p))

@@ -4,3 +4,4 @@ pub mod AnyRecord
 pub mod SessionRecord
 pub mod Step
 pub mod Divided
+pub mod Out

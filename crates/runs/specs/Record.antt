@@ -36,8 +36,3 @@ kind_in cut = 0
 -- the bytes of a record: its payload's length and its kind, each as two bytes, the low one first, then the payload
 abbrev pub record_of : ℕ → List ℕ → List ℕ
 record_of kind p = length p % 256 ∷ length p / 256 ∷ kind % 256 ∷ kind / 256 ∷ p
-
--- a record was written at a place of a room, and the next one goes behind it
-pub record Recorded (kind : ℕ) (p before : List ℕ) (at next : ℕ) (after : List ℕ) : Type 0 where
-  pub onward : next ≡ at + length (record_of kind p)
-  pub written : after ≡ put before at (record_of kind p)

@@ -1,11 +1,12 @@
 -- What a run of records does, of any state and of any `did`, which says what one record does to it with so much reply room left: a line for
 -- each record, the replies, and the state at the end.
-use Rattle.std.specs.Prelude.{◌≡◌, List, [], ◌∷◌, ◌++◌, ℕ, ◌+◌, ◌-◌, ◌*◌, ltb, length}
+use Rattle.std.specs.Prelude.{◌≡◌, List, [], ◌∷◌, ◌++◌, ℕ, ◌+◌, ◌-◌, ◌*◌, ◌<◌, ◌≤◌, ltb, length}
 use Rattle.numbers.specs.Choice.{pick}
 use Rattle.slices.specs.Slices.{put}
 use Rattle.runs.specs.declared.Outcome.{Outcome}
 use Rattle.runs.specs.declared.Outcome.TheVariants.{Done, Over}
-use Rattle.runs.specs.Record.{Rec, recs_of, kind_in}
+use Rattle.runs.specs.declared.Ran.{Ran}
+use Rattle.runs.specs.Record.{Rec, cut, recs_of, kind_in}
 
 -- what a record did: the state after it, the answer, and the reply
 pub record Did (S : Type 0) : Type 0 where
@@ -16,6 +17,16 @@ pub record Did (S : Type 0) : Type 0 where
 -- an answer with no reply
 abbrev pub silently : {S : Type 0} → S → ℕ → Did S
 silently σ answer = record { state = σ; answer = answer; reply = [] }
+
+-- what holds of each record's answer and reply: the answer is a byte, and the reply fits the room that is left
+pub record Fits {S : Type 0} (did : S → ℕ → Rec → Did S) : Type 0 where
+  pub answer : (σ : S) (room : ℕ) (r : Rec) → (did σ room r).answer < 256
+  pub reply : (σ : S) (room : ℕ) (r : Rec) → length (did σ room r).reply ≤ room
+
+-- what holds of whatever is run: besides, a record that is cut is answered 2, and changes nothing
+pub record RunLaws {S : Type 0} (did : S → ℕ → Rec → Did S) : Type 0 where
+  pub fits : Fits did
+  pub cut_idle : (σ : S) (room : ℕ) → did σ room cut ≡ silently σ 2
 
 pub record Line : Type 0 where
   pub kind : ℕ
@@ -67,6 +78,14 @@ pub record Result (S : Type 0) : Type 0 where
   pub state : S
   pub lines : ℕ
   pub replied : ℕ
+
+-- the same, as the code hands it back
+abbrev pub result_of : {S : Type 0} → Ran S → Result S
+result_of ran = record { outcome = ran.ended.outcome; state = ran.state; lines = ran.ended.lines; replied = ran.ended.replied }
+
+-- a session that is not run, as the code hands it back
+abbrev pub idle_of : {S : Type 0} → S → Outcome → Ran S
+idle_of start outcome = record { state = start; ended = record { outcome = outcome; lines = 0; replied = 0 } }
 
 -- nothing is run, and nothing written
 pub record Idle {S : Type 0} (start : S) (o : Outcome) (room answers : List ℕ) (r : Result S) (after told : List ℕ) : Type 0 where

@@ -8,8 +8,7 @@ use Rattle.gauge.specs.Act.{act_of, reply_of}
 use Rattle.gauge.specs.Image.{image_of}
 use Rattle.record.specs.declared.Event.{Event}
 use Rattle.record.specs.declared.Event.TheVariants.{Image, Change, Transact}
-use Rattle.record.specs.declared.Taken.{Taken}
-use Rattle.record.specs.Record.{taken_of, timed_of, master_of}
+use Rattle.record.specs.Record.{taken_of, timed_of, master_of, Taken}
 use Rattle.runs.specs.Record.{Rec}
 use Rattle.runs.specs.Run.{Did, silently}
 use Rattle.runs.specs.declared.Session.{Session}
@@ -20,6 +19,7 @@ use Rattle.runs.specs.AnyRecord.{Steps, answered_by, record_by}
 abbrev pub loaded_with : Gauge → Session
 loaded_with gauge = record { loaded = true; gauge = gauge }
 
+-- what holds of every session (a clause, as ChargeWf)
 pub record SessionWf (σ : Session) : Type 0 where
   pub gauge : GaugeWf σ.gauge
 

@@ -154,16 +154,6 @@ worn_still ac age aging k below low =
 
 -- ---- step 5
 
--- a LEARNF that is set goes by the tests alone, and one that is clear stays so
-pub learnf_set : (turned emptied : Bool) → but_not (but_not true turned) emptied ≡ but_not (not turned) emptied
-learnf_set true emptied = refl
-learnf_set false emptied = refl
-
-pub learnf_clear : (turned emptied : Bool) → but_not (but_not false turned) emptied ≡ false
-learnf_clear turned true = refl
-learnf_clear true false = refl
-learnf_clear false false = refl
-
 turned_same : (c : ℕ) → turned_of c c ≡ false
 turned_same c = never_both (negative c)
   where

@@ -17,12 +17,11 @@ use Rattle.conversion.specs.Conversion.{current_of, traced_of, fall_of, counted_
 use Rattle.conversion.specs.Conversion.{found_of, settled_of, converted_of, filled_flags, flowed_of, charged_of, convert_of}
 use Rattle.state.specs.declared.Cycles.{Cycles}
 use Rattle.conversion.proofs.CycleLaws.{cycled_more}
-use Rattle.state.specs.declared.Average.{Average}
 use Rattle.state.specs.State.{AverageWf, MeterWf}
 use Rattle.conversion.proofs.FullLaws.{settled_wf}
 use Rattle.state.specs.declared.Flow.{Flow}
 use Rattle.state.specs.declared.Meter.{Meter}
-use Rattle.samples.specs.Samples.{sampled_of, ticked_of}
+use Rattle.samples.specs.Samples.{sampled_of}
 use Rattle.samples.specs.Stretch.{charge_over, trace_over, ends_over, average_over, found_over, flow_over, flowed_over, stretched_of, Quiet, reach_of}
 use Rattle.samples.proofs.Charge.{charge_one, charge_more, charge_falls}
 use Rattle.samples.proofs.Run.{trace_one, trace_more, goes, average_none, renewed_none, found_more, found_not, average_wf}
@@ -215,15 +214,6 @@ sampled_more m raw n = rw add-one
 
 -- ---- how far a stretch reaches
 
-module _ (a : Average) (any : Bool) (left : ℕ) where
-  pub reach_fits : reach_of a any left ≤ left
-  unfolding reach_of
-  reach_fits = picked (λ (x : ℕ). x ≤ left) (either any (offset_turn a)) _ _ (λ e. omega arith) (λ e. omega arith)
-
-  pub reach_some : 1 ≤ left → 1 ≤ reach_of a any left
-  unfolding reach_of
-  reach_some l = picked (λ (x : ℕ). 1 ≤ x) (either any (offset_turn a)) _ _ (λ e. omega arith) (λ e. l)
-
 pub neither : (x y : Bool) → either x y ≡ false → (x ≡ false) × (y ≡ false)
 neither true true e = (e, e)
 neither true false e = (e, refl)
@@ -242,8 +232,3 @@ reached_more m y raw left (suc j) w e some fits f =
     let q = subst (Quiet m.flow) (sym e) (reach_quiet m.flow left) in
     ap (λ (x : Meter). sampled_of x raw (left - suc j)) (f ∙ sym (stretched m raw w j q)) ∙ sampled_sum m raw (suc j) (left - suc j) ∙
     ap (sampled_of m raw) (omega arith)
-
--- ---- the tick
-
-pub ticked_wf : (m : Meter) (tick : ℕ) → MeterWf m → MeterWf (ticked_of m tick)
-ticked_wf m tick w = record { charge = w.charge; average = w.average; full = w.full; volt = w.volt; temp = w.temp }

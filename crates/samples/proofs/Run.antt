@@ -196,10 +196,3 @@ average_wf a c k h w =
     picked AverageWf (ends_over a k) _ _
     (λ e. record { made = omega arith; sum = omega (arith, mul-le-mul_left ((a.made + k) % 8) h) })
     (λ e. record { made = omega arith; sum = omega (arith, w.sum, mul-le-mul_left k h, leb-false 8 (run_of a + k) e) })
-
-pub seventh_wf : (a : Average) (c : ℕ) → c ≤ 65535 → AverageWf a → AverageWf (seventh_of a c)
-seventh_wf a c h w = record { made = omega arith; sum = omega (arith, w.sum, mul-le-mul_left (7 - run_of a) h) }
-
--- the sum of eight c
-pub eight_few : (a : Average) (c : ℕ) → c ≤ 65535 → AverageWf a → a.sum + (8 - run_of a) * c ≤ 8 * 65535
-eight_few a c h w = omega (arith, w.sum, mul-le-mul_left (8 - run_of a) h)

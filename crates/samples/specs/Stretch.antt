@@ -14,7 +14,7 @@ use Rattle.conversion.specs.Conversion.{charged_of}
 use Rattle.state.specs.declared.Average.{Average}
 use Rattle.state.specs.declared.Flow.{Flow}
 use Rattle.state.specs.declared.Meter.{Meter}
-use Rattle.samples.specs.declared.Worn.{Worn}
+use Rattle.conversion.specs.declared.Age.{Age}
 
 -- ---- steps 1 to 5
 
@@ -35,7 +35,7 @@ abbrev pub aging_over : ℕ → ℕ → ℕ
 aging_over aging drops = max (aging - drops) 63
 
 -- both, by the age counter before anything is taken off
-unfoldable pub worn_over : ℕ → ℕ → ℕ → ℕ → Worn
+unfoldable pub worn_over : ℕ → ℕ → ℕ → ℕ → Age
 worn_over ac age aging k =
     let drops = drops_over ac age k in
     record { age = age_over ac age drops; aging = aging_over aging drops }

@@ -7,11 +7,12 @@ ghost use Rattle.samples.specs.Samples.{sampled_of, sample_of};
 ghost use Rattle.samples.specs.Stretch.{grown_over, adds_over, count_over, drops_over, age_over, aging_over, worn_over, learnf_over};
 ghost use Rattle.samples.specs.Stretch.{charge_over, trace_over, seventh_of, average_over, flowed_over, stretched_of, reach_of};
 
-use conversion::Stepped;
+use conversion::{Age, Stepped};
 use params::{Capacity, Counting, Limits};
-use state::{Average, Charge, Meter, Profile, Trace};
+use state::{Average, Charge, Meter, Profile, Since, Tick, Trace};
 
-// ---- a stretch: k conversions of the same c, of which none but the last may find full
+// ---- a stretch: k conversions of the same c, of which none but the last may find full. The steps of a single conversion stand apart, in
+// conversion: they need no product by k and no division by 32 × AC.
 
 // Step 3.
 fn grown_over(count: u32, counted: u16, ab: u8, k: u16) -> u32
@@ -20,15 +21,15 @@ fn grown_over(count: u32, counted: u16, ab: u8, k: u16) -> u32
     let each = (counted as u64) + (ab as u64);
     let zero = (numbers::ZERO15 as u64) + (numbers::ZERO7 as u64);
     let sum = (count as u64) + (k as u64) * each;
-    numbers::at_most(268435455, numbers::less(sum, (k as u64) * zero)) as u32
+    sum.saturating_sub((k as u64) * zero).min(268435455) as u32
 }
 
 // Step 4: how often AS falls.
 fn drops_over(ac: u16, age: u32, k: u16) -> u16
     ensures { result ≡ drops_over ac age k }
 {
-    let limit = 32 * (ac as u64);
-    numbers::at_most(numbers::quotient(age as u64, limit), k as u64) as u16
+    let falls = age.checked_div(32 * (ac as u32)).unwrap_or(0);
+    falls.min(k as u32) as u16
 }
 
 // Step 4: the age counter after so many falls of AS.
@@ -36,7 +37,7 @@ fn age_over(ac: u16, age: u32, drops: u16) -> u32
     ensures { result ≡ age_over ac age drops }
 {
     let limit = 32 * (ac as u64);
-    let left = numbers::less(age as u64, (drops as u64) * limit) as u32;
+    let left = (age as u64).saturating_sub((drops as u64) * limit) as u32;
     if ac == 0 { 0 } else { left }
 }
 
@@ -44,15 +45,14 @@ fn age_over(ac: u16, age: u32, drops: u16) -> u32
 fn aging_over(aging: u8, drops: u16) -> u8
     ensures { result ≡ aging_over aging drops }
 {
-    numbers::at_least(63, numbers::less(aging as u64, drops as u64)) as u8
+    (aging as u16).saturating_sub(drops).max(63) as u8
 }
 
 // Step 3: how many of k conversions add.
 fn adds_over(mark: bool, k: u16) -> u16
     ensures { result ≡ adds_over mark k }
 {
-    let others = numbers::less(k as u64, 1) as u16;
-    numbers::choose16(mark, others, k)
+    if mark { k.saturating_sub(1) } else { k }
 }
 
 // Steps 2 and 3.
@@ -67,29 +67,18 @@ fn count_over(profile: Profile, counting: Counting, charge: Charge, c: u16, k: u
     )
 }
 
-// The age counter and AS.
-#[derive(Clone, Copy)]
-struct Worn {
-    age: u32,
-    aging: u8,
-}
-
 // Step 4. Most stretches leave the counter below its limit, where it and AS stay: they are spared the division.
-fn worn_over(ac: u16, age: u32, aging: u8, k: u16) -> Worn
+fn worn_over(ac: u16, age: u32, aging: u8, k: u16) -> Age
     requires { 63 ≤ aging }
     ensures { result ≡ worn_over ac age aging k }
 {
-    if 32 * (ac as u32) <= age {
-        let drops = drops_over(ac, age, k);
-        Worn {
-            age: age_over(ac, age, drops),
-            aging: aging_over(aging, drops),
-        }
-    } else {
-        Worn {
-            age: age,
-            aging: aging,
-        }
+    if age < 32 * (ac as u32) {
+        return Age { age, aging };
+    }
+    let drops = drops_over(ac, age, k);
+    Age {
+        age: age_over(ac, age, drops),
+        aging: aging_over(aging, drops),
     }
 }
 
@@ -104,15 +93,13 @@ fn learnf_over(
 ) -> bool
     ensures { result ≡ learnf_over profile counting charge last c count }
 {
-    if charge.learnf {
-        let first = count_over(profile, counting, charge, c, 1);
-        let was = last < numbers::ZERO15;
-        let turned = numbers::and(c < numbers::ZERO15, !was);
-        let emptied = numbers::or(first / 4096 == 0, count / 4096 == 0);
-        numbers::and_not(!turned, emptied)
-    } else {
-        false
+    if !charge.learnf {
+        return false;
     }
+    let first = count_over(profile, counting, charge, c, 1);
+    let turned = c < numbers::ZERO15 && numbers::ZERO15 <= last;
+    let emptied = first / 4096 == 0 || count / 4096 == 0;
+    !turned && !emptied
 }
 
 // Steps 1 to 5.
@@ -128,7 +115,6 @@ fn charge_over(
     ensures { result ≡ charge_over profile counting charge last c k }
 {
     let count = count_over(profile, counting, charge, c, k);
-    let learnf = learnf_over(profile, counting, charge, last, c, count);
     let worn = worn_over(
         counting.ac,
         charge.age + conversion::fall(charge.count, count),
@@ -136,10 +122,10 @@ fn charge_over(
         k,
     );
     Charge {
-        count: count,
+        count,
         age: worn.age,
         aging: worn.aging,
-        learnf: learnf,
+        learnf: learnf_over(profile, counting, charge, last, c, count),
         mark: false,
     }
 }
@@ -150,9 +136,9 @@ fn trace_over(trace: Trace, c: u16, k: u16) -> Trace
 {
     Trace {
         last: c,
-        before: numbers::choose16(k == 1, trace.last, c),
+        before: if k == 1 { trace.last } else { c },
         any: true,
-        two: numbers::or(1 < k, trace.any),
+        two: 1 < k || trace.any,
     }
 }
 
@@ -166,8 +152,7 @@ fn seventh(average: Average, c: u16) -> Average
     Average {
         made: (average.made + rest) % 1024,
         sum: average.sum + (rest as u32) * (c as u32),
-        iavg: average.iavg,
-        known: average.known,
+        ..average
     }
 }
 
@@ -183,15 +168,14 @@ fn average_over(average: Average, c: u16, k: u16) -> Average
         Average {
             made: (made % 1024) as u16,
             sum: made % 8 * (c as u32),
-            iavg: numbers::choose16(begun + (k as u32) < 16, mean, c),
+            iavg: if begun + (k as u32) < 16 { mean } else { c },
             known: true,
         }
     } else {
         Average {
             made: (made % 1024) as u16,
             sum: average.sum + (k as u32) * (c as u32),
-            iavg: average.iavg,
-            known: average.known,
+            ..average
         }
     }
 }
@@ -204,7 +188,6 @@ fn flowed_over(mut meter: Meter, limits: Limits, full40: u16, c: u16, k: u16) ->
 {
     let mut flow = meter.flow;
     flow.trace = trace_over(flow.trace, c, k);
-    let average = average_over(flow.average, c, k);
     if 8 <= (flow.average.made % 8) as u32 + (k as u32) {
         let seven = seventh(flow.average, c);
         if conversion::found(seven, flow.since, limits, c) {
@@ -214,7 +197,7 @@ fn flowed_over(mut meter: Meter, limits: Limits, full40: u16, c: u16, k: u16) ->
         flow.since.any = false;
         flow.since.lowest = 0;
     }
-    flow.average = average;
+    flow.average = average_over(flow.average, c, k);
     meter.flow = flow;
     meter
 }
@@ -228,16 +211,17 @@ fn stretch(meter: Meter, raw: u32, k: u16) -> Meter
     let counting = Counting::of(&meter.cells.block.shadow);
     let limits = Limits::of(&meter.cells.block.shadow);
     let capacity = Capacity::of(&meter.cells.block.shadow);
-    let c = numbers::choose16(
-        meter.flow.average.made == 1023,
+    let c = conversion::converted(meter.flow, raw, counting.cob);
+    let charge = charge_over(
+        meter.cells.profile,
+        counting,
+        meter.charge,
         meter.flow.trace.last,
-        conversion::current(raw, counting.cob),
+        c,
+        k,
     );
-    let cells = meter.cells;
-    let profile = cells.profile;
-    let charge = charge_over(profile, counting, meter.charge, meter.flow.trace.last, c, k);
     let stepped = Stepped {
-        charge: charge,
+        charge,
         fall: conversion::fall(meter.charge.count, charge.count),
     };
     flowed_over(
@@ -257,8 +241,12 @@ fn reach(average: Average, any: bool, left: u16) -> u16
     ensures fits { result ≤ left }
     ensures some { 1 ≤ result }
 {
-    let gap = numbers::at_most(left as u64, 8 - (average.made % 8) as u64) as u16;
-    numbers::choose16(numbers::or(any, average.made == 1023), gap, left)
+    let ends = any || average.made == 1023;
+    if ends {
+        left.min(8 - average.made % 8)
+    } else {
+        left
+    }
 }
 
 // ---- the two engines
@@ -269,16 +257,15 @@ pub fn plain(mut meter: Meter, raw: u32, n: u16) -> Meter
     ensures value { result ≡ sampled_of meter raw n }
     ensures kept { MeterWf result }
 {
-    let mut i: u16 = 0;
-    while i < n {
+    for _ in 0..n {
         meter = conversion::convert(meter, raw);
-        i += 1;
     }
     meter
 }
 
 // The quick engine: stretches. Full may be found at the end of the run of eight that stands, and at none after it, since no reading comes
-// within a sample; a 1024th that comes first ends a run too. For 64 conversions there are two stretches at most.
+// within a sample; a 1024th that comes first ends a run too. For 64 conversions there are two stretches at most. (No loop over
+// elements: a stretch says how many conversions it took.)
 pub fn quick(mut meter: Meter, raw: u32, mut left: u16) -> Meter
     requires { MeterWf meter }
     ensures value { result ≡ sampled_of meter raw left }
@@ -287,20 +274,22 @@ pub fn quick(mut meter: Meter, raw: u32, mut left: u16) -> Meter
     while 0 < left {
         let k = reach(meter.flow.average, meter.flow.since.any, left);
         meter = stretch(meter, raw, k);
-        left = left - k;
+        left -= k;
     }
     meter
 }
 
 // A sample of any signed 32-bit raw current, which comes as z + 2^31, with its tick: as many conversions as ticks have elapsed.
-pub fn sample(mut meter: Meter, raw: u32, tick: u16) -> Meter
+pub fn sample(meter: Meter, raw: u32, tick: u16) -> Meter
     requires { MeterWf meter }
     ensures value { result ≡ sample_of meter raw tick }
     ensures kept { MeterWf result }
 {
     let n = state::elapsed(meter.flow.tick, tick);
-    meter = quick(meter, raw, n);
-    meter.flow.tick.any = true;
-    meter.flow.tick.last = tick;
-    meter
+    let mut sampled = quick(meter, raw, n);
+    sampled.flow.tick = Tick {
+        any: true,
+        last: tick,
+    };
+    sampled
 }

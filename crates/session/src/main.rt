@@ -1,46 +1,33 @@
 // session: runs the session on standard input and prints an answer for each record
 #![tactic(auto)]
 
-ghost use Rattle.std.specs.Prelude.{List, ◌≡◌, ℕ, ◌≤◌, length};
-ghost use Rattle.text.specs.Text.{Reporting};
+ghost use Rattle.std.specs.Prelude.{List, ◌≡◌, ℕ, length, is_err, IfOk};
 ghost use Rattle.streams.specs.Streams.{Front, Saying};
-ghost use Rattle.session.specs.Session.{session_text, session_printed_of};
+ghost use Rattle.session.specs.Session.{session_printed_of};
 
-use streams::{Input, Said, Stream};
+use session_run::SessionRunner;
+use streams::{Said, Unread};
 
-fn put_session(bytes: &[u8], out: &mut [u8]) -> usize
-    requires { 270372 ≤ length out.old }
-    ensures { Reporting (session_text bytes.now) out.old result out.new }
+const INPUT_ROOM: usize = 32769;
+
+const TEXT_ROOM: usize = 270372;
+
+// What the program says. A byte more than a session may have is enough to know of any input.
+fn printed(input: &[u8], got: Result<usize, Unread>, room: &mut [u8]) -> Said
+    requires input_room { length input.now ≡ 32769 }
+    requires text_room { length room.old ≡ 270372 }
+    ensures by_index { (s : List ℕ) → IfOk got (Front s input.now) →
+        Saying (session_printed_of (is_err got) s) room.old result room.new }
 {
-    let mut replies = [0u8; 65536];
-    let mut answers = [0u64; 8192];
-    let ran = session_run::run(bytes, &mut replies, &mut answers);
-    text::report(ran.ended, &answers, &replies, out)
-}
-
-// What the program says. A byte more than a session may have is enough to know of any input. (That the room keeps its length is said for `main`.)
-fn printed(input: &[u8; 32769], got: Input, room: &mut [u8; 270372]) -> Said
-    ensures by_index { (s : List ℕ) → Front s input.now got.count →
-        Saying (session_printed_of got.failed s) room.old result room.new }
-    ensures value { 270372 ≡ length room.new }
-{
-    if got.failed {
-        return streams::put_unread(b"session", room);
-    }
-    let n = streams::within(got.count, input);
-    let all: &[u8] = input;
-    let count = put_session(&all[..n], room);
-    let stream = Stream::Output;
-    Said {
-        stream: stream,
-        count: count,
-    }
+    streams::put_answer(
+        b"session",
+        input,
+        got,
+        room,
+        text::put_session::<SessionRunner>,
+    )
 }
 
 fn main(rt: HostRuntime) {
-    let mut input = [0u8; 32769];
-    let got = streams::read_input(&rt, &mut input);
-    let mut room = [0u8; 270372];
-    let said = printed(&input, got, &mut room);
-    streams::say(&rt, b"session", said, &room);
+    streams::answer_input::<INPUT_ROOM, TEXT_ROOM, _>(&rt, b"session", printed);
 }

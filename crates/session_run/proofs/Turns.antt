@@ -4,6 +4,7 @@ use mathlib.Core.Bool.{Bool, true, false}
 use mathlib.Core.List.{List, ◌++◌}
 use Prim.Native.Nat.{ℕ, ◌+◌, ◌-◌, ◌≤◌}
 use lib.ListN.{length, take, drop}
+use Rattle.std.specs.Prelude.{Ok, None}
 use Rattle.slices.specs.Slices.{part, pair_at}
 use Rattle.bus.specs.declared.Transaction.{Transaction}
 use Rattle.gauge.specs.declared.Gauge.{Gauge}
@@ -11,13 +12,11 @@ use Rattle.gauge.specs.Gauge.{GaugeWf}
 use Rattle.gauge.specs.Act.{act_of, reply_of}
 use Rattle.record.specs.declared.Event.{Event}
 use Rattle.record.specs.declared.Event.TheVariants.{Transact}
-use Rattle.record.specs.declared.Taken.TheVariants as taken
 use Rattle.record.specs.Record.{master_of}
 use Rattle.record.proofs.Fits.{Taking, timed_taking}
 use Rattle.runs.specs.Record.{Rec}
 use Rattle.runs.specs.Run.{silently, code_of}
 use Rattle.runs.specs.declared.Session.{Session}
-use Rattle.runs.specs.declared.Asked.TheVariants as asked
 use Rattle.runs.specs.declared.Record.{Record}
 use Rattle.runs.specs.AnyRecord.{record_by}
 use Rattle.runs.specs.SessionRecord.{SessionWf, loaded_with, last_tick, event_did, of_session, did_of}
@@ -39,7 +38,7 @@ Stands start s room₀ answers₀ loaded gauge =
 
 -- an event that was taken came at its time, with a payload of its kind's size
 pub ran_taking : {σ : Session} {room : ℕ} {l : List ℕ} {used : ℕ} {e : Event} → Ran of_session σ room l used e
-    → Taking false σ.loaded (payload_of used l) (taken.Run e)
+    → Taking false σ.loaded (payload_of used l) (Ok e)
 ran_taking {σ} {l = l} {used} x =
     subst (Taking false σ.loaded (payload_of used l)) x.told (timed_taking σ.loaded (payload_of used l) (last_tick σ) (pair_at l 2))
 
@@ -50,7 +49,7 @@ with_gauge w el eg e = ((λ i. record { loaded = el i; gauge = (eg ∙ e) i }), 
 
 module _ {σ : Session} {room : List ℕ} {used : ℕ} {l : List ℕ} {r : Record} {loaded : Bool} {gauge : Gauge} {after : List ℕ} {next line : ℕ}
     (f : Front of_session σ (length room - used) l r) where
-  pub turn_idle : r.event ≡ asked.Nothing → GaugeWf σ.gauge → loaded ≡ σ.loaded → gauge ≡ σ.gauge
+  pub turn_idle : r.event ≡ None → GaugeWf σ.gauge → loaded ≡ σ.loaded → gauge ≡ σ.gauge
       → after ≡ room → next ≡ used → line ≡ code_of r.kind r.answer 0 → Turn σ room used l loaded gauge after next line
   turn_idle a w el eg =
       every.turn_idle of_session did_of did_same SessionWf f (record { gauge = subst GaugeWf (sym eg) w }) a (λ i. record { loaded = el i; gauge = eg i })

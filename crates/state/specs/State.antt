@@ -68,7 +68,8 @@ acr_of count = count / 4096
 abbrev pub fraction_of : ℕ → ℕ
 fraction_of count = count % 4096
 
--- of every charge
+-- of every charge. (A clause of the functions, here and of every state above, and no ghost field: definitions build states of any numbers, and
+-- each would have to hold a proof. No invariant of the type either: functions that ask nothing, such as `image_out`, would ask it.)
 pub record ChargeWf (g : Charge) : Type 0 where
   pub count : g.count < 2 ^ 28
   pub age : g.age < 32 * 65535

@@ -46,13 +46,11 @@ pub fn blanking_edge(profile: Profile) -> u16
 pub fn counts_cycles(profile: Profile) -> bool
     ensures { result ≡ counts_cycles profile }
 {
-    match profile {
-        Profile::Ds2781 => false,
-        Profile::Ds2775 => true,
-    }
+    matches!(profile, Profile::Ds2775)
 }
 
-// The tick of the last sample since power-on; `any`: there was one.
+// The tick of the last sample since power-on; `any`: there was one. (No Option: bytes of a state may hold any value beside a flag of 0, and by `undoing`
+// of `state_bytes` the same bytes come out.)
 #[derive(Clone, Copy)]
 pub struct Tick {
     pub any: bool,
@@ -64,18 +62,18 @@ pub fn elapsed(tick: Tick, now: u16) -> u16
     ensures { result ≡ elapsed_of tick now }
 {
     if tick.any {
-        std::num::wrapping_sub_u16(now, tick.last)
+        now.wrapping_sub(tick.last)
     } else {
         1
     }
 }
 
 // Whether these are 1 to 64, so that the sample is taken.
+#[tactic(auto, unfolding(crate::specs::State::timely_of))]
 pub fn timely(tick: Tick, now: u16) -> bool
     ensures { result ≡ timely_of tick now }
 {
-    let n = elapsed(tick, now);
-    numbers::and(1 <= n, n <= 64)
+    (1..=64).contains(&elapsed(tick, now))
 }
 
 // The net address and BL0: changed only by an image and by a lock of block 0.
@@ -124,7 +122,8 @@ pub struct Cells {
 }
 
 // ACR × 4,096 + fraction, AS, LEARNF, the mark after an ACR write and the age counter. (Side by side, count and age would be passed as one
-// number of eight bytes.)
+// number of eight bytes. Its bounds, as those of a meter, are clauses and no invariant of the type: definitions build charges of any numbers, and taking
+// an image or a state out asks nothing.)
 #[derive(Clone, Copy)]
 pub struct Charge {
     pub aging: u8,
@@ -141,7 +140,7 @@ pub struct Cycles {
     pub rest: u32,
 }
 
-// CURRENT and the c before it; `any`: there was a conversion, `two`: there were two. (The order of fields: docs/SPEED.md.)
+// CURRENT and the c before it; `any`: there was a conversion, `two`: there were two. (No Options: as with a tick. The order of fields: docs/SPEED.md.)
 #[derive(Clone, Copy)]
 pub struct Trace {
     pub two: bool,
@@ -151,6 +150,7 @@ pub struct Trace {
 }
 
 // The conversions since power-on, modulo 1,024, which modulo 8 are those of the run of eight; the sum of their c; IAVG, and whether there is one.
+// (No Option: as with a tick.)
 #[derive(Clone, Copy)]
 pub struct Average {
     pub sum: u32,
@@ -159,7 +159,7 @@ pub struct Average {
     pub iavg: u16,
 }
 
-// The readings since the previous IAVG: whether there is one, and their lowest VOLT.
+// The readings since the previous IAVG: whether there is one, and their lowest VOLT. (No Option: as with a tick.)
 #[derive(Clone, Copy)]
 pub struct Since {
     pub any: bool,
@@ -191,7 +191,7 @@ pub struct Results {
     pub rsac: u16,
 }
 
-// VOLT and TEMP as counts, and whether there was a reading since power-on.
+// VOLT and TEMP as counts, and whether there was a reading since power-on. (No Option: as with a tick.)
 #[derive(Clone, Copy)]
 pub struct Reading {
     pub volt: u16,
@@ -227,25 +227,26 @@ pub struct Meter {
 
 impl Meter {
     // The meter that cells power on to: of them it takes the profile, the EEPROM, BL1 and what is saved.
+    #[tactic(auto, using(crate::proofs::Laws::power_wf), unfolding(crate::specs::State::powered_of))]
     pub fn powered(cells: Cells) -> Meter
         ensures value { result ≡ powered_of cells }
         ensures kept { MeterWf result }
     {
+        // An array goes through a variable: the check covers none that is put straight from one field into another.
         let eeprom = cells.block.eeprom;
         let saved = cells.saved;
-        let profile = cells.profile;
         Meter {
             cells: Cells {
-                profile: profile,
                 block: Block {
                     shadow: eeprom,
-                    eeprom: eeprom,
+                    eeprom,
                 },
                 locks: Locks {
                     lock: false,
                     bl1: cells.locks.bl1,
                 },
-                saved: saved,
+                saved,
+                profile: cells.profile,
             },
             charge: Charge {
                 count: (saved.acr as u32) * 4096,

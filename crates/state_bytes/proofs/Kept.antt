@@ -5,14 +5,13 @@ use mathlib.Core.List.{List}
 use Prim.Native.Nat.{ℕ}
 use lib.Dec.{ltb}
 use lib.ListN.{length}
+use Rattle.std.specs.Prelude.{Ok, Err}
 use Rattle.numbers.proofs.Bounds.{picked}
 use Rattle.state.specs.declared.Profile.{Profile}
 use Rattle.state.specs.State.{image_size_of}
 use Rattle.record.specs.declared.Event.{Event}
 use Rattle.record.specs.declared.Event.TheVariants.{Image, Change, Transact}
-use Rattle.record.specs.declared.Taken.{Taken}
-use Rattle.record.specs.declared.Taken.TheVariants.{Run, Refused}
-use Rattle.record.specs.Record.{master_of, asks_of, fitted_of}
+use Rattle.record.specs.Record.{master_of, asks_of, fitted_of, Taken}
 use Rattle.record.proofs.Fits.{Taking, timed_taking}
 use Rattle.gauge.specs.declared.Gauge.{Gauge}
 use Rattle.gauge.specs.Gauge.{Sized, Uncounted}
@@ -31,15 +30,15 @@ module _ (P : Gauge → Type 0) (k : Kept P) (image : (f : Profile) (p : List �
   did_keeps σ room cut h = h
   did_keeps σ room (whole kind p) h = fitted (told_of σ.loaded (last_tick σ) kind p) (timed_taking σ.loaded p (last_tick σ) kind)
     where
-      event : (e : Event) → Taking false σ.loaded p (Run e) → P (event_did σ p e).state.gauge
+      event : (e : Event) → Taking false σ.loaded p (Ok e) → P (event_did σ p e).state.gauge
       event (Image f) t = image f p t.2
       event (Change c) t = k.change σ.gauge c h
       event (Transact x) t = k.act σ.gauge x (master_of x p) h
 
       fitted : (t : Taken) → Taking false σ.loaded p t → P (answered_by of_session σ p (fitted_of room t)).state.gauge
-      fitted (Run e) taking =
+      fitted (Ok e) taking =
           picked (λ (x : Taken). P (answered_by of_session σ p x).state.gauge) (ltb room (asks_of e)) _ _ (λ full. h) (λ fits. event e taking)
-      fitted (Refused r) taking = h
+      fitted (Err r) taking = h
 
 -- the sizes of its arrays, and that a DS2781 counts no cycles
 module _ (σ : Session) (room : ℕ) (r : Rec) where

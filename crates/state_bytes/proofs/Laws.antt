@@ -27,8 +27,8 @@ pub stored_both : {k m n : ℕ} {xs ys l a b : List ℕ} {i : ℕ} → Stored m 
 stored_both {xs = xs} {ys} {l} {b = b} {i} f g e = subst (λ (n : ℕ). Stored n (xs ++ ys) l i b) (sym e) (stored_then f g)
 
 -- an array that holds the bytes of a value was stored
-pub stored_as : {n : ℕ} {array vs l b : List ℕ} {i : ℕ} → array ≡ vs → length vs ≡ n → b ≡ put l i array → Stored n vs l i b
-stored_as {vs = vs} {l} {b} {i} e size h = record { sized = size; written = h ∙ ap (put l i) e }
+pub stored_as : {n : ℕ} {array vs l b : List ℕ} {i : ℕ} → array ≡ vs → Stored n array l i b → Stored n vs l i b
+stored_as {n} {l = l} {b} {i} e h = subst (λ (x : List ℕ). Stored n x l i b) e h
 
 -- ---- what was written is read again
 

@@ -242,12 +242,17 @@ module _ (s : List ℕ) (t : Transaction) (master : List ℕ) {address : List �
       → after ≡ reply_of (gauge_at s 2) t master ++ drop t.count room
   reply_is room = replies (gauge_at s 2) t master room chosen_is
 
-  module _ {can tests : Bool} (et : can ≡ can_change t.command) (eb : tests ≡ both chosen can) where
-    tested : tests ≡ both (selected_of (gauge_at s 2).common.address t master) (can_change t.command)
-    tested = eb ∙ (λ k. both (chosen_is k) (et k))
+  pub unchosen_became : chosen ≡ false → Placed s 2 → Became s 2 (act_of (gauge_at s 2) t master) s
+  unchosen_became e p =
+      became_as (stays p) (sym (act_idle (gauge_at s 2) t master (ap (λ (b : Bool). both b (can_change t.command)) (sym chosen_is ∙ e))))
 
-    pub act_became : {after : List ℕ} → tests ≡ true → Became s 2 (ran_of (gauge_at s 2) t master) after → Became s 2 (act_of (gauge_at s 2) t master) after
-    act_became e b = became_as b (acts (gauge_at s 2) t master (sym tested ∙ e))
+  module _ {can : Bool} (et : can ≡ can_change t.command) where
+    tested : {b : Bool} → chosen ≡ true → can ≡ b → both (selected_of (gauge_at s 2).common.address t master) (can_change t.command) ≡ b
+    tested h e = λ k. both ((sym chosen_is ∙ h) k) ((sym et ∙ e) k)
 
-    pub idle_became : tests ≡ false → Placed s 2 → Became s 2 (act_of (gauge_at s 2) t master) s
-    idle_became e p = became_as (stays p) (sym (act_idle (gauge_at s 2) t master (sym tested ∙ e)))
+    pub act_became : {after : List ℕ} → chosen ≡ true → can ≡ true → Became s 2 (ran_of (gauge_at s 2) t master) after
+        → Became s 2 (act_of (gauge_at s 2) t master) after
+    act_became h e b = became_as b (acts (gauge_at s 2) t master (tested h e))
+
+    pub idle_became : chosen ≡ true → can ≡ false → Placed s 2 → Became s 2 (act_of (gauge_at s 2) t master) s
+    idle_became h e p = became_as (stays p) (sym (act_idle (gauge_at s 2) t master (tested h e)))

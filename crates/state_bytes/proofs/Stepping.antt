@@ -1,12 +1,16 @@
 -- A step by state bytes, from what reading them, the event and writing leave.
+use Rattle.std.specs.Prelude.{Ok, Err, Result, ⊤}
+use Rattle.state_bytes.specs.declared.StateRefusal.{StateRefusal}
+use Rattle.state_bytes.specs.declared.StateRefusal.TheVariants as why
 use mathlib.Core.Path.{◌≡◌, refl, sym, ap, subst, ◌∙◌}
 use mathlib.Core.Bool.{Bool, true, false}
 use mathlib.Core.List.{List, [], ◌∷◌, ◌++◌}
 use Prim.Native.Nat.{ℕ, ◌+◌, ◌-◌, ◌≤◌}
 use native.Mathlib.Omega.{arith}
-use borrow.Author.Tests.{eq-eqb, ne_eqb, le-leb}
+use borrow.Author.Tests.{eq-eqb, ne_eqb}
 use lib.ListN.{length, drop}
 use lib.Seq.{take_all}
+use Rattle.std.specs.Prelude.{None}
 use Rattle.numbers.specs.Choice.{pick}
 use Rattle.slices.specs.Slices.{part, put, pair_at}
 use Rattle.slices.proofs.Laws.{put_front, put_whole, put_second}
@@ -19,7 +23,6 @@ use Rattle.gauge.specs.Act.{act_of, reply_of}
 use Rattle.runs.specs.Record.{rec_of, size_of, whole_of}
 use Rattle.runs.specs.Run.{Did, silently}
 use Rattle.runs.specs.Step.{StepDone}
-use Rattle.runs.specs.declared.Asked.TheVariants as asked
 use Rattle.runs.specs.declared.Record.{Record}
 use Rattle.runs.specs.declared.Session.{Session}
 use Rattle.runs.specs.AnyRecord.{record_by}
@@ -30,40 +33,77 @@ use Rattle.runs.proofs.Records.{whole_end, size_whole, size_cut}
 use Rattle.runs.proofs.Fronts.{payload_of, Ran, Front, idle}
 use Rattle.runs.proofs.Turns.{master_part}
 use Rattle.session_run.proofs.Turns.{did_same, ran_taking}
-use Rattle.state_bytes.specs.declared.StateIn.{StateIn}
 use Rattle.state_bytes.specs.Layout.{flag_byte}
-use Rattle.state_bytes.specs.State.{state_size, gauge_layout, state_bytes, session_at, state_in, StateOut}
+use Rattle.state_bytes.specs.State.{gauge_layout, state_bytes, session_at, StateIn, state_in, number_in, session_in, checked}
 use Rattle.state_bytes.specs.Theorems.{StateWf}
 use Rattle.state_bytes.specs.Places.{gauge_at, Placed, Became}
-use Rattle.state_bytes.specs.Steps.{did_in, StateStepped}
+use Rattle.state_bytes.specs.Steps.{StateStep, step_of, said_of, did_in, StateStepped}
 use Rattle.state_bytes.proofs.Undoing.{gauge, state_length, in_size, read_held, undoing}
 use Rattle.state_bytes.proofs.Kept.{did_sized, did_uncounted}
 
+-- that nothing was refused
+abbrev done : Result ⊤ StateRefusal
+done = Ok tt
+
+abbrev is_held : Result ⊤ StateRefusal → ℕ
+is_held (Ok v) = 1
+is_held (Err r) = 0
+
+ok_not_err : {r : StateRefusal} → done ≡ Err r → ⊥
+ok_not_err e = let z : ◌≡◌ {A = ℕ} 1 0 = ap is_held e in omega (arith, z)
+
+abbrev as_step : Result ⊤ StateRefusal → StateStep
+as_step (Ok v) = step_of 0 0
+as_step (Err r) = Err r
+
+-- what a step says of bytes that are a state, and of others
+pub said_held : {S : Type 0} (x : Result S StateRefusal) (d : Did S) → number_in x ≡ 0 → step_of d.answer (length d.reply) ≡ said_of x d
+said_held (Ok σ) d zero = refl
+said_held (Err why.Size) d zero = absurd (omega (arith, zero))
+said_held (Err why.Version) d zero = absurd (omega (arith, zero))
+said_held (Err why.Unsound) d zero = absurd (omega (arith, zero))
+
+pub said_none : {S : Type 0} (x : Result S StateRefusal) {r : StateRefusal} (d : Did S) → Err r ≡ checked x → Err r ≡ said_of x d
+said_none (Ok σ) d e = absurd (ok_not_err (sym e))
+said_none (Err r) d e = ap as_step e
+
+-- bytes that were tested
+pub checked_held : {S : Type 0} (x : Result S StateRefusal) → done ≡ checked x → number_in x ≡ 0
+checked_held (Ok σ) e = refl
+checked_held (Err r) e = absurd (ok_not_err e)
+
+pub checked_none : {S : Type 0} (x : Result S StateRefusal) {r : StateRefusal} → Err r ≡ checked x → number_in x ≡ 0 → ⊥
+checked_none (Ok σ) e zero = ok_not_err (sym e)
+checked_none (Err why.Size) e zero = omega (arith, zero)
+checked_none (Err why.Version) e zero = omega (arith, zero)
+checked_none (Err why.Unsound) e zero = omega (arith, zero)
+
 module _ {state bytes room : List ℕ} {held : StateIn} (h : held ≡ state_in state) where
   -- a state was read, the record was run in it, and the state after it written
-  pub stepped_held : {τ : Session} {answer replied : ℕ} {last after : List ℕ} → held.number ≡ 0
-      → StepDone did_of held.session bytes room τ answer replied last → SessionWf τ → after ≡ put state 0 (state_bytes τ)
-      → StateStepped state bytes room (record { number = 0; answer = answer; replied = replied }) after last
+  pub stepped_held : {τ : Session} {answer replied : ℕ} {last after : List ℕ} → number_in held ≡ 0
+      → StepDone did_of (session_in held) bytes room τ answer replied last → SessionWf τ → after ≡ put state 0 (state_bytes τ)
+      → StateStepped state bytes room (step_of answer replied) after last
   stepped_held {τ} {after = after} z s w e =
       let d = did_in state bytes room in
-      let zero : (state_in state).number ≡ 0 = sym (ap (λ (x : StateIn). x.number) h) ∙ z in
-      let t = eq-eqb (state_in state).number 0 zero in
-      let same : did_of held.session (length room) (rec_of bytes) ≡ d = ap (λ (x : StateIn). did_of x.session (length room) (rec_of bytes)) h in
+      let zero : number_in (state_in state) ≡ 0 = sym (ap (λ (x : StateIn). number_in x) h) ∙ z in
+      let t = eq-eqb (number_in (state_in state)) 0 zero in
+      let same : did_of (session_in held) (length room) (rec_of bytes) ≡ d =
+      ap (λ (x : StateIn). did_of (session_in x) (length room) (rec_of bytes)) h in
       let is : τ ≡ d.state = s.state ∙ ap (λ (x : Did Session). x.state) same in
       let before = undoing.sound state zero in
       let good : StateWf d.state = record {
         wf = subst SessionWf is w;
-        sized = did_sized (state_in state).session (length room) (rec_of bytes) before.sized;
-        uncounted = did_uncounted (state_in state).session (length room) (rec_of bytes) before.uncounted;
+        sized = did_sized (session_in (state_in state)) (length room) (rec_of bytes) before.sized;
+        uncounted = did_uncounted (session_in (state_in state)) (length room) (rec_of bytes) before.uncounted;
       } in
       let holds : after ≡ state_bytes d.state =
       e ∙ ap (λ (x : Session). put state 0 (state_bytes x)) is
       ∙ put_whole state (state_bytes d.state) (state_length d.state good.sized ∙ sym (in_size state zero)) in
+      let answered = s.answered ∙ ap (λ (x : Did Session). x.answer) same in
+      let counted = s.counted ∙ ap (λ (x : Did Session). length x.reply) same in
       record {
         again = λ n. ap state_in holds ∙ undoing.back d.state good;
-        number = sym zero;
-        answered = s.answered ∙ ap (λ (x : Did Session). x.answer) same ∙ sym (ap (λ (b : Bool). pick b d.answer 0) t);
-        counted = s.counted ∙ ap (λ (x : Did Session). length x.reply) same ∙ sym (ap (λ (b : Bool). pick b (length d.reply) 0) t);
+        said = (λ i. step_of (answered i) (counted i)) ∙ said_held (state_in state) d zero;
         kept =
             e ∙ ap (λ (x : Session). put state 0 (state_bytes x)) is
             ∙ sym (ap (λ (b : Bool). pick b (put state 0 (state_bytes d.state)) state) t);
@@ -71,26 +111,18 @@ module _ {state bytes room : List ℕ} {held : StateIn} (h : held ≡ state_in s
             s.written ∙ ap (λ (x : Did Session). put room 0 x.reply) same ∙ sym (ap (λ (b : Bool). pick b (put room 0 d.reply) room) t);
       }
 
-  -- the bytes were no state
-  pub stepped_none : (held.number ≡ 0 → ⊥) → StateStepped state bytes room (record { number = held.number; answer = 0; replied = 0 }) state room
-  stepped_none z =
-      let d = did_in state bytes room in
-      let same = ap (λ (x : StateIn). x.number) h in
-      let t = ne_eqb (state_in state).number 0 (λ e. z (same ∙ e)) in
-      record {
-        again = λ n. absurd (z n);
-        number = same;
-        answered = sym (ap (λ (b : Bool). pick b d.answer 0) t);
-        counted = sym (ap (λ (b : Bool). pick b (length d.reply) 0) t);
-        kept = sym (ap (λ (b : Bool). pick b (put state 0 (state_bytes d.state)) state) t);
-        written = sym (ap (λ (b : Bool). pick b (put room 0 d.reply) room) t);
-      }
-
--- the same, of the number alone
-pub stepped_number : {state bytes room : List ℕ} {number : ℕ} → number ≡ (state_in state).number → (number ≡ 0 → ⊥)
-    → StateStepped state bytes room (record { number = number; answer = 0; replied = 0 }) state room
-stepped_number {state} {bytes} {room} e z =
-    rw e (stepped_none {held = state_in state} refl (λ h. z (e ∙ h)))
+-- the bytes were no state
+pub stepped_none : {state bytes room : List ℕ} {r : StateRefusal} → Err r ≡ checked (state_in state)
+    → StateStepped state bytes room (Err r) state room
+stepped_none {state} {bytes} {room} e =
+    let d = did_in state bytes room in
+    let t = ne_eqb (number_in (state_in state)) 0 (checked_none (state_in state) e) in
+    record {
+      again = λ n. absurd (checked_none (state_in state) e n);
+      said = said_none (state_in state) d e;
+      kept = sym (ap (λ (b : Bool). pick b (put state 0 (state_bytes d.state)) state) t);
+      written = sym (ap (λ (b : Bool). pick b (put room 0 d.reply) room) t);
+    }
 
 -- a record takes no more bytes than there are
 pub size_fits_lem : (l : List ℕ) → size_of l ≤ length l
@@ -102,20 +134,15 @@ size_fits_lem l = by (whole_of l) refl
 
 -- ---- the state that the bytes are
 
--- a state was written over as many bytes
-pub out_whole : {σ : Session} {state after : List ℕ} {done : Bool} → length state ≡ state_size → StateOut σ state done after
-    → after ≡ put state 0 (state_bytes σ)
-out_whole {state = state} size out = rw (le-leb state_size (length state) (omega (arith, size))) at out.written
-
-module _ (state : List ℕ) (zero : (state_in state).number ≡ 0) where
-  was_read : record { number = 0; session = session_at state } ≡ state_in state
+module _ (state : List ℕ) (zero : number_in (state_in state) ≡ 0) where
+  was_read : Ok (session_at state) ≡ state_in state
   was_read = read_held state zero
 
   good : StateWf (session_at state)
-  good = subst (λ (x : StateIn). StateWf x.session) (sym was_read) (undoing.sound state zero)
+  good = subst (λ (x : StateIn). StateWf (session_in x)) (sym was_read) (undoing.sound state zero)
 
   written_so : state_bytes (session_at state) ≡ state
-  written_so = ap (λ (x : StateIn). state_bytes x.session) was_read ∙ undoing.forth state zero
+  written_so = ap (λ (x : StateIn). state_bytes (session_in x)) was_read ∙ undoing.forth state zero
 
   same_state : state ≡ put state 0 (state_bytes (session_at state))
   same_state =
@@ -144,7 +171,7 @@ module _ (state : List ℕ) (zero : (state_in state).number ≡ 0) where
     -- what the record does is known
     by_did : {d : Did Session} {answer replied : ℕ} {after last : List ℕ} → record_by of_session (session_at state) (length room) (rec_of bytes) ≡ d
         → SessionWf d.state → answer ≡ d.answer → replied ≡ length d.reply → after ≡ put state 0 (state_bytes d.state) → last ≡ put room 0 d.reply
-        → StateStepped state bytes room (record { number = 0; answer = answer; replied = replied }) after last
+        → StateStepped state bytes room (step_of answer replied) after last
     by_did {d} did wf answer replied after last =
         let e : d ≡ did_of (session_at state) (length room) (rec_of bytes) = sym did ∙ sym (did_same (session_at state) (length room) (rec_of bytes)) in
         stepped_held was_read refl
@@ -158,7 +185,7 @@ module _ (state : List ℕ) (zero : (state_in state).number ≡ 0) where
 
     module _ {r : Record} (f : Front of_session (session_at state) (length room) bytes r) where
       -- a record that asks nothing
-      pub step_idle : r.event ≡ asked.Nothing → StateStepped state bytes room (record { number = 0; answer = r.answer; replied = 0 }) state room
+      pub step_idle : r.event ≡ None → StateStepped state bytes room (step_of r.answer 0) state room
       step_idle t = by_did (idle of_session f t) good.wf refl refl same_state refl
 
       module _ {e : Event} (x : Ran of_session (session_at state) (length room) bytes r.used e) where
@@ -168,7 +195,7 @@ module _ (state : List ℕ) (zero : (state_in state).number ≡ 0) where
         -- an image or a change
         pub step_silent : {g : Gauge} {after : List ℕ} → event_did (session_at state) (payload_of r.used bytes) e ≡ silently (loaded_with g) 0
             → GaugeWf g → after ≡ put state 0 (state_bytes (loaded_with g))
-            → StateStepped state bytes room (record { number = 0; answer = r.answer; replied = 0 }) after room
+            → StateStepped state bytes room (step_of r.answer 0) after room
         step_silent d wf after = by_did (x.did ∙ d) (record { gauge = wf }) answers refl after refl
 
       -- a transaction
@@ -188,7 +215,7 @@ module _ (state : List ℕ) (zero : (state_in state).number ≡ 0) where
 
         pub step_reply : {after last : List ℕ} → Became state 2 (act_of (session_at state).gauge t lent) after
             → last ≡ reply_of (session_at state).gauge t lent ++ drop t.count room
-            → StateStepped state bytes room (record { number = 0; answer = r.answer; replied = t.count }) after last
+            → StateStepped state bytes room (step_of r.answer t.count) after last
         step_reply {last = last} b reply =
             let fits : length (reply_of (session_at state).gauge t lent) ≤ length room = omega (arith, asked_bytes, x.held) in
             let front = put_front room (reply_of (session_at state).gauge t lent) fits in

@@ -1,4 +1,5 @@
 -- What the code does with a tray's bytes: a pack joins, an event of a slot, and the packs that a transaction reaches change one after the other.
+use Rattle.state_bytes.specs.State.{number_in}
 use mathlib.Core.Path.{◌≡◌, refl, sym, ap, subst, ◌∙◌}
 use mathlib.Core.Bool.{true, false}
 use mathlib.Core.List.{List}
@@ -43,7 +44,7 @@ closes {τ} b =
 
 -- ---- a pack joins, and an event of a slot
 
-module _ (state : List ℕ) (zero : (tray_state_in state).number ≡ 0) where
+module _ (state : List ℕ) (zero : number_in (tray_state_in state) ≡ 0) where
   -- the pack of an image stands behind the others
   module _ {n : ℕ} (f : Profile) (p : List ℕ) {g : Gauge} {after : List ℕ} (en : n ≡ (tray_at state).count) (low : (tray_at state).count < 8)
       (size : length p ≡ image_size_of f) (eg : g ≡ image_of f p) (s : Stored 170 (gauge_layout.out g) state (3 + n * 170) after) where
@@ -95,7 +96,7 @@ module _ (t : Transaction) (master : List ℕ) where
     pub sized : PacksSized tray
     pub changing : Changing t master (tray_at state₀) tray i
 
-  module _ (state₀ : List ℕ) (zero : (tray_state_in state₀).number ≡ 0) where
+  module _ (state₀ : List ℕ) (zero : number_in (tray_state_in state₀) ≡ 0) where
     pub changing_in_start : {span : Span} {i : ℕ} → span ≡ span_at t master (tray_at state₀) → span.first ≤ span.stop → i ≡ span.first
         → ChangingIn state₀ state₀ i
     changing_in_start es straight e = record {

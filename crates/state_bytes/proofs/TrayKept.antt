@@ -5,6 +5,7 @@ use mathlib.Core.List.{List}
 use Prim.Native.Nat.{ℕ, zero, suc}
 use lib.Dec.{ltb}
 use lib.ListN.{length}
+use Rattle.std.specs.Prelude.{Ok, Err}
 use Rattle.numbers.proofs.Bounds.{picked}
 use Rattle.bus.specs.declared.Transaction.{Transaction}
 use Rattle.state.specs.declared.Common.{Common}
@@ -14,9 +15,7 @@ use Rattle.state.specs.State.{counts_cycles, image_size_of, LabelSized}
 use Rattle.block1.specs.Block1.{BlockSized}
 use Rattle.record.specs.declared.Event.{Event}
 use Rattle.record.specs.declared.Event.TheVariants.{Image, Change, Transact}
-use Rattle.record.specs.declared.Taken.{Taken}
-use Rattle.record.specs.declared.Taken.TheVariants.{Run, Refused}
-use Rattle.record.specs.Record.{master_of, asks_of, fitted_of}
+use Rattle.record.specs.Record.{master_of, asks_of, fitted_of, Taken}
 use Rattle.gauge.specs.declared.Gauge.{Gauge}
 use Rattle.gauge.specs.Gauge.{Sized, NoCycles, Uncounted}
 use Rattle.gauge.specs.Act.{act_of}
@@ -54,7 +53,7 @@ module _ (P : Gauge → Type 0) (k : Kept P) (image : (f : Profile) (p : List �
   tray_keeps τ room cut h = h
   tray_keeps τ room (whole kind p) h = fitted (tray_told τ kind p) (tray_taking τ kind p)
     where
-      event : (e : Event) → TrayTaking τ.count τ.closed p (again_of τ p) (Run e) → Placed P (tray_event τ p e).state
+      event : (e : Event) → TrayTaking τ.count τ.closed p (again_of τ p) (Ok e) → Placed P (tray_event τ p e).state
       event (Image f) t = stored τ τ.count (image_of f p) h (image f p t.2)
       event (Change c) t =
           let i = slot_in p in
@@ -62,9 +61,9 @@ module _ (P : Gauge → Type 0) (k : Kept P) (image : (f : Profile) (p : List �
       event (Transact x) t = acted_keeps x (master_of x p) τ h (tray_reach τ x (master_of x p))
 
       fitted : (t : Taken) → TrayTaking τ.count τ.closed p (again_of τ p) t → Placed P (answered_by of_tray τ p (fitted_of room t)).state
-      fitted (Run e) taking =
+      fitted (Ok e) taking =
           picked (λ (x : Taken). Placed P (answered_by of_tray τ p x).state) (ltb room (asks_of e)) _ _ (λ full. h) (λ fits. event e taking)
-      fitted (Refused r) taking = h
+      fitted (Err r) taking = h
 
 -- ---- the sizes of its arrays, and that a DS2781 counts no cycles
 

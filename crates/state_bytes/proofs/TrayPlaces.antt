@@ -1,4 +1,5 @@
 -- The eight places of a tray's bytes: the gauge of each is read there, and where another is written the bytes are those of the tray that has it.
+use Rattle.state_bytes.specs.State.{number_in}
 use mathlib.Core.Path.{◌≡◌, refl, sym, ap, subst, ◌∙◌}
 use mathlib.Core.Bool.{Bool, true, false}
 use mathlib.Core.List.{List, [], ◌∷◌, ◌++◌}
@@ -18,10 +19,9 @@ use Rattle.gauge.specs.Gauge.{GaugeWf, Sized}
 use Rattle.tray_record.specs.declared.Tray.{Tray}
 use Rattle.tray_record.specs.Tray.{no_gauge, pack_of, stored_of, closed_of, pack_joined, TrayWf}
 use Rattle.tray_record.proofs.Laws.{stored_other}
-use Rattle.state_bytes.specs.declared.TrayStateIn.{TrayStateIn}
 use Rattle.state_bytes.specs.Layout.{Layout, flag_byte, indexed, out_each}
 use Rattle.state_bytes.specs.State.{common_layout, tick_layout, gauge_layout}
-use Rattle.state_bytes.specs.TrayState.{packs_in, tray_state_bytes, tray_at, tray_state_in}
+use Rattle.state_bytes.specs.TrayState.{packs_in, tray_state_bytes, tray_at, TrayStateIn, tray_state_in, tray_in}
 use Rattle.state_bytes.specs.Theorems.{TrayStateWf}
 use Rattle.state_bytes.proofs.Laws.{Lawful, Each, each_indexed, lawful_repeated}
 use Rattle.state_bytes.proofs.Undoing.{gauge}
@@ -178,12 +178,12 @@ joined_put τ g = refl
 
 -- ---- bytes that are a tray
 
-module _ (state : List ℕ) (zero : (tray_state_in state).number ≡ 0) where
+module _ (state : List ℕ) (zero : number_in (tray_state_in state) ≡ 0) where
   pub held_good : TrayStateWf (tray_at state)
-  held_good = subst (λ (x : TrayStateIn). TrayStateWf x.tray) (sym (tray_read_held state zero)) (tray_undoing.sound state zero)
+  held_good = subst (λ (x : TrayStateIn). TrayStateWf (tray_in x)) (sym (tray_read_held state zero)) (tray_undoing.sound state zero)
 
   pub held_is : state ≡ tray_state_bytes (tray_at state)
-  held_is = sym (ap (λ (x : TrayStateIn). tray_state_bytes x.tray) (tray_read_held state zero) ∙ tray_undoing.forth state zero)
+  held_is = sym (ap (λ (x : TrayStateIn). tray_state_bytes (tray_in x)) (tray_read_held state zero) ∙ tray_undoing.forth state zero)
 
   pub held_long : length state ≡ 1363
   held_long = tray_in_size state zero

@@ -1,4 +1,7 @@
 -- A step by the state bytes of a tray, from what reading them, the event and writing leave.
+use Rattle.std.specs.Prelude.{Err}
+use Rattle.state_bytes.specs.declared.StateRefusal.{StateRefusal}
+use Rattle.state_bytes.specs.State.{number_in, checked}
 use mathlib.Core.Path.{◌≡◌, refl, sym, ap, subst, ◌∙◌}
 use mathlib.Core.Bool.{Bool}
 use mathlib.Core.List.{List, ◌++◌}
@@ -6,6 +9,7 @@ use Prim.Native.Nat.{ℕ, ◌+◌, ◌-◌, ◌≤◌}
 use native.Mathlib.Omega.{arith}
 use borrow.Author.Tests.{eq-eqb, ne_eqb}
 use lib.ListN.{length, drop}
+use Rattle.std.specs.Prelude.{None}
 use Rattle.numbers.specs.Choice.{pick}
 use Rattle.slices.specs.Slices.{part, put}
 use Rattle.slices.proofs.Laws.{put_front, put_whole}
@@ -18,7 +22,6 @@ use Rattle.gauge.specs.Change.{changed_of}
 use Rattle.runs.specs.Record.{rec_of}
 use Rattle.runs.specs.Run.{Did, silently}
 use Rattle.runs.specs.Step.{StepDone}
-use Rattle.runs.specs.declared.Asked.TheVariants as asked
 use Rattle.runs.specs.declared.Record.{Record}
 use Rattle.runs.specs.AnyRecord.{record_by}
 use Rattle.runs.proofs.Fronts.{payload_of, Ran, Front, idle}
@@ -27,73 +30,66 @@ use Rattle.tray_record.specs.declared.Tray.{Tray}
 use Rattle.tray_record.specs.Tray.{pack_of, stored_of, closed_of, named_slot, tray_reach, tray_acted, tray_reply, tray_event, of_tray, tray_did, TrayWf}
 use Rattle.tray_record.proofs.Hearing.{tray_replying}
 use Rattle.tray_record.proofs.Taking.{did_same, slot_named_lem}
-use Rattle.state_bytes.specs.declared.TrayStateIn.{TrayStateIn}
-use Rattle.state_bytes.specs.TrayState.{tray_state_bytes, tray_at, tray_state_in}
+use Rattle.state_bytes.specs.TrayState.{tray_state_bytes, tray_at, TrayStateIn, tray_state_in, tray_in}
 use Rattle.state_bytes.specs.Theorems.{TrayStateWf}
 use Rattle.state_bytes.proofs.TrayUndoing.{tray_state_length, tray_in_size, tray_read_held, tray_undoing}
+use Rattle.state_bytes.proofs.Stepping.{said_held, said_none, checked_none}
 use Rattle.state_bytes.proofs.TrayKept.{tray_sized, tray_uncounted}
 use Rattle.state_bytes.specs.Places.{TrayBecame}
-use Rattle.state_bytes.specs.Steps.{tray_did_in, TrayStateStepped}
+use Rattle.state_bytes.specs.Steps.{step_of, tray_did_in, TrayStateStepped}
 use Rattle.state_bytes.proofs.TrayPlaces.{held_good, held_is}
 
 module _ {state bytes room : List ℕ} {held : TrayStateIn} (h : held ≡ tray_state_in state) where
   -- a state was read, the record was run in it, and the bytes are those of the state after it
-  pub tray_stepped_held : {τ : Tray} {answer replied : ℕ} {last after : List ℕ} → held.number ≡ 0
-      → StepDone tray_did held.tray bytes room τ answer replied last → TrayBecame τ after
-      → TrayStateStepped state bytes room (record { number = 0; answer = answer; replied = replied }) after last
+  pub tray_stepped_held : {τ : Tray} {answer replied : ℕ} {last after : List ℕ} → number_in held ≡ 0
+      → StepDone tray_did (tray_in held) bytes room τ answer replied last → TrayBecame τ after
+      → TrayStateStepped state bytes room (step_of answer replied) after last
   tray_stepped_held {τ} {after = after} z s b =
       let d = tray_did_in state bytes room in
-      let zero : (tray_state_in state).number ≡ 0 = sym (ap (λ (x : TrayStateIn). x.number) h) ∙ z in
-      let t = eq-eqb (tray_state_in state).number 0 zero in
-      let same : tray_did held.tray (length room) (rec_of bytes) ≡ d = ap (λ (x : TrayStateIn). tray_did x.tray (length room) (rec_of bytes)) h in
+      let zero : number_in (tray_state_in state) ≡ 0 = sym (ap (λ (x : TrayStateIn). number_in x) h) ∙ z in
+      let t = eq-eqb (number_in (tray_state_in state)) 0 zero in
+      let same : tray_did (tray_in held) (length room) (rec_of bytes) ≡ d =
+      ap (λ (x : TrayStateIn). tray_did (tray_in x) (length room) (rec_of bytes)) h in
       let is : τ ≡ d.state = s.state ∙ ap (λ (x : Did Tray). x.state) same in
       let before = tray_undoing.sound state zero in
       let good : TrayStateWf d.state = record {
         wf = subst TrayWf is b.wf;
-        sized = tray_sized (tray_state_in state).tray (length room) (rec_of bytes) before.sized;
-        uncounted = tray_uncounted (tray_state_in state).tray (length room) (rec_of bytes) before.uncounted;
+        sized = tray_sized (tray_in (tray_state_in state)) (length room) (rec_of bytes) before.sized;
+        uncounted = tray_uncounted (tray_in (tray_state_in state)) (length room) (rec_of bytes) before.uncounted;
       } in
       let holds : after ≡ tray_state_bytes d.state = b.written ∙ ap tray_state_bytes is in
       let over : put state 0 (tray_state_bytes d.state) ≡ tray_state_bytes d.state =
       put_whole state (tray_state_bytes d.state) (tray_state_length d.state good ∙ sym (tray_in_size state zero)) in
+      let answered = s.answered ∙ ap (λ (x : Did Tray). x.answer) same in
+      let counted = s.counted ∙ ap (λ (x : Did Tray). length x.reply) same in
       record {
         again = λ n. ap tray_state_in holds ∙ tray_undoing.back d.state good;
-        number = sym zero;
-        answered = s.answered ∙ ap (λ (x : Did Tray). x.answer) same ∙ sym (ap (λ (b : Bool). pick b d.answer 0) t);
-        counted = s.counted ∙ ap (λ (x : Did Tray). length x.reply) same ∙ sym (ap (λ (b : Bool). pick b (length d.reply) 0) t);
+        said = (λ i. step_of (answered i) (counted i)) ∙ said_held (tray_state_in state) d zero;
         kept = holds ∙ sym over ∙ sym (ap (λ (b : Bool). pick b (put state 0 (tray_state_bytes d.state)) state) t);
         written =
             s.written ∙ ap (λ (x : Did Tray). put room 0 x.reply) same ∙ sym (ap (λ (b : Bool). pick b (put room 0 d.reply) room) t);
       }
 
-  -- the bytes were no state
-  pub tray_stepped_none : (held.number ≡ 0 → ⊥) → TrayStateStepped state bytes room (record { number = held.number; answer = 0; replied = 0 }) state room
-  tray_stepped_none z =
-      let d = tray_did_in state bytes room in
-      let same = ap (λ (x : TrayStateIn). x.number) h in
-      let t = ne_eqb (tray_state_in state).number 0 (λ e. z (same ∙ e)) in
-      record {
-        again = λ n. absurd (z n);
-        number = same;
-        answered = sym (ap (λ (b : Bool). pick b d.answer 0) t);
-        counted = sym (ap (λ (b : Bool). pick b (length d.reply) 0) t);
-        kept = sym (ap (λ (b : Bool). pick b (put state 0 (tray_state_bytes d.state)) state) t);
-        written = sym (ap (λ (b : Bool). pick b (put room 0 d.reply) room) t);
-      }
-
--- the same, of the number alone
-pub tray_stepped_number : {state bytes room : List ℕ} {number : ℕ} → number ≡ (tray_state_in state).number → (number ≡ 0 → ⊥)
-    → TrayStateStepped state bytes room (record { number = number; answer = 0; replied = 0 }) state room
-tray_stepped_number {state} {bytes} {room} e z =
-    rw e (tray_stepped_none {held = tray_state_in state} refl (λ h. z (e ∙ h)))
+-- the bytes were no state
+pub tray_stepped_none : {state bytes room : List ℕ} {r : StateRefusal} → Err r ≡ checked (tray_state_in state)
+    → TrayStateStepped state bytes room (Err r) state room
+tray_stepped_none {state} {bytes} {room} e =
+    let d = tray_did_in state bytes room in
+    let t = ne_eqb (number_in (tray_state_in state)) 0 (checked_none (tray_state_in state) e) in
+    record {
+      again = λ n. absurd (checked_none (tray_state_in state) e n);
+      said = said_none (tray_state_in state) d e;
+      kept = sym (ap (λ (b : Bool). pick b (put state 0 (tray_state_bytes d.state)) state) t);
+      written = sym (ap (λ (b : Bool). pick b (put room 0 d.reply) room) t);
+    }
 
 -- ---- the events
 
-module _ (state : List ℕ) (zero : (tray_state_in state).number ≡ 0) (bytes room : List ℕ) where
+module _ (state : List ℕ) (zero : number_in (tray_state_in state) ≡ 0) (bytes room : List ℕ) where
   -- what the record does is known
   by_did : {d : Did Tray} {answer replied : ℕ} {after last : List ℕ} → record_by of_tray (tray_at state) (length room) (rec_of bytes) ≡ d
       → TrayBecame d.state after → answer ≡ d.answer → replied ≡ length d.reply → last ≡ put room 0 d.reply
-      → TrayStateStepped state bytes room (record { number = 0; answer = answer; replied = replied }) after last
+      → TrayStateStepped state bytes room (step_of answer replied) after last
   by_did {d} did became answer replied last =
       let e : d ≡ tray_did (tray_at state) (length room) (rec_of bytes) = sym did ∙ sym (did_same (tray_at state) (length room) (rec_of bytes)) in
       tray_stepped_held (tray_read_held state zero) refl
@@ -107,7 +103,7 @@ module _ (state : List ℕ) (zero : (tray_state_in state).number ≡ 0) (bytes r
 
   module _ {r : Record} (f : Front of_tray (tray_at state) (length room) bytes r) where
     -- a record that asks nothing
-    pub tray_step_idle : r.event ≡ asked.Nothing → TrayStateStepped state bytes room (record { number = 0; answer = r.answer; replied = 0 }) state room
+    pub tray_step_idle : r.event ≡ None → TrayStateStepped state bytes room (step_of r.answer 0) state room
     tray_step_idle t = by_did (idle of_tray f t) (record { written = held_is state zero; wf = (held_good state zero).wf }) refl refl refl
 
     module _ {e : Event} (x : Ran of_tray (tray_at state) (length room) bytes r.used e) where
@@ -116,13 +112,13 @@ module _ (state : List ℕ) (zero : (tray_state_in state).number ≡ 0) (bytes r
 
       -- an image or a change
       pub tray_step_silent : {σ : Tray} {after : List ℕ} → tray_event (tray_at state) (payload_of r.used bytes) e ≡ silently σ 0 → TrayBecame σ after
-          → TrayStateStepped state bytes room (record { number = 0; answer = r.answer; replied = 0 }) after room
+          → TrayStateStepped state bytes room (step_of r.answer 0) after room
       tray_step_silent d b = by_did (x.did ∙ d) b answers refl refl
 
     -- a change of the slot that is named
     pub tray_step_slot : {c : Changes} {i : ℕ} {after : List ℕ} → Ran of_tray (tray_at state) (length room) bytes r.used (Change c) → i ≡ named_slot bytes
         → TrayBecame (closed_of (stored_of (tray_at state) i (changed_of (pack_of (tray_at state) i) c))) after
-        → TrayStateStepped state bytes room (record { number = 0; answer = r.answer; replied = 0 }) after room
+        → TrayStateStepped state bytes room (step_of r.answer 0) after room
     tray_step_slot {c} {after = after} x e b =
         let τ = tray_at state in
         let named = slot_named_lem (held_good state zero).wf x e in
@@ -152,7 +148,7 @@ module _ (state : List ℕ) (zero : (tray_state_in state).number ≡ 0) (bytes r
           ∙ tray_replying.reply (tray_at state) (payload_of r.used bytes) (Transact t)
 
       pub tray_step_reply : {after last : List ℕ} → TrayBecame (did_by lent).state after → last ≡ reply_by lent ++ drop t.count room
-          → TrayStateStepped state bytes room (record { number = 0; answer = r.answer; replied = t.count }) after last
+          → TrayStateStepped state bytes room (step_of r.answer t.count) after last
       tray_step_reply {last = last} became reply =
           let fits : length (reply_by lent) ≤ length room = omega (arith, asked_bytes, x.held) in
           let whole : last ≡ put room 0 (reply_by lent) =

@@ -1,4 +1,7 @@
 -- Out and in of a tray's state undo each other.
+use Rattle.std.specs.Prelude.{Ok, Err}
+use Rattle.state_bytes.specs.declared.StateRefusal.TheVariants as why
+use Rattle.state_bytes.specs.State.{number_in}
 use mathlib.Core.Path.{◌≡◌, refl, sym, ap, subst, ◌∙◌}
 use mathlib.Core.Bool.{Bool, true, false}
 use mathlib.Core.List.{List, [], ◌∷◌, map}
@@ -22,11 +25,10 @@ use Rattle.gauge.proofs.Reached.{image_sized, image_uncounted}
 use Rattle.tray_record.specs.declared.Tray.{Tray}
 use Rattle.tray_record.specs.Tray.{no_gauge, empty_tray, pack_of, TrayWf}
 use Rattle.tray_record.proofs.Laws.{empty_wf}
-use Rattle.state_bytes.specs.declared.TrayStateIn.{TrayStateIn}
 use Rattle.state_bytes.specs.Layout.{indexed}
 use Rattle.state_bytes.specs.State.{gauge_layout, sound_meter}
 use Rattle.state_bytes.specs.TrayState.{tray_fields, tray_layout, sound_each, sound_tray, tray_version, tray_state_size, tray_state_bytes, tray_at}
-use Rattle.state_bytes.specs.TrayState.{no_tray_state, tray_state_in}
+use Rattle.state_bytes.specs.TrayState.{TrayStateIn, tray_state_in, tray_in}
 use Rattle.state_bytes.specs.Theorems.{TrayStateWf, TrayUndoing}
 use Rattle.state_bytes.proofs.Laws.{Lawful, lawful_byte, lawful_flag, lawful_then, lawful_repeated, lawful_held, each_indexed, indexed_holds}
 use Rattle.state_bytes.proofs.Undoing.{gauge, gauge_sized, sound_meter_lem, meter_sound}
@@ -140,37 +142,41 @@ module _ (b : List ℕ) where
   abbrev pub tray_told : Bool
   tray_told = both (sound_tray (tray_at b)) (same_bytes (tray_state_bytes (tray_at b)) b)
 
-  pub tray_in_length : (length b ≡ tray_state_size → ⊥) → no_tray_state 50 ≡ tray_state_in b
+  pub tray_in_length : (length b ≡ tray_state_size → ⊥) → Err why.Size ≡ tray_state_in b
   unfolding tray_state_in
   tray_in_length h = rw (ne_eqb (length b) tray_state_size h) refl
 
   module _ (size : length b ≡ tray_state_size) where
-    pub tray_in_version : (get_or b 0 0 ≡ tray_version → ⊥) → no_tray_state 51 ≡ tray_state_in b
+    pub tray_in_version : (get_or b 0 0 ≡ tray_version → ⊥) → Err why.Version ≡ tray_state_in b
     unfolding tray_state_in
     tray_in_version h = rw (eq-eqb (length b) tray_state_size size, ne_eqb (get_or b 0 0) tray_version h) refl
 
     module _ (v : get_or b 0 0 ≡ tray_version) where
-      pub tray_in_state : tray_told ≡ true → record { number = 0; tray = tray_at b } ≡ tray_state_in b
+      pub tray_in_state : tray_told ≡ true → Ok (tray_at b) ≡ tray_state_in b
       unfolding tray_state_in
       tray_in_state h = rw (eq-eqb (length b) tray_state_size size, eq-eqb (get_or b 0 0) tray_version v, h) refl
 
-      pub tray_in_none : tray_told ≡ false → no_tray_state 52 ≡ tray_state_in b
+      pub tray_in_none : tray_told ≡ false → Err why.Unsound ≡ tray_state_in b
       unfolding tray_state_in
       tray_in_none h = rw (eq-eqb (length b) tray_state_size size, eq-eqb (get_or b 0 0) tray_version v, h) refl
 
-tray_back : (τ : Tray) → TrayStateWf τ → tray_state_in (tray_state_bytes τ) ≡ record { number = 0; tray = τ }
+-- a tray that was read
+abbrev pub was : Tray → TrayStateIn
+was τ = Ok τ
+
+tray_back : (τ : Tray) → TrayStateWf τ → tray_state_in (tray_state_bytes τ) ≡ Ok τ
 tray_back τ w =
     let b = tray_state_bytes τ in
     let at = tray_read_back τ w in
     let sound : sound_tray (tray_at b) ≡ true = ap sound_tray at ∙ tray_sound τ w in
     let same : same_bytes (tray_state_bytes (tray_at b)) b ≡ true = ap (λ (s : Tray). same_bytes (tray_state_bytes s) b) at ∙ equal_same b in
     let told : tray_told b ≡ true = rw (sound, same) refl in
-    sym (tray_in_state b (tray_state_length τ w) (tray_first_lem τ) told) ∙ ap (λ (s : Tray). record { number = 0; tray = s }) at
+    sym (tray_in_state b (tray_state_length τ w) (tray_first_lem τ) told) ∙ ap was at
 
 -- ---- in and then out
 
 passed_by : (x y z : Bool) (τ : Tray)
-    → (pick x (pick y (pick z (record { number = 0; tray = τ }) (no_tray_state 52)) (no_tray_state 51)) (no_tray_state 50)).number ≡ 0
+    → number_in (pick x (pick y (pick z (was τ) (Err why.Unsound)) (Err why.Version)) (Err why.Size)) ≡ 0
     → (x ≡ true) × (y ≡ true) × (z ≡ true)
 passed_by true true true τ e = (refl, refl, refl)
 passed_by true true false τ e = absurd (omega (arith, e))
@@ -181,9 +187,9 @@ record Passed (b : List ℕ) : Type 0 where
   size : length b ≡ tray_state_size
   sound : sound_tray (tray_at b) ≡ true
   same : tray_state_bytes (tray_at b) ≡ b
-  read : tray_state_in b ≡ record { number = 0; tray = tray_at b }
+  read : tray_state_in b ≡ Ok (tray_at b)
 
-passed : (b : List ℕ) → (tray_state_in b).number ≡ 0 → Passed b
+passed : (b : List ℕ) → number_in (tray_state_in b) ≡ 0 → Passed b
 unfolding tray_state_in
 passed b e =
     let h = passed_by (eqb (length b) tray_state_size) (eqb (get_or b 0 0) tray_version) (tray_told b) (tray_at b) e in
@@ -195,34 +201,12 @@ passed b e =
       read = rw (h.0, h.1, h.2) refl;
     }
 
--- what is read of bytes that are a tray, and of others
-pub tray_read_held : (b : List ℕ) → (tray_state_in b).number ≡ 0 → record { number = 0; tray = tray_at b } ≡ tray_state_in b
+-- what is read of bytes that are a tray
+pub tray_read_held : (b : List ℕ) → number_in (tray_state_in b) ≡ 0 → Ok (tray_at b) ≡ tray_state_in b
 tray_read_held b e = sym (passed b e).read
 
-none_by : (x y z : Bool) (τ : Tray)
-    → ((pick x (pick y (pick z (record { number = 0; tray = τ }) (no_tray_state 52)) (no_tray_state 51)) (no_tray_state 50)).number ≡ 0 → ⊥)
-    → no_tray_state (pick x (pick y (pick z (record { number = 0; tray = τ }) (no_tray_state 52)) (no_tray_state 51)) (no_tray_state 50)).number
-    ≡ pick x (pick y (pick z (record { number = 0; tray = τ }) (no_tray_state 52)) (no_tray_state 51)) (no_tray_state 50)
-none_by true true true τ h = absurd (h refl)
-none_by true true false τ h = refl
-none_by true false z τ h = refl
-none_by false y z τ h = refl
-
-pub tray_read_none : (b : List ℕ) → ((tray_state_in b).number ≡ 0 → ⊥) → no_tray_state (tray_state_in b).number ≡ tray_state_in b
-unfolding tray_state_in
-tray_read_none b = none_by (eqb (length b) tray_state_size) (eqb (get_or b 0 0) tray_version) (tray_told b) (tray_at b)
-
--- the number by the tests, in their order
-pub tray_number_by : (b : List ℕ) → length b ≡ tray_state_size → get_or b 0 0 ≡ tray_version → {t : Bool} → t ≡ tray_told b
-    → pick t 0 52 ≡ (tray_state_in b).number
-tray_number_by b size v {t} e = by t e
-  where
-    by : (t : Bool) → t ≡ tray_told b → pick t 0 52 ≡ (tray_state_in b).number
-    by true e = ap (λ (x : TrayStateIn). x.number) (tray_in_state b size v (sym e))
-    by false e = ap (λ (x : TrayStateIn). x.number) (tray_in_none b size v (sym e))
-
 -- bytes that are a tray are as many
-pub tray_in_size : (b : List ℕ) → (tray_state_in b).number ≡ 0 → length b ≡ tray_state_size
+pub tray_in_size : (b : List ℕ) → number_in (tray_state_in b) ≡ 0 → length b ≡ tray_state_size
 tray_in_size b e = (passed b e).size
 
 -- a pack of what was read is the gauge of its place
@@ -260,7 +244,7 @@ read_wf b e =
 pub tray_undoing : TrayUndoing
 tray_undoing = record {
   back = tray_back;
-  forth = λ b e. ap (λ (s : TrayStateIn). tray_state_bytes s.tray) (passed b e).read ∙ (passed b e).same;
+  forth = λ b e. ap (λ (s : TrayStateIn). tray_state_bytes (tray_in s)) (passed b e).read ∙ (passed b e).same;
   sound = λ b e.
       let p = passed b e in
       let w = read_wf b p.sound in

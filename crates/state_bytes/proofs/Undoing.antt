@@ -1,4 +1,6 @@
 -- Out and in undo each other, of each struct and so of the state.
+use Rattle.std.specs.Prelude.{Ok, Err}
+use Rattle.state_bytes.specs.declared.StateRefusal.TheVariants as why
 use mathlib.Core.Path.{◌≡◌, refl, sym, ap, ◌∙◌}
 use mathlib.Core.Bool.{Bool, true, false}
 use mathlib.Core.List.{List, ◌∷◌}
@@ -25,14 +27,14 @@ use Rattle.state.specs.State.{counts_cycles, LabelSized, ChargeWf, AverageWf, Me
 use Rattle.block1.specs.Block1.{BlockSized}
 use Rattle.gauge.specs.Gauge.{Sized, NoCycles}
 use Rattle.runs.specs.declared.Session.{Session}
-use Rattle.state_bytes.specs.declared.StateIn.{StateIn}
 use Rattle.state_bytes.specs.State.{saved_fields, profile_fields, locks_fields, charge_fields, cycles_fields, trace_fields, since_fields, average_fields}
 use Rattle.state_bytes.specs.State.{tick_fields, flow_fields, model_fields, results_fields, reading_fields, flags_fields, shown_fields, block_fields}
 use Rattle.state_bytes.specs.State.{cells_fields, meter_fields, label_fields, common_fields, gauge_fields, session_fields}
 use Rattle.state_bytes.specs.State.{saved_layout, profile_layout, locks_layout, charge_layout, cycles_layout, trace_layout, since_layout, average_layout}
 use Rattle.state_bytes.specs.State.{tick_layout, flow_layout, model_layout, results_layout, reading_layout, flags_layout, shown_layout, block_layout}
 use Rattle.state_bytes.specs.State.{cells_layout, meter_layout, label_layout, common_layout, gauge_layout, session_layout, state_size, version}
-use Rattle.state_bytes.specs.State.{sound_charge, sound_average, sound_shown, uncounted_by, sound_meter, state_bytes, session_at, no_state, state_in}
+use Rattle.state_bytes.specs.State.{sound_charge, sound_average, sound_shown, uncounted_by, sound_meter}
+use Rattle.state_bytes.specs.State.{state_bytes, session_at, StateIn, state_in, number_in, session_in}
 use Rattle.state_bytes.specs.Theorems.{StateWf, Undoing}
 use Rattle.state_bytes.proofs.Laws.{Lawful, Any, lawful_byte, lawful_two, lawful_four, lawful_flag, lawful_bytes, lawful_then, lawful_formed}
 
@@ -211,6 +213,10 @@ meter_sound m w none =
     )
     refl
 
+-- a state that was read
+abbrev pub was : Session → StateIn
+was σ = Ok σ
+
 -- ---- out and then in
 
 pub state_length : (σ : Session) → Sized σ.gauge → length (state_bytes σ) ≡ state_size
@@ -228,18 +234,18 @@ unfolding state_bytes
 first σ = refl
 
 accepted : (b : List ℕ) → length b ≡ state_size → get_or b 0 0 ≡ version → sound_meter (session_at b).gauge.meter ≡ true
-    → same_bytes (state_bytes (session_at b)) b ≡ true → state_in b ≡ record { number = 0; session = session_at b }
+    → same_bytes (state_bytes (session_at b)) b ≡ true → state_in b ≡ Ok (session_at b)
 unfolding state_in
 accepted b size v sound same = rw (eq-eqb (length b) state_size size, eq-eqb (get_or b 0 0) version v, sound, same) refl
 
-back : (σ : Session) → StateWf σ → state_in (state_bytes σ) ≡ record { number = 0; session = σ }
+back : (σ : Session) → StateWf σ → state_in (state_bytes σ) ≡ Ok σ
 back σ w =
     let b = state_bytes σ in
     let at = read_back σ w.sized in
     let sound : sound_meter (session_at b).gauge.meter ≡ true =
     ap (λ (s : Session). sound_meter s.gauge.meter) at ∙ meter_sound σ.gauge.meter w.wf.gauge.meter w.uncounted in
     let same : same_bytes (state_bytes (session_at b)) b ≡ true = ap (λ (s : Session). same_bytes (state_bytes s) b) at ∙ equal_same b in
-    accepted b (state_length σ w.sized) (first σ) sound same ∙ ap (λ (s : Session). record { number = 0; session = s }) at
+    accepted b (state_length σ w.sized) (first σ) sound same ∙ ap was at
 
 -- ---- what is refused, in the order of the tests
 
@@ -247,28 +253,28 @@ module _ (b : List ℕ) where
   abbrev pub told : Bool
   told = both (sound_meter (session_at b).gauge.meter) (same_bytes (state_bytes (session_at b)) b)
 
-  pub in_length : (length b ≡ state_size → ⊥) → no_state 50 ≡ state_in b
+  pub in_length : (length b ≡ state_size → ⊥) → Err why.Size ≡ state_in b
   unfolding state_in
   in_length h = rw (ne_eqb (length b) state_size h) refl
 
   module _ (size : length b ≡ state_size) where
-    pub in_version : (get_or b 0 0 ≡ version → ⊥) → no_state 51 ≡ state_in b
+    pub in_version : (get_or b 0 0 ≡ version → ⊥) → Err why.Version ≡ state_in b
     unfolding state_in
     in_version h = rw (eq-eqb (length b) state_size size, ne_eqb (get_or b 0 0) version h) refl
 
     module _ (v : get_or b 0 0 ≡ version) where
-      pub in_state : told ≡ true → record { number = 0; session = session_at b } ≡ state_in b
+      pub in_state : told ≡ true → Ok (session_at b) ≡ state_in b
       unfolding state_in
       in_state h = rw (eq-eqb (length b) state_size size, eq-eqb (get_or b 0 0) version v, h) refl
 
-      pub in_none : told ≡ false → no_state 52 ≡ state_in b
+      pub in_none : told ≡ false → Err why.Unsound ≡ state_in b
       unfolding state_in
       in_none h = rw (eq-eqb (length b) state_size size, eq-eqb (get_or b 0 0) version v, h) refl
 
 -- ---- in and then out
 
 passed_by : (x y z : Bool) (σ : Session)
-    → (pick x (pick y (pick z (record { number = 0; session = σ }) (no_state 52)) (no_state 51)) (no_state 50)).number ≡ 0
+    → number_in (pick x (pick y (pick z (was σ) (Err why.Unsound)) (Err why.Version)) (Err why.Size)) ≡ 0
     → (x ≡ true) × (y ≡ true) × (z ≡ true)
 passed_by true true true σ e = (refl, refl, refl)
 passed_by true true false σ e = absurd (omega (arith, e))
@@ -279,9 +285,9 @@ record Passed (b : List ℕ) : Type 0 where
   size : length b ≡ state_size
   sound : sound_meter (session_at b).gauge.meter ≡ true
   same : state_bytes (session_at b) ≡ b
-  read : state_in b ≡ record { number = 0; session = session_at b }
+  read : state_in b ≡ Ok (session_at b)
 
-passed : (b : List ℕ) → (state_in b).number ≡ 0 → Passed b
+passed : (b : List ℕ) → number_in (state_in b) ≡ 0 → Passed b
 unfolding state_in
 passed b e =
     let test = both (sound_meter (session_at b).gauge.meter) (same_bytes (state_bytes (session_at b)) b) in
@@ -294,35 +300,12 @@ passed b e =
       read = rw (h.0, h.1, h.2) refl;
     }
 
--- what is read of bytes that are a state, and of others
-pub read_held : (b : List ℕ) → (state_in b).number ≡ 0 → record { number = 0; session = session_at b } ≡ state_in b
+-- what is read of bytes that are a state
+pub read_held : (b : List ℕ) → number_in (state_in b) ≡ 0 → Ok (session_at b) ≡ state_in b
 read_held b e = sym (passed b e).read
 
-none_by : (x y z : Bool) (σ : Session)
-    → ((pick x (pick y (pick z (record { number = 0; session = σ }) (no_state 52)) (no_state 51)) (no_state 50)).number ≡ 0 → ⊥)
-    → no_state (pick x (pick y (pick z (record { number = 0; session = σ }) (no_state 52)) (no_state 51)) (no_state 50)).number
-    ≡ pick x (pick y (pick z (record { number = 0; session = σ }) (no_state 52)) (no_state 51)) (no_state 50)
-none_by true true true σ h = absurd (h refl)
-none_by true true false σ h = refl
-none_by true false z σ h = refl
-none_by false y z σ h = refl
-
-pub read_none : (b : List ℕ) → ((state_in b).number ≡ 0 → ⊥) → no_state (state_in b).number ≡ state_in b
-unfolding state_in
-read_none b =
-    none_by (eqb (length b) state_size) (eqb (get_or b 0 0) version)
-    (both (sound_meter (session_at b).gauge.meter) (same_bytes (state_bytes (session_at b)) b)) (session_at b)
-
--- the number by the tests, in their order
-pub number_by : (b : List ℕ) → length b ≡ state_size → get_or b 0 0 ≡ version → {t : Bool} → t ≡ told b → pick t 0 52 ≡ (state_in b).number
-number_by b size v {t} e = by t e
-  where
-    by : (t : Bool) → t ≡ told b → pick t 0 52 ≡ (state_in b).number
-    by true e = ap (λ (x : StateIn). x.number) (in_state b size v (sym e))
-    by false e = ap (λ (x : StateIn). x.number) (in_none b size v (sym e))
-
 -- bytes that are a state are as many
-pub in_size : (b : List ℕ) → (state_in b).number ≡ 0 → length b ≡ state_size
+pub in_size : (b : List ℕ) → number_in (state_in b) ≡ 0 → length b ≡ state_size
 in_size b e = (passed b e).size
 
 -- the arrays of a gauge that was read have their sizes
@@ -342,7 +325,7 @@ at_sized b e = gauge_sized b 2 (omega (arith, e))
 pub undoing : Undoing
 undoing = record {
   back = back;
-  forth = λ b e. ap (λ (s : StateIn). state_bytes s.session) (passed b e).read ∙ (passed b e).same;
+  forth = λ b e. ap (λ (s : StateIn). state_bytes (session_in s)) (passed b e).read ∙ (passed b e).same;
   sound = λ b e.
       let p = passed b e in
       let m = sound_meter_lem (session_at b).gauge.meter p.sound in

@@ -8,7 +8,8 @@ use Rattle.state.specs.declared.Meter.{Meter}
 use Rattle.gauge.specs.declared.Gauge.{Gauge}
 use Rattle.gauge.specs.Gauge.{GaugeWf}
 use Rattle.tray_record.specs.declared.Tray.{Tray}
-use Rattle.tray_record.specs.Tray.{search_of, is_found, image_at, answer_of, TrayWf}
+use Rattle.std.specs.Prelude.{is_some}
+use Rattle.tray_record.specs.Tray.{search_of, image_at, answer_of, TrayWf}
 use Rattle.state_bytes.specs.State.{gauge_layout}
 use Rattle.state_bytes.specs.TrayState.{tray_state_bytes}
 
@@ -41,4 +42,4 @@ answer_by t gauge = answer_of t gauge.common gauge.label gauge.meter
 
 -- whether a pack of a tray has the address of the image at the front of some bytes
 abbrev pub known_in : Tray → List ℕ → Bool
-known_in tray l = pick (image_at l) (is_found (search_of tray.commons tray.count (part 8 l 4))) false
+known_in tray l = pick (image_at l) (is_some (search_of tray.commons tray.count (part 8 l 4))) false

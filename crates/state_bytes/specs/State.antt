@@ -1,5 +1,5 @@
 -- The state of a session as bytes: one layout for each struct of the state, in the order of `state`; and which bytes are a state.
-use Rattle.std.specs.Prelude.{◌≡◌, Bool, true, List, ◌∷◌, ◌++◌, ℕ, ◌+◌, ◌*◌, ◌^◌, eqb, leb, ltb, length, get_or}
+use Rattle.std.specs.Prelude.{◌≡◌, Result, Ok, Err, ⊤, Bool, true, List, ◌∷◌, ◌++◌, ℕ, ◌+◌, ◌*◌, ◌^◌, eqb, leb, ltb, length, get_or}
 use Rattle.numbers.specs.Choice.{pick, both}
 use Rattle.slices.specs.Slices.{put}
 use Rattle.bus.specs.Ask.{same_bytes}
@@ -28,7 +28,8 @@ use Rattle.state.specs.State.{counts_cycles, run_of}
 use Rattle.gauge.specs.declared.Gauge.{Gauge}
 use Rattle.runs.specs.declared.Session.{Session}
 use Rattle.session_run.specs.SessionRun.{empty_of}
-use Rattle.state_bytes.specs.declared.StateIn.{StateIn}
+use Rattle.state_bytes.specs.declared.StateRefusal.{StateRefusal}
+use Rattle.state_bytes.specs.declared.StateRefusal.TheVariants as why
 use Rattle.state_bytes.specs.Layout.{Layout, number1, number2, number4, flag, bytes, ◌then◌, Fields, formed}
 
 -- ---- a layout for each struct
@@ -290,22 +291,51 @@ session_at b = session_layout.at b 1
 abbrev pub flag_places : List ℕ
 flag_places = session_layout.flags_from 1
 
--- no state: the number of the refusal, and the state before the first record
-abbrev pub no_state : ℕ → StateIn
-no_state number = record { number = number; session = empty_of }
+-- ---- which bytes are a state
 
--- which bytes are a state: 50 where they are too few or too many, 51 for another version, 52 where they are not the bytes of what they say, or that
+-- the number of a refusal: 50 where the bytes are too few or too many, 51 for another version, 52 where they are not the bytes of what they say, or that
 -- is not well-formed
+abbrev pub state_refusal_number : StateRefusal → ℕ
+state_refusal_number why.Size = 50
+state_refusal_number why.Version = 51
+state_refusal_number why.Unsound = 52
+
+-- what was read, as a number: 0, or that of the refusal
+abbrev pub number_in : {A : Type 0} → Result A StateRefusal → ℕ
+number_in (Ok v) = 0
+number_in (Err r) = state_refusal_number r
+
+-- whether something was read, and why not
+abbrev pub checked : {A : Type 0} → Result A StateRefusal → Result ⊤ StateRefusal
+checked (Ok v) = Ok tt
+checked (Err r) = Err r
+
+-- what was read, or else another value
+abbrev pub value_or : {A : Type 0} → A → Result A StateRefusal → A
+value_or other (Ok v) = v
+value_or other (Err r) = other
+
+abbrev pub StateIn : Type 0
+StateIn = Result Session StateRefusal
+
+-- the state that was read; that before the first record where the bytes are none
+abbrev pub session_in : StateIn → Session
+session_in = value_or empty_of
+
 unfoldable pub state_in : List ℕ → StateIn
 state_in b =
     pick (eqb (length b) state_size)
     (pick (eqb (get_or b 0 0) version)
-    (pick (both (sound_meter (session_at b).gauge.meter) (same_bytes (state_bytes (session_at b)) b)) (record { number = 0; session = session_at b })
-    (no_state 52))
-    (no_state 51))
-    (no_state 50)
+    (pick (both (sound_meter (session_at b).gauge.meter) (same_bytes (state_bytes (session_at b)) b)) (Ok (session_at b))
+    (Err why.Unsound))
+    (Err why.Version))
+    (Err why.Size)
+
+-- a room of so many bytes at least, or the refusal of a smaller one
+abbrev pub room_for : ℕ → List ℕ → Result ⊤ StateRefusal
+room_for size room = pick (leb size (length room)) (Ok tt) (Err why.Size)
 
 -- the bytes at the front of a lent room, the rest untouched; nothing is written where they do not fit
-pub record StateOut (σ : Session) (room : List ℕ) (done : Bool) (after : List ℕ) : Type 0 where
-  pub fits : done ≡ leb state_size (length room)
+pub record StateOut (σ : Session) (room : List ℕ) (done : Result ⊤ StateRefusal) (after : List ℕ) : Type 0 where
+  pub fits : done ≡ room_for state_size room
   pub written : after ≡ pick (leb state_size (length room)) (put room 0 (state_bytes σ)) room

@@ -1,5 +1,5 @@
 -- The state of a tray as bytes: its eight places, each by the layout that a session's gauge has; and which bytes are a tray.
-use Rattle.std.specs.Prelude.{◌≡◌, Bool, true, List, [], ◌∷◌, map, ℕ, ◌+◌, eqb, leb, length, get_or}
+use Rattle.std.specs.Prelude.{◌≡◌, Result, Ok, Err, ⊤, Bool, true, List, [], ◌∷◌, map, ℕ, ◌+◌, eqb, leb, length, get_or}
 use Rattle.numbers.specs.Choice.{pick, both}
 use Rattle.slices.specs.Slices.{put}
 use Rattle.bus.specs.Ask.{same_bytes}
@@ -7,9 +7,10 @@ use Rattle.state.specs.declared.Meter.{Meter}
 use Rattle.gauge.specs.declared.Gauge.{Gauge}
 use Rattle.tray_record.specs.declared.Tray.{Tray}
 use Rattle.tray_record.specs.Tray.{empty_tray, pack_of}
-use Rattle.state_bytes.specs.declared.TrayStateIn.{TrayStateIn}
+use Rattle.state_bytes.specs.declared.StateRefusal.{StateRefusal}
+use Rattle.state_bytes.specs.declared.StateRefusal.TheVariants as why
 use Rattle.state_bytes.specs.Layout.{Layout, number1, flag, indexed, out_each, repeated, ◌then◌, Fields, formed}
-use Rattle.state_bytes.specs.State.{gauge_layout, sound_meter}
+use Rattle.state_bytes.specs.State.{gauge_layout, sound_meter, value_or, room_for}
 
 -- ---- the layout
 
@@ -60,22 +61,24 @@ tray_state_bytes tray = tray_version ∷ tray_layout.out tray
 unfoldable pub tray_at : List ℕ → Tray
 tray_at b = tray_layout.at b 1
 
--- no tray: the number of the refusal, and the tray before the first record
-abbrev pub no_tray_state : ℕ → TrayStateIn
-no_tray_state number = record { number = number; tray = empty_tray }
+abbrev pub TrayStateIn : Type 0
+TrayStateIn = Result Tray StateRefusal
 
--- which bytes are a tray: 50 where they are too few or too many, 51 for another version, 52 where they are not the bytes of what they say, or that
--- is not well-formed
+-- the tray that was read; that before the first record where the bytes are none
+abbrev pub tray_in : TrayStateIn → Tray
+tray_in = value_or empty_tray
+
+-- which bytes are a tray, and why not (`state_refusal_number` says when each refusal comes)
 unfoldable pub tray_state_in : List ℕ → TrayStateIn
 tray_state_in b =
     pick (eqb (length b) tray_state_size)
     (pick (eqb (get_or b 0 0) tray_version)
-    (pick (both (sound_tray (tray_at b)) (same_bytes (tray_state_bytes (tray_at b)) b)) (record { number = 0; tray = tray_at b })
-    (no_tray_state 52))
-    (no_tray_state 51))
-    (no_tray_state 50)
+    (pick (both (sound_tray (tray_at b)) (same_bytes (tray_state_bytes (tray_at b)) b)) (Ok (tray_at b))
+    (Err why.Unsound))
+    (Err why.Version))
+    (Err why.Size)
 
 -- the bytes at the front of a lent room, the rest untouched; nothing is written where they do not fit
-pub record TrayStateOut (τ : Tray) (room : List ℕ) (done : Bool) (after : List ℕ) : Type 0 where
-  pub fits : done ≡ leb tray_state_size (length room)
+pub record TrayStateOut (τ : Tray) (room : List ℕ) (done : Result ⊤ StateRefusal) (after : List ℕ) : Type 0 where
+  pub fits : done ≡ room_for tray_state_size room
   pub written : after ≡ pick (leb tray_state_size (length room)) (put room 0 (tray_state_bytes τ)) room

@@ -2,7 +2,7 @@
 // holds as bytes: what it asks is found out from a few of them, and of a gauge only the parts are read and written that such an event can change.
 #![tactic(auto)]
 
-ghost use Rattle.std.specs.Prelude.{◌≡◌, true, ◌++◌, ◌+◌, ◌*◌, ◌≤◌, ◌<◌, length, get_or, drop};
+ghost use Rattle.std.specs.Prelude.{◌≡◌, IfOk, true, ◌++◌, ◌+◌, ◌*◌, ◌≤◌, ◌<◌, length, get_or, drop};
 ghost use Rattle.slices.specs.Slices.{Stored};
 ghost use Rattle.state.specs.State.{counts_cycles, MeterWf, image_size_of};
 ghost use Rattle.replies.specs.Reply.{replied_of};
@@ -19,23 +19,91 @@ ghost use Rattle.tray_record.specs.Wire.{and_bytes};
 ghost use Rattle.state_bytes.specs.Layout.{flag_byte, flag_in};
 ghost use Rattle.state_bytes.specs.State.{profile_in, cells_layout, charge_layout, cycles_layout, flow_layout, shown_layout, trace_layout, average_layout};
 ghost use Rattle.state_bytes.specs.State.{tick_layout, results_layout, flags_layout, meter_layout, gauge_layout, label_layout, common_layout, head_bytes};
-ghost use Rattle.state_bytes.specs.State.{from_cycles, from_flow, from_charge, session_at, state_bytes, no_state, state_in, uncounted_by, StateOut};
+ghost use Rattle.state_bytes.specs.State.{from_cycles, from_flow, from_charge, session_at, state_bytes};
+ghost use Rattle.state_bytes.specs.State.{state_refusal_number, number_in, checked, state_in, uncounted_by, StateOut};
 ghost use Rattle.state_bytes.specs.Tested.{octet_at, clear_of, clear_octets, sound_numbers, sound_place, sound_places};
-ghost use Rattle.state_bytes.specs.TrayState.{packs_out, tray_at, tray_state_bytes, no_tray_state, tray_state_in, TrayStateOut};
+ghost use Rattle.state_bytes.specs.TrayState.{packs_out, tray_at, tray_state_bytes, tray_state_in, TrayStateOut};
 ghost use Rattle.state_bytes.specs.Places.{gauge_at, with_common, Placed, Became, TrayBecame, answer_by, known_in};
-ghost use Rattle.state_bytes.specs.Steps.{StateStepped, TrayStateStepped};
+ghost use Rattle.state_bytes.specs.Steps.{step_of, StateStepped, TrayStateStepped};
 
 use bus::{Command, Transaction};
 use gauge::Gauge;
 use record::{Change, Event};
-use runs::{Asked, Record, Session};
+use runs::{Record, Session};
 use state::{
     Average, Block, Cells, Charge, Common, Cycles, Flags, Flow, Label, Locks, Meter, Model,
     Profile, Reading, Results, Saved, Shown, Since, Tick, Trace,
 };
 use tray_record::Tray;
 
+// ---- where the parts of a struct stand, from its own first byte on
+
+const BLOCK_AT: usize = 7;
+
+const BLOCK_COPY: usize = 32;
+
+// of the meter
+const CHARGE_AT: usize = 71;
+
+const FLOW_AT: usize = 82;
+
+const CYCLES_AT: usize = 103;
+
+const SHOWN_AT: usize = 108;
+
+// of its flow
+const SINCE_AT: usize = 6;
+
+const AVERAGE_AT: usize = 9;
+
+const TICK_AT: usize = 18;
+
+// of what it shows
+const RESULTS_AT: usize = 6;
+
+const READING_AT: usize = 12;
+
+const FLAGS_AT: usize = 17;
+
+// of the gauge
+const LABEL_COPY: usize = 16;
+
+const LABEL_SIZE: usize = 32;
+
+const COMMON_SIZE: usize = 9;
+
+const BL0_AT: usize = 8;
+
+const LAST_TICK_AT: usize = 141;
+
+const GAUGE_SIZE: usize = 170;
+
+// ---- where the parts of a state stand
+
+const STATE_VERSION: u8 = 1;
+
+const STATE_SIZE: usize = 172;
+
+const LOADED_AT: usize = 1;
+
+const GAUGE_AT: usize = 2;
+
+const TRAY_VERSION: u8 = 129;
+
+const TRAY_STATE_SIZE: usize = 1363;
+
+const MAX_PACKS: u8 = 8;
+
+const COUNT_AT: usize = 1;
+
+const CLOSED_AT: usize = 2;
+
+const PACKS_AT: usize = 3;
+
 // ---- in
+
+// Here and below a part is read and written at an index of the whole state, and no page is written: it stands in the middle of a state that stays as it is
+// elsewhere, and theorems name its offset, which is said once (`gauge_layout` and those below it, `Placed`, `Became`).
 
 fn flag_at(bytes: &[u8], at: usize) -> bool
     requires { at < length bytes.now }
@@ -60,25 +128,19 @@ fn cells_at(bytes: &[u8], at: usize) -> Cells
 {
     let acr = slices::pair(bytes, at);
     let profile = profile_at(bytes, at + 4);
-    let lock = flag_at(bytes, at + 4 + 1);
-    let bl1 = flag_at(bytes, at + 4 + 1 + 1);
-    let shadow = slices::thirty_two(bytes, at + 4 + 1 + 2);
-    let eeprom = slices::thirty_two(bytes, at + 4 + 1 + 2 + 32);
+    let lock = flag_at(bytes, at + 5);
+    let bl1 = flag_at(bytes, at + 6);
+    let shadow = slices::array_at(bytes, at + BLOCK_AT);
+    let eeprom = slices::array_at(bytes, at + BLOCK_AT + BLOCK_COPY);
     Cells {
         saved: Saved {
-            acr: acr,
+            acr,
             aging: bytes[at + 2],
-            cycles: bytes[at + 2 + 1],
+            cycles: bytes[at + 3],
         },
-        profile: profile,
-        locks: Locks {
-            lock: lock,
-            bl1: bl1,
-        },
-        block: Block {
-            shadow: shadow,
-            eeprom: eeprom,
-        },
+        profile,
+        locks: Locks { lock, bl1 },
+        block: Block { shadow, eeprom },
     }
 }
 
@@ -89,9 +151,9 @@ fn charge_at(bytes: &[u8], at: usize) -> Charge
     Charge {
         aging: bytes[at],
         count: slices::quad(bytes, at + 1),
-        learnf: flag_at(bytes, at + 1 + 4),
-        mark: flag_at(bytes, at + 1 + 4 + 1),
-        age: slices::quad(bytes, at + 1 + 4 + 1 + 1),
+        learnf: flag_at(bytes, at + 5),
+        mark: flag_at(bytes, at + 6),
+        age: slices::quad(bytes, at + 7),
     }
 }
 
@@ -102,8 +164,8 @@ fn trace_at(bytes: &[u8], at: usize) -> Trace
     Trace {
         two: flag_at(bytes, at),
         before: slices::pair(bytes, at + 1),
-        last: slices::pair(bytes, at + 1 + 2),
-        any: flag_at(bytes, at + 1 + 2 + 2),
+        last: slices::pair(bytes, at + 3),
+        any: flag_at(bytes, at + 5),
     }
 }
 
@@ -114,8 +176,8 @@ fn average_at(bytes: &[u8], at: usize) -> Average
     Average {
         sum: slices::quad(bytes, at),
         made: slices::pair(bytes, at + 4),
-        known: flag_at(bytes, at + 4 + 2),
-        iavg: slices::pair(bytes, at + 4 + 2 + 1),
+        known: flag_at(bytes, at + 6),
+        iavg: slices::pair(bytes, at + 7),
     }
 }
 
@@ -136,11 +198,11 @@ fn flow_at(bytes: &[u8], at: usize) -> Flow
     Flow {
         trace: trace_at(bytes, at),
         since: Since {
-            any: flag_at(bytes, at + 6),
-            lowest: slices::pair(bytes, at + 6 + 1),
+            any: flag_at(bytes, at + SINCE_AT),
+            lowest: slices::pair(bytes, at + SINCE_AT + 1),
         },
-        average: average_at(bytes, at + 6 + 3),
-        tick: tick_at(bytes, at + 6 + 3 + 9),
+        average: average_at(bytes, at + AVERAGE_AT),
+        tick: tick_at(bytes, at + TICK_AT),
     }
 }
 
@@ -151,8 +213,8 @@ fn results_at(bytes: &[u8], at: usize) -> Results
     Results {
         rarc: bytes[at],
         rsrc: bytes[at + 1],
-        raac: slices::pair(bytes, at + 1 + 1),
-        rsac: slices::pair(bytes, at + 1 + 1 + 2),
+        raac: slices::pair(bytes, at + 2),
+        rsac: slices::pair(bytes, at + 4),
     }
 }
 
@@ -163,8 +225,8 @@ fn flags_at(bytes: &[u8], at: usize) -> Flags
     Flags {
         aef: flag_at(bytes, at),
         chgtf: flag_at(bytes, at + 1),
-        sef: flag_at(bytes, at + 1 + 1),
-        porf: flag_at(bytes, at + 1 + 1 + 1),
+        sef: flag_at(bytes, at + 2),
+        porf: flag_at(bytes, at + 3),
     }
 }
 
@@ -176,15 +238,15 @@ fn shown_at(bytes: &[u8], at: usize) -> Shown
         model: Model {
             full: slices::pair(bytes, at),
             ae: slices::pair(bytes, at + 2),
-            se: slices::pair(bytes, at + 2 + 2),
+            se: slices::pair(bytes, at + 4),
         },
-        results: results_at(bytes, at + 6),
+        results: results_at(bytes, at + RESULTS_AT),
         reading: Reading {
-            volt: slices::pair(bytes, at + 6 + 6),
-            temp: slices::pair(bytes, at + 6 + 6 + 2),
-            known: flag_at(bytes, at + 6 + 6 + 2 + 2),
+            volt: slices::pair(bytes, at + READING_AT),
+            temp: slices::pair(bytes, at + READING_AT + 2),
+            known: flag_at(bytes, at + READING_AT + 4),
         },
-        flags: flags_at(bytes, at + 6 + 6 + 5),
+        flags: flags_at(bytes, at + FLAGS_AT),
     }
 }
 
@@ -193,18 +255,18 @@ fn meter_at(bytes: &[u8], at: usize) -> Meter
     ensures { result ≡ meter_layout.at bytes.now at }
 {
     let cells = cells_at(bytes, at);
-    let charge = charge_at(bytes, at + 71);
-    let flow = flow_at(bytes, at + 71 + 11);
-    let shown = shown_at(bytes, at + 71 + 11 + 21 + 5);
+    let charge = charge_at(bytes, at + CHARGE_AT);
+    let flow = flow_at(bytes, at + FLOW_AT);
+    let shown = shown_at(bytes, at + SHOWN_AT);
     Meter {
-        cells: cells,
-        charge: charge,
-        flow: flow,
+        cells,
+        charge,
+        flow,
         cycles: Cycles {
-            count: bytes[at + 71 + 11 + 21],
-            rest: slices::quad(bytes, at + 71 + 11 + 21 + 1),
+            count: bytes[at + CYCLES_AT],
+            rest: slices::quad(bytes, at + CYCLES_AT + 1),
         },
-        shown: shown,
+        shown,
     }
 }
 
@@ -212,24 +274,18 @@ fn label_at(bytes: &[u8], at: usize) -> Label
     requires { at + 32 ≤ length bytes.now }
     ensures { result ≡ label_layout.at bytes.now at }
 {
-    let shadow = slices::sixteen(bytes, at);
-    let eeprom = slices::sixteen(bytes, at + 16);
-    Label {
-        shadow: shadow,
-        eeprom: eeprom,
-    }
+    let shadow = slices::array_at(bytes, at);
+    let eeprom = slices::array_at(bytes, at + LABEL_COPY);
+    Label { shadow, eeprom }
 }
 
 fn common_at(bytes: &[u8], at: usize) -> Common
     requires { at + 9 ≤ length bytes.now }
     ensures { result ≡ common_layout.at bytes.now at }
 {
-    let address = slices::eight(bytes, at);
-    let bl0 = flag_at(bytes, at + 8);
-    Common {
-        address: address,
-        bl0: bl0,
-    }
+    let address = slices::array_at(bytes, at);
+    let bl0 = flag_at(bytes, at + BL0_AT);
+    Common { address, bl0 }
 }
 
 // The gauge that stands from an index on.
@@ -238,12 +294,12 @@ fn gauge_at(bytes: &[u8], at: usize) -> Gauge
     ensures { result ≡ gauge_layout.at bytes.now at }
 {
     let label = label_at(bytes, at);
-    let common = common_at(bytes, at + 32);
-    let meter = meter_at(bytes, at + 32 + 9);
+    let common = common_at(bytes, at + LABEL_SIZE);
+    let meter = meter_at(bytes, at + LABEL_SIZE + COMMON_SIZE);
     Gauge {
-        label: label,
-        common: common,
-        meter: meter,
+        label,
+        common,
+        meter,
     }
 }
 
@@ -253,8 +309,8 @@ fn session_at(bytes: &[u8]) -> Session
     ensures { result ≡ session_at bytes.now }
 {
     Session {
-        loaded: flag_at(bytes, 1),
-        gauge: gauge_at(bytes, 2),
+        loaded: flag_at(bytes, LOADED_AT),
+        gauge: gauge_at(bytes, GAUGE_AT),
     }
 }
 
@@ -263,7 +319,7 @@ fn session_at(bytes: &[u8]) -> Session
 fn flag(b: bool) -> u8
     ensures { result ≡ flag_byte b }
 {
-    numbers::choose8(b, 1, 0)
+    u8::from(b)
 }
 
 fn profile_flag(profile: Profile) -> u8
@@ -276,29 +332,27 @@ fn label_out(label: Label, room: &mut [u8], at: usize)
     requires { at + 32 ≤ length room.old }
     ensures { Stored 32 (label_layout.out label) room.old at room.new }
 {
-    let shadow = label.shadow;
-    let eeprom = label.eeprom;
-    slices::store16(shadow, room, at);
-    slices::store16(eeprom, room, at + 16);
+    slices::store_array(label.shadow, room, at);
+    slices::store_array(label.eeprom, room, at + LABEL_COPY);
 }
 
 fn common_out(common: Common, room: &mut [u8], at: usize)
     requires { at + 9 ≤ length room.old }
     ensures { Stored 9 (common_layout.out common) room.old at room.new }
 {
-    let address = common.address;
     let bl0 = [flag(common.bl0)];
-    slices::store8(address, room, at);
-    slices::store(&bl0, room, at + 8);
+    slices::store_array(common.address, room, at);
+    slices::store_array(bl0, room, at + BL0_AT);
 }
 
 // The saved cells, the profile and the locks.
 fn cells_head(saved: Saved, profile: Profile, locks: Locks) -> [u8; 7]
     ensures { result ≡ head_bytes saved profile locks }
 {
+    let [acr0, acr1] = saved.acr.to_le_bytes();
     [
-        (saved.acr % 256) as u8,
-        (saved.acr / 256) as u8,
+        acr0,
+        acr1,
         saved.aging,
         saved.cycles,
         profile_flag(profile),
@@ -311,95 +365,101 @@ fn cells_out(cells: Cells, room: &mut [u8], at: usize)
     requires { at + 71 ≤ length room.old }
     ensures { Stored 71 (cells_layout.out cells) room.old at room.new }
 {
-    let saved = cells.saved;
-    let profile = cells.profile;
-    let locks = cells.locks;
-    let head = cells_head(saved, profile, locks);
-    let shadow = cells.block.shadow;
-    let eeprom = cells.block.eeprom;
-    slices::store(&head, room, at);
-    slices::store32(shadow, room, at + 7);
-    slices::store32(eeprom, room, at + 7 + 32);
+    let head = cells_head(cells.saved, cells.profile, cells.locks);
+    slices::store_array(head, room, at);
+    slices::store_array(cells.block.shadow, room, at + BLOCK_AT);
+    slices::store_array(cells.block.eeprom, room, at + BLOCK_AT + BLOCK_COPY);
 }
 
 fn charge_bytes(charge: Charge) -> [u8; 11]
     ensures { result ≡ charge_layout.out charge }
 {
+    let [count0, count1, count2, count3] = charge.count.to_le_bytes();
+    let [age0, age1, age2, age3] = charge.age.to_le_bytes();
     [
         charge.aging,
-        (charge.count % 256) as u8,
-        (charge.count / 256 % 256) as u8,
-        (charge.count / 65536 % 256) as u8,
-        (charge.count / 16777216) as u8,
+        count0,
+        count1,
+        count2,
+        count3,
         flag(charge.learnf),
         flag(charge.mark),
-        (charge.age % 256) as u8,
-        (charge.age / 256 % 256) as u8,
-        (charge.age / 65536 % 256) as u8,
-        (charge.age / 16777216) as u8,
+        age0,
+        age1,
+        age2,
+        age3,
     ]
 }
 
 fn cycles_bytes(cycles: Cycles) -> [u8; 5]
     ensures { result ≡ cycles_layout.out cycles }
 {
-    [
-        cycles.count,
-        (cycles.rest % 256) as u8,
-        (cycles.rest / 256 % 256) as u8,
-        (cycles.rest / 65536 % 256) as u8,
-        (cycles.rest / 16777216) as u8,
-    ]
+    let [rest0, rest1, rest2, rest3] = cycles.rest.to_le_bytes();
+    [cycles.count, rest0, rest1, rest2, rest3]
 }
 
 fn flow_bytes(flow: Flow) -> [u8; 21]
     ensures { result ≡ flow_layout.out flow }
 {
+    let [before0, before1] = flow.trace.before.to_le_bytes();
+    let [last0, last1] = flow.trace.last.to_le_bytes();
+    let [lowest0, lowest1] = flow.since.lowest.to_le_bytes();
+    let [sum0, sum1, sum2, sum3] = flow.average.sum.to_le_bytes();
+    let [made0, made1] = flow.average.made.to_le_bytes();
+    let [iavg0, iavg1] = flow.average.iavg.to_le_bytes();
+    let [tick0, tick1] = flow.tick.last.to_le_bytes();
     [
         flag(flow.trace.two),
-        (flow.trace.before % 256) as u8,
-        (flow.trace.before / 256) as u8,
-        (flow.trace.last % 256) as u8,
-        (flow.trace.last / 256) as u8,
+        before0,
+        before1,
+        last0,
+        last1,
         flag(flow.trace.any),
         flag(flow.since.any),
-        (flow.since.lowest % 256) as u8,
-        (flow.since.lowest / 256) as u8,
-        (flow.average.sum % 256) as u8,
-        (flow.average.sum / 256 % 256) as u8,
-        (flow.average.sum / 65536 % 256) as u8,
-        (flow.average.sum / 16777216) as u8,
-        (flow.average.made % 256) as u8,
-        (flow.average.made / 256) as u8,
+        lowest0,
+        lowest1,
+        sum0,
+        sum1,
+        sum2,
+        sum3,
+        made0,
+        made1,
         flag(flow.average.known),
-        (flow.average.iavg % 256) as u8,
-        (flow.average.iavg / 256) as u8,
+        iavg0,
+        iavg1,
         flag(flow.tick.any),
-        (flow.tick.last % 256) as u8,
-        (flow.tick.last / 256) as u8,
+        tick0,
+        tick1,
     ]
 }
 
 fn shown_bytes(shown: Shown) -> [u8; 21]
     ensures { result ≡ shown_layout.out shown }
 {
+    let [full0, full1] = shown.model.full.to_le_bytes();
+    let [ae0, ae1] = shown.model.ae.to_le_bytes();
+    let [se0, se1] = shown.model.se.to_le_bytes();
+    let [raac0, raac1] = shown.results.raac.to_le_bytes();
+    let [rsac0, rsac1] = shown.results.rsac.to_le_bytes();
+    let [volt0, volt1] = shown.reading.volt.to_le_bytes();
+    let [temp0, temp1] = shown.reading.temp.to_le_bytes();
     [
-        (shown.model.full % 256) as u8,
-        (shown.model.full / 256) as u8,
-        (shown.model.ae % 256) as u8,
-        (shown.model.ae / 256) as u8,
-        (shown.model.se % 256) as u8,
-        (shown.model.se / 256) as u8,
+        full0,
+        full1,
+        ae0,
+        ae1,
+        se0,
+        se1,
         shown.results.rarc,
         shown.results.rsrc,
-        (shown.results.raac % 256) as u8,
-        (shown.results.raac / 256) as u8,
-        (shown.results.rsac % 256) as u8,
-        (shown.results.rsac / 256) as u8,
-        (shown.reading.volt % 256) as u8,
-        (shown.reading.volt / 256) as u8,
-        (shown.reading.temp % 256) as u8,
-        (shown.reading.temp / 256) as u8,
+        raac0,
+        raac1,
+        rsac0,
+        rsac1,
+        volt0,
+        volt1,
+        temp0,
+        temp1,
         flag(shown.reading.known),
         flag(shown.flags.aef),
         flag(shown.flags.chgtf),
@@ -413,10 +473,8 @@ fn cycles_on(meter: Meter, room: &mut [u8], at: usize)
     requires { at + 26 ≤ length room.old }
     ensures { Stored 26 (from_cycles meter) room.old at room.new }
 {
-    let cycles = cycles_bytes(meter.cycles);
-    let shown = shown_bytes(meter.shown);
-    slices::store(&cycles, room, at);
-    slices::store(&shown, room, at + 5);
+    slices::store_array(cycles_bytes(meter.cycles), room, at);
+    slices::store_array(shown_bytes(meter.shown), room, at + 5);
 }
 
 // The meter from its flow on.
@@ -424,8 +482,7 @@ fn flow_on(meter: Meter, room: &mut [u8], at: usize)
     requires { at + 47 ≤ length room.old }
     ensures { Stored 47 (from_flow meter) room.old at room.new }
 {
-    let flow = flow_bytes(meter.flow);
-    slices::store(&flow, room, at);
+    slices::store_array(flow_bytes(meter.flow), room, at);
     cycles_on(meter, room, at + 21);
 }
 
@@ -434,8 +491,7 @@ fn charge_on(meter: Meter, room: &mut [u8], at: usize)
     requires { at + 58 ≤ length room.old }
     ensures { Stored 58 (from_charge meter) room.old at room.new }
 {
-    let charge = charge_bytes(meter.charge);
-    slices::store(&charge, room, at);
+    slices::store_array(charge_bytes(meter.charge), room, at);
     flow_on(meter, room, at + 11);
 }
 
@@ -443,9 +499,8 @@ fn meter_out(meter: Meter, room: &mut [u8], at: usize)
     requires { at + 129 ≤ length room.old }
     ensures { Stored 129 (meter_layout.out meter) room.old at room.new }
 {
-    let cells = meter.cells;
-    cells_out(cells, room, at);
-    charge_on(meter, room, at + 71);
+    cells_out(meter.cells, room, at);
+    charge_on(meter, room, at + CHARGE_AT);
 }
 
 // Writes a gauge from an index on.
@@ -453,33 +508,28 @@ fn gauge_out(gauge: Gauge, room: &mut [u8], at: usize)
     requires { at + 170 ≤ length room.old }
     ensures { Stored 170 (gauge_layout.out gauge) room.old at room.new }
 {
-    let label = gauge.label;
-    let common = gauge.common;
-    let meter = gauge.meter;
-    label_out(label, room, at);
-    common_out(common, room, at + 32);
-    meter_out(meter, room, at + 32 + 9);
+    label_out(gauge.label, room, at);
+    common_out(gauge.common, room, at + LABEL_SIZE);
+    meter_out(gauge.meter, room, at + LABEL_SIZE + COMMON_SIZE);
 }
 
 fn put_state(session: Session, room: &mut [u8])
     requires { 172 ≤ length room.old }
     ensures { Stored 172 (state_bytes session) room.old 0 room.new }
 {
-    let head = [1u8, flag(session.loaded)];
-    let gauge = session.gauge;
-    slices::store(&head, room, 0);
-    gauge_out(gauge, room, 2);
+    slices::store_array([STATE_VERSION, flag(session.loaded)], room, 0);
+    gauge_out(session.gauge, room, GAUGE_AT);
 }
 
-// The state of a session goes to the first bytes of the room; false, and nothing is written, where they do not fit.
-pub fn state_out(session: Session, room: &mut [u8]) -> bool
+// The state of a session goes to the first bytes of the room; nothing is written where they do not fit.
+pub fn state_out(session: Session, room: &mut [u8]) -> Result<(), StateRefusal>
     ensures { StateOut session room.old result room.new }
 {
-    if room.len() < 172 {
-        return false;
+    if room.len() < STATE_SIZE {
+        return Err(StateRefusal::Size);
     }
     put_state(session, room);
-    true
+    Ok(())
 }
 
 // ---- which bytes are a state
@@ -490,10 +540,7 @@ fn uncounted(profile: Profile, cycles: Cycles, saved: u8) -> bool
     if state::counts_cycles(profile) {
         return true;
     }
-    numbers::and(
-        cycles.count == 0,
-        numbers::and(cycles.rest == 0, saved == 0),
-    )
+    cycles.count == 0 && cycles.rest == 0 && saved == 0
 }
 
 // Eight bytes as one number, the low byte first.
@@ -577,66 +624,63 @@ fn sound_places(bytes: &[u8], from: usize, n: usize) -> bool
     requires { (n ≤ 8) × (from + n * 170 ≤ length bytes.now) }
     ensures { result ≡ sound_places bytes.now from 0 n }
 {
-    let mut i = 0;
-    while i < n {
-        if sound_gauge(bytes, from + i * 170) {
-            i += 1;
-        } else {
+    for i in 0..n {
+        if !sound_gauge(bytes, from + i * GAUGE_SIZE) {
             return false;
         }
     }
     true
 }
 
-// What was read: the state, or the number of the refusal and the state before the first record.
+// Why bytes are no state; and `Size`, why a state does not go into a room.
 #[derive(Clone, Copy)]
-pub struct StateIn {
-    pub number: u8,
-    pub session: Session,
+pub enum StateRefusal {
+    Size,
+    Version,
+    Unsound,
 }
 
-fn no_state(number: u8) -> StateIn
-    ensures value { result ≡ no_state number }
-    ensures kept { SessionWf result.session }
-{
-    StateIn {
-        number: number,
-        session: session_run::empty(),
+impl From<StateRefusal> for u8 {
+    fn from(refusal: StateRefusal) -> u8
+        ensures { result ≡ state_refusal_number refusal }
+    {
+        match refusal {
+            StateRefusal::Size => 50,
+            StateRefusal::Version => 51,
+            StateRefusal::Unsound => 52,
+        }
     }
 }
 
-// Which bytes are a state: 50 where they are too few or too many, 51 for another version, 52 where they are no well-formed state, else 0. A value is
-// written as the bytes that it was read from where each flag among them is 0 or 1.
-fn state_number(bytes: &[u8]) -> u8
-    ensures { result ≡ (state_in bytes.now).number }
+// Whether the bytes are a state. A value is written as the bytes that it was read from where each flag among them is 0 or 1.
+fn check_state(bytes: &[u8]) -> Result<(), StateRefusal>
+    ensures { result ≡ checked (state_in bytes.now) }
 {
-    if bytes.len() != 172 {
-        return 50;
+    if bytes.len() != STATE_SIZE {
+        return Err(StateRefusal::Size);
     }
-    if bytes[0] != 1 {
-        return 51;
+    if bytes[0] != STATE_VERSION {
+        return Err(StateRefusal::Version);
     }
-    let gauge = sound_places(bytes, 2, 1);
-    numbers::choose8(numbers::and(bytes[1] < 2, gauge), 0, 52)
+    if bytes[LOADED_AT] < 2 && sound_places(bytes, GAUGE_AT, 1) {
+        return Ok(());
+    }
+    Err(StateRefusal::Unsound)
 }
 
 // The state that the bytes are.
-pub fn state_in(bytes: &[u8]) -> StateIn
+pub fn state_in(bytes: &[u8]) -> Result<Session, StateRefusal>
     ensures value { result ≡ state_in bytes.now }
-    ensures kept { SessionWf result.session }
+    ensures kept { IfOk result SessionWf }
 {
-    let number = state_number(bytes);
-    if number == 0 {
-        let session = session_at(bytes);
-        return StateIn {
-            number: 0,
-            session: session,
-        };
-    }
-    no_state(number)
+    check_state(bytes)?;
+    Ok(session_at(bytes))
 }
 
 // ---- the state of a tray
+
+// A tray's functions are no instances of a session's: what is put, read, tested and run differs in each, and one for both would be handed these steps and
+// keep the order of two or three of them.
 
 // Every tray has eight places, which is told to a proof.
 fn eight_places(commons: [Common; 8], labels: [Label; 8], meters: [Meter; 8])
@@ -649,18 +693,13 @@ fn tray_at(bytes: &[u8]) -> Tray
     ensures { result ≡ tray_at bytes.now }
 {
     let mut tray = tray_record::empty();
-    tray.count = bytes[1];
-    tray.closed = flag_at(bytes, 2);
-    let mut i = 0;
-    while i < 8 {
-        let gauge = gauge_at(bytes, 3 + i * 170);
-        let common = gauge.common;
-        let label = gauge.label;
-        let meter = gauge.meter;
-        tray.commons[i] = common;
-        tray.labels[i] = label;
-        tray.meters[i] = meter;
-        i += 1;
+    tray.count = bytes[COUNT_AT];
+    tray.closed = flag_at(bytes, CLOSED_AT);
+    for i in 0..8 {
+        let gauge = gauge_at(bytes, PACKS_AT + i * GAUGE_SIZE);
+        tray.commons[i] = gauge.common;
+        tray.labels[i] = gauge.label;
+        tray.meters[i] = gauge.meter;
     }
     tray
 }
@@ -674,18 +713,13 @@ fn places_out(tray: Tray, room: &mut [u8])
     let labels = tray.labels;
     let meters = tray.meters;
     eight_places(commons, labels, meters);
-    let mut i = 0;
-    while i < 8 {
-        let common = commons[i];
-        let label = labels[i];
-        let meter = meters[i];
+    for i in 0..8 {
         let gauge = Gauge {
-            label: label,
-            common: common,
-            meter: meter,
+            label: labels[i],
+            common: commons[i],
+            meter: meters[i],
         };
-        gauge_out(gauge, room, 3 + i * 170);
-        i += 1;
+        gauge_out(gauge, room, PACKS_AT + i * GAUGE_SIZE);
     }
 }
 
@@ -693,68 +727,44 @@ fn put_tray_state(tray: Tray, room: &mut [u8])
     requires { 1363 ≤ length room.old }
     ensures { Stored 1363 (tray_state_bytes tray) room.old 0 room.new }
 {
-    let head = [129u8, tray.count, flag(tray.closed)];
-    slices::store(&head, room, 0);
+    slices::store_array([TRAY_VERSION, tray.count, flag(tray.closed)], room, 0);
     places_out(tray, room);
 }
 
-// The state of a tray goes to the first bytes of the room; false, and nothing is written, where they do not fit.
-pub fn tray_state_out(tray: Tray, room: &mut [u8]) -> bool
+// The state of a tray goes to the first bytes of the room; nothing is written where they do not fit.
+pub fn tray_state_out(tray: Tray, room: &mut [u8]) -> Result<(), StateRefusal>
     ensures { TrayStateOut tray room.old result room.new }
 {
-    if room.len() < 1363 {
-        return false;
+    if room.len() < TRAY_STATE_SIZE {
+        return Err(StateRefusal::Size);
     }
     put_tray_state(tray, room);
-    true
+    Ok(())
 }
 
-// What was read: the tray, or the number of the refusal and the tray before the first record.
-#[derive(Clone, Copy)]
-pub struct TrayStateIn {
-    pub number: u8,
-    pub tray: Tray,
-}
-
-fn no_tray_state(number: u8) -> TrayStateIn
-    ensures value { result ≡ no_tray_state number }
-    ensures kept { TrayWf result.tray }
+// Whether the bytes are a tray.
+fn check_tray_state(bytes: &[u8]) -> Result<(), StateRefusal>
+    ensures { result ≡ checked (tray_state_in bytes.now) }
 {
-    TrayStateIn {
-        number: number,
-        tray: tray_record::empty(),
+    if bytes.len() != TRAY_STATE_SIZE {
+        return Err(StateRefusal::Size);
     }
-}
-
-// Which bytes are a tray: 50 where they are too few or too many, 51 for another version, 52 where they are no well-formed tray, else 0.
-fn tray_state_number(bytes: &[u8]) -> u8
-    ensures { result ≡ (tray_state_in bytes.now).number }
-{
-    if bytes.len() != 1363 {
-        return 50;
+    if bytes[0] != TRAY_VERSION {
+        return Err(StateRefusal::Version);
     }
-    if bytes[0] != 129 {
-        return 51;
+    if bytes[COUNT_AT] <= MAX_PACKS && bytes[CLOSED_AT] < 2 && sound_places(bytes, PACKS_AT, 8) {
+        return Ok(());
     }
-    let places = sound_places(bytes, 3, 8);
-    let tested = numbers::and(bytes[1] <= 8, numbers::and(bytes[2] < 2, places));
-    numbers::choose8(tested, 0, 52)
+    Err(StateRefusal::Unsound)
 }
 
 // The tray that the bytes are.
-pub fn tray_state_in(bytes: &[u8]) -> TrayStateIn
+pub fn tray_state_in(bytes: &[u8]) -> Result<Tray, StateRefusal>
     ensures value { result ≡ tray_state_in bytes.now }
-    ensures kept { TrayWf result.tray }
+    ensures kept { IfOk result TrayWf }
 {
-    let number = tray_state_number(bytes);
-    if number == 0 {
-        let tray = tray_at(bytes);
-        return TrayStateIn {
-            number: 0,
-            tray: tray,
-        };
-    }
-    no_tray_state(number)
+    check_tray_state(bytes)?;
+    Ok(tray_at(bytes))
 }
 
 // ---- an event of the gauge that stands from an index on
@@ -764,9 +774,9 @@ fn read_at(state: &mut [u8], at: usize, volt: u32, temp: u32)
     requires { Placed state.old at }
     ensures { Became state.old at (reading_of (gauge_at state.old at) volt temp) state.new }
 {
-    let meter = meter_at(state, at + 32 + 9);
+    let meter = meter_at(state, at + LABEL_SIZE + COMMON_SIZE);
     let next = reading::read(meter, volt, temp);
-    meter_out(next, state, at + 32 + 9);
+    meter_out(next, state, at + LABEL_SIZE + COMMON_SIZE);
 }
 
 // A conversion of a signed 32-bit raw current, which comes as z + 2^31.
@@ -774,9 +784,9 @@ fn converted_at(state: &mut [u8], at: usize, raw: u32)
     requires { Placed state.old at }
     ensures { Became state.old at (conversion_of (gauge_at state.old at) raw) state.new }
 {
-    let meter = meter_at(state, at + 32 + 9);
+    let meter = meter_at(state, at + LABEL_SIZE + COMMON_SIZE);
     let next = conversion::convert(meter, raw);
-    meter_out(next, state, at + 32 + 9);
+    meter_out(next, state, at + LABEL_SIZE + COMMON_SIZE);
 }
 
 // A sample of such a raw current, with its tick.
@@ -784,9 +794,9 @@ fn sampled_at(state: &mut [u8], at: usize, raw: u32, tick: u16)
     requires { Placed state.old at }
     ensures { Became state.old at (sampling_of (gauge_at state.old at) raw tick) state.new }
 {
-    let meter = meter_at(state, at + 32 + 9);
+    let meter = meter_at(state, at + LABEL_SIZE + COMMON_SIZE);
     let next = samples::sample(meter, raw, tick);
-    meter_out(next, state, at + 32 + 9);
+    meter_out(next, state, at + LABEL_SIZE + COMMON_SIZE);
 }
 
 // Another label and meter are written.
@@ -795,7 +805,7 @@ fn parts_out(label: Label, meter: Meter, state: &mut [u8], at: usize)
     ensures { Became state.old at (with_parts (gauge_at state.old at) label meter) state.new }
 {
     label_out(label, state, at);
-    meter_out(meter, state, at + 32 + 9);
+    meter_out(meter, state, at + LABEL_SIZE + COMMON_SIZE);
 }
 
 fn powered_at(state: &mut [u8], at: usize)
@@ -803,7 +813,7 @@ fn powered_at(state: &mut [u8], at: usize)
     ensures { Became state.old at (power_on_of (gauge_at state.old at)) state.new }
 {
     let old_label = label_at(state, at);
-    let old_meter = meter_at(state, at + 32 + 9);
+    let old_meter = meter_at(state, at + LABEL_SIZE + COMMON_SIZE);
     let label = label::powered(old_label);
     let meter = old_meter.restarted();
     parts_out(label, meter, state, at);
@@ -828,9 +838,9 @@ fn written_at(state: &mut [u8], at: usize, a: usize, bytes: &[u8])
     requires a_bound { a < 256 }
     ensures { Became state.old at (written_of (gauge_at state.old at) a bytes.now) state.new }
 {
-    let bl0 = flag_at(state, at + 32 + 8);
+    let bl0 = flag_at(state, at + LABEL_SIZE + BL0_AT);
     let old_label = label_at(state, at);
-    let old_meter = meter_at(state, at + 32 + 9);
+    let old_meter = meter_at(state, at + LABEL_SIZE + COMMON_SIZE);
     let label = label::written(old_label, bl0, a, bytes);
     let meter = block1::meter_written(old_meter, a, bytes);
     parts_out(label, meter, state, at);
@@ -841,9 +851,9 @@ fn copied_at(state: &mut [u8], at: usize, a: usize)
     requires { Placed state.old at }
     ensures { Became state.old at (copied_of (gauge_at state.old at) a) state.new }
 {
-    let bl0 = flag_at(state, at + 32 + 8);
+    let bl0 = flag_at(state, at + LABEL_SIZE + BL0_AT);
     let old_label = label_at(state, at);
-    let old_meter = meter_at(state, at + 32 + 9);
+    let old_meter = meter_at(state, at + LABEL_SIZE + COMMON_SIZE);
     let label = label::copied(old_label, bl0, a);
     let meter = block1::meter_copied(old_meter, a);
     parts_out(label, meter, state, at);
@@ -855,7 +865,7 @@ fn recalled_at(state: &mut [u8], at: usize, a: usize)
     ensures { Became state.old at (recalled_of (gauge_at state.old at) a) state.new }
 {
     let old_label = label_at(state, at);
-    let old_meter = meter_at(state, at + 32 + 9);
+    let old_meter = meter_at(state, at + LABEL_SIZE + COMMON_SIZE);
     let label = label::recalled(old_label, a);
     let meter = block1::meter_recalled(old_meter, a);
     parts_out(label, meter, state, at);
@@ -866,8 +876,8 @@ fn locks_out(common: Common, meter: Meter, state: &mut [u8], at: usize)
     requires { Placed state.old at × MeterWf meter }
     ensures { Became state.old at (with_common (gauge_at state.old at) common meter) state.new }
 {
-    common_out(common, state, at + 32);
-    meter_out(meter, state, at + 32 + 9);
+    common_out(common, state, at + LABEL_SIZE);
+    meter_out(meter, state, at + LABEL_SIZE + COMMON_SIZE);
 }
 
 // 6Ah at the address a.
@@ -875,8 +885,8 @@ fn locked_at(state: &mut [u8], at: usize, a: usize)
     requires { Placed state.old at }
     ensures { Became state.old at (locked_of (gauge_at state.old at) a) state.new }
 {
-    let old_common = common_at(state, at + 32);
-    let old_meter = meter_at(state, at + 32 + 9);
+    let old_common = common_at(state, at + LABEL_SIZE);
+    let old_meter = meter_at(state, at + LABEL_SIZE + COMMON_SIZE);
     let common = label::locked(old_common, old_meter.cells.locks.lock, a);
     let meter = block1::meter_locked(old_meter, a);
     locks_out(common, meter, state, at);
@@ -887,12 +897,12 @@ fn ran_at(state: &mut [u8], at: usize, transaction: Transaction, master: &[u8])
     requires { Placed state.old at }
     ensures { Became state.old at (ran_of (gauge_at state.old at) transaction master.now) state.new }
 {
-    let a = slices::wide(transaction.address);
+    let a = usize::from(transaction.address);
     let command = transaction.command;
     match command {
         Command::Read => {}
         Command::Write => {
-            let from = slices::lesser(slices::wide(transaction.from), master.len());
+            let from = usize::from(transaction.from).min(master.len());
             written_at(state, at, a, &master[from..]);
         }
         Command::Copy => copied_at(state, at, a),
@@ -909,30 +919,28 @@ fn replied_at(state: &[u8], at: usize, transaction: Transaction, chosen: bool, r
     ensures { room.new ≡ (let gauge = gauge_at state.now at in
         replied_of chosen gauge.common gauge.label gauge.meter transaction ++ drop transaction.count room.old) }
 {
-    let common = common_at(state, at + 32);
+    let common = common_at(state, at + LABEL_SIZE);
     let label = label_at(state, at);
-    let meter = meter_at(state, at + 32 + 9);
+    let meter = meter_at(state, at + LABEL_SIZE + COMMON_SIZE);
     replies::replied(common, label, meter, transaction, chosen, room);
 }
 
 // ---- a step of a session
 
-// What a step says: 0, its answer and how many bytes it replied; or the number of bytes that are no state.
+// What a step says of a record that was run: its answer and how many bytes it replied.
 #[derive(Clone, Copy)]
-pub struct StateStep {
-    pub number: u8,
+pub struct Step {
     pub answer: u8,
     pub replied: usize,
 }
 
-fn stepped(answer: u8, replied: u16) -> StateStep
-    ensures { result ≡ record { number = 0; answer = answer; replied = replied } }
+fn stepped(answer: u8, replied: u16) -> Result<Step, StateRefusal>
+    ensures { result ≡ step_of answer replied }
 {
-    StateStep {
-        number: 0,
-        answer: answer,
+    Ok(Step {
+        answer,
         replied: replied as usize,
-    }
+    })
 }
 
 // What the record at the front asks of the state that the bytes are, with so many bytes of reply room.
@@ -940,8 +948,8 @@ fn asked_in(state: &[u8], bytes: &[u8], room: usize) -> Record
     requires { length state.now ≡ 172 }
     ensures { result ≡ front_by (of_session.told (session_at state.now)) room bytes.now }
 {
-    let loaded = state[1] == 1;
-    let tick = tick_at(state, 143);
+    let loaded = state[LOADED_AT] == 1;
+    let tick = tick_at(state, GAUGE_AT + LAST_TICK_AT);
     runs::front(bytes, loaded, tick, room)
 }
 
@@ -953,46 +961,39 @@ fn transacted_in(state: &mut [u8], transaction: Transaction, master: &[u8], room
     ensures replied { room.new
         ≡ reply_of (gauge_at state.old 2) transaction master.now ++ drop transaction.count room.old }
 {
-    let address = slices::eight(state, 34);
+    let address = slices::array_at(state, GAUGE_AT + LABEL_SIZE);
     let chosen = replies::selected(address, transaction, master);
-    replied_at(state, 2, transaction, chosen, room);
+    replied_at(state, GAUGE_AT, transaction, chosen, room);
     let command = transaction.command;
-    if numbers::and(chosen, gauge::can_change(command)) {
-        ran_at(state, 2, transaction, master);
+    if chosen && gauge::can_change(command) {
+        ran_at(state, GAUGE_AT, transaction, master);
     }
 }
 
 // The record at the front of some bytes, run in the session that `state` holds. Bytes that are no state stay, and nothing is run. A record that can change
 // nothing does not write the state.
-pub fn state_step(state: &mut [u8], bytes: &[u8], room: &mut [u8]) -> StateStep
+pub fn state_step(state: &mut [u8], bytes: &[u8], room: &mut [u8]) -> Result<Step, StateRefusal>
     ensures { StateStepped state.old bytes.now room.old result state.new room.new }
 {
-    let number = state_number(state);
-    if number != 0 {
-        return StateStep {
-            number: number,
-            answer: 0,
-            replied: 0,
-        };
-    }
+    check_state(state)?;
     let first = asked_in(state, bytes, room.len());
     let end = first.used;
     let answer = first.answer;
     let asked = first.event;
     match asked {
-        Asked::Nothing => stepped(answer, 0),
-        Asked::Run(event) => match event {
+        None => stepped(answer, 0),
+        Some(event) => match event {
             Event::Image(profile) => {
                 let gauge = gauge::image_in(profile, &bytes[4..end]);
                 let session = Session {
                     loaded: true,
                     gauge: gauge,
                 };
-                state_out(session, state);
+                put_state(session, state);
                 stepped(answer, 0)
             }
             Event::Change(change) => {
-                changed_at(state, 2, change);
+                changed_at(state, GAUGE_AT, change);
                 stepped(answer, 0)
             }
             Event::Transact(transaction) => {
@@ -1011,78 +1012,72 @@ fn commons_in(state: &[u8]) -> [Common; 8]
     requires { length state.now ≡ 1363 }
     ensures { result ≡ (tray_at state.now).commons }
 {
-    let first = common_at(state, 35);
+    let first = common_at(state, PACKS_AT + LABEL_SIZE);
     let mut commons = [first; 8];
-    let mut i = 1;
-    while i < 8 {
-        let common = common_at(state, 35 + i * 170);
-        commons[i] = common;
-        i += 1;
+    for i in 1..8 {
+        commons[i] = common_at(state, PACKS_AT + LABEL_SIZE + i * GAUGE_SIZE);
     }
     commons
 }
 
 // Whether an accepted pack has the address of the image at the front; false where there is no image.
 fn again_in(state: &[u8], bytes: &[u8]) -> bool
-    requires { (tray_state_in state.now).number ≡ 0 }
+    requires { number_in (tray_state_in state.now) ≡ 0 }
     ensures { result ≡ known_in (tray_at state.now) bytes.now }
 {
     if tray_record::image_at(bytes) {
         let commons = commons_in(state);
-        return tray_record::known(commons, state[1], &bytes[4..12]);
+        return tray_record::known(commons, state[COUNT_AT], &bytes[4..12]);
     }
     false
 }
 
 // What the record at the front, which names this slot, asks of the tray that the bytes are.
 fn tray_asked_in(state: &[u8], slot: usize, bytes: &[u8], room: usize) -> Record
-    requires state_value { (tray_state_in state.now).number ≡ 0 }
+    requires state_value { number_in (tray_state_in state.now) ≡ 0 }
     requires slot_value { (slot ≡ named_slot bytes.now) × (slot < 8) }
     ensures { result ≡ front_by (of_tray.told (tray_at state.now)) room bytes.now }
 {
     let again = again_in(state, bytes);
-    let last = tick_at(state, 3 + slot * 170 + 141);
-    let closed = state[2] == 1;
-    tray_record::front(bytes, state[1], closed, again, last, room)
+    let last = tick_at(state, PACKS_AT + slot * GAUGE_SIZE + LAST_TICK_AT);
+    let closed = state[CLOSED_AT] == 1;
+    tray_record::front(bytes, state[COUNT_AT], closed, again, last, room)
 }
 
 // The pack of an image joins the tray.
 fn joined_in(state: &mut [u8], profile: Profile, image: &[u8])
-    requires state_value { (tray_state_in state.old).number ≡ 0 }
+    requires state_value { number_in (tray_state_in state.old) ≡ 0 }
     requires state_bound { ((tray_at state.old).count < 8) × (length image.now ≡ image_size_of profile) }
     ensures { TrayBecame (pack_joined (tray_at state.old) (image_of profile image.now)) state.new }
 {
-    let n = slices::wide(state[1]);
+    let n = usize::from(state[COUNT_AT]);
     let gauge = gauge::image_in(profile, image);
-    gauge_out(gauge, state, 3 + n * 170);
-    state[1] = state[1] + 1;
+    gauge_out(gauge, state, PACKS_AT + n * GAUGE_SIZE);
+    state[COUNT_AT] += 1;
 }
 
 // An event of a slot, which closes the opening.
 fn slot_changed_in(state: &mut [u8], slot: usize, change: Change)
-    requires state_value { (tray_state_in state.old).number ≡ 0 }
+    requires state_value { number_in (tray_state_in state.old) ≡ 0 }
     requires slot_bound { slot < 8 }
     ensures { let tray = tray_at state.old in
         TrayBecame (closed_of (stored_of tray slot (changed_of (pack_of tray slot) change))) state.new }
 {
-    changed_at(state, 3 + slot * 170, change);
-    state[2] = 1;
+    changed_at(state, PACKS_AT + slot * GAUGE_SIZE, change);
+    state[CLOSED_AT] = 1;
 }
 
 // The packs that a transaction reaches change one after the other.
 fn packs_changed_in(state: &mut [u8], transaction: Transaction, master: &[u8])
-    requires state_value { (tray_state_in state.old).number ≡ 0 }
+    requires state_value { number_in (tray_state_in state.old) ≡ 0 }
     requires transaction_value { changing_of transaction ≡ true }
     ensures { let tray = tray_at state.old in
         TrayBecame (tray_acted transaction master.now (tray_reach tray transaction master.now) tray) state.new }
 {
     let commons = commons_in(state);
-    let span = tray_record::reached(transaction, commons, state[1], master);
-    let stop = slices::wide(span.stop);
-    let mut i = slices::wide(span.first);
-    while i < stop {
-        ran_at(state, 3 + i * 170, transaction, master);
-        i += 1;
+    let span = tray_record::reached(transaction, commons, state[COUNT_AT], master);
+    for i in usize::from(span.first)..usize::from(span.stop) {
+        ran_at(state, PACKS_AT + i * GAUGE_SIZE, transaction, master);
     }
 }
 
@@ -1115,7 +1110,7 @@ fn heard_at(
 
 // The packs that a transaction reaches reply on one line, and none changes.
 fn packs_heard_in(state: &[u8], transaction: Transaction, master: &[u8], room: &mut [u8])
-    requires state_value { (tray_state_in state.now).number ≡ 0 }
+    requires state_value { number_in (tray_state_in state.now) ≡ 0 }
     requires count_bound { transaction.count ≤ 256 }
     requires count_in_bounds { transaction.count ≤ length room.old }
     ensures { room.new ≡ (let tray = tray_at state.now in
@@ -1124,20 +1119,25 @@ fn packs_heard_in(state: &[u8], transaction: Transaction, master: &[u8], room: &
 {
     let mut scratch = [0u8; 256];
     let commons = commons_in(state);
-    let span = tray_record::reached(transaction, commons, state[1], master);
-    let stop = slices::wide(span.stop);
-    let mut i = slices::wide(span.first);
-    while i < stop {
-        let fresh = i == slices::wide(span.first);
-        heard_at(state, 3 + i * 170, transaction, fresh, &mut scratch, room);
-        i += 1;
+    let span = tray_record::reached(transaction, commons, state[COUNT_AT], master);
+    let first = usize::from(span.first);
+    let stop = usize::from(span.stop);
+    for i in first..stop {
+        heard_at(
+            state,
+            PACKS_AT + i * GAUGE_SIZE,
+            transaction,
+            i == first,
+            &mut scratch,
+            room,
+        );
     }
     tray_record::unheard(stop, transaction, room);
 }
 
 // A transaction: the packs that it reaches change, and every byte of the reply is FFh, or they reply. It closes the opening.
 fn tray_transacted_in(state: &mut [u8], transaction: Transaction, master: &[u8], room: &mut [u8])
-    requires state_value { (tray_state_in state.old).number ≡ 0 }
+    requires state_value { number_in (tray_state_in state.old) ≡ 0 }
     requires count_bound { transaction.count ≤ 256 }
     requires count_in_bounds { transaction.count ≤ length room.old }
     ensures became { let tray = tray_at state.old in
@@ -1152,29 +1152,26 @@ fn tray_transacted_in(state: &mut [u8], transaction: Transaction, master: &[u8],
     } else {
         packs_heard_in(state, transaction, master, room);
     }
-    state[2] = 1;
+    state[CLOSED_AT] = 1;
 }
 
 // The record at the front of some bytes, run in the tray that `state` holds. Bytes that are no tray stay, and nothing is run.
-pub fn tray_state_step(state: &mut [u8], bytes: &[u8], room: &mut [u8]) -> StateStep
+pub fn tray_state_step(
+    state: &mut [u8],
+    bytes: &[u8],
+    room: &mut [u8],
+) -> Result<Step, StateRefusal>
     ensures { TrayStateStepped state.old bytes.now room.old result state.new room.new }
 {
-    let number = tray_state_number(state);
-    if number != 0 {
-        return StateStep {
-            number: number,
-            answer: 0,
-            replied: 0,
-        };
-    }
+    check_tray_state(state)?;
     let slot = tray_record::slot(bytes);
     let first = tray_asked_in(state, slot, bytes, room.len());
     let end = first.used;
     let answer = first.answer;
     let asked = first.event;
     match asked {
-        Asked::Nothing => stepped(answer, 0),
-        Asked::Run(event) => match event {
+        None => stepped(answer, 0),
+        Some(event) => match event {
             Event::Image(profile) => {
                 joined_in(state, profile, &bytes[4..end]);
                 stepped(answer, 0)

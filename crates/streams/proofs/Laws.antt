@@ -1,17 +1,19 @@
 -- What follows of what was read, and of what is said.
 use mathlib.Core.Path.{◌≡◌, refl, sym, ap, ◌∙◌}
 use mathlib.Core.Bool.{Bool, true, false}
-use mathlib.Core.List.{List, ◌++◌}
+use mathlib.Core.List.{List, [], ◌++◌}
 use Prim.Native.Nat.{ℕ, ◌+◌, ◌≤◌, ◌<◌}
 use native.Mathlib.Omega.{arith}
 use borrow.Author.Tests.{ltb-true, ltb-false, leb-true, leb-false}
 use lib.Dec.{ltb, leb}
 use lib.ListN.{length, take, drop, length-take}
 use lib.Seq.{take_all}
+use Rattle.std.specs.Prelude.{Result, Ok, Err, IfOk}
 use Rattle.slices.specs.Slices.{put}
 use Rattle.slices.proofs.Laws.{put_front, put_length}
 use Rattle.streams.specs.declared.Said.{Said}
 use Rattle.streams.specs.Streams.{Front, CountWithin, Speech, Saying}
+use Rattle.streams.specs.Work.{AlikeFrom}
 
 -- ---- what was read
 
@@ -30,21 +32,28 @@ cut {count} {n} {room} h = by (leb count (length room)) refl
 pub own : (room : List ℕ) (n : ℕ) → Front (take n room) room n
 own room n = record { same = take_all (length room) (take n room) (omega (arith, length-take n room)) }
 
--- Where the room is a byte longer than the longest input that counts, what was read tells as much as the whole input: what is said is the same of
--- every longer one.
-module _ {A : Type 0} (f : List ℕ → A) (over : A) (most : ℕ) (alike : (t : List ℕ) → most < length t → f t ≡ over) where
-  pub seen : {s room : List ℕ} {n : ℕ} → length room ≡ most + 1 → Front s room n → f (take n room) ≡ f s
-  seen {s} {room} {n} size front = by (ltb most (length s)) refl
-    where
-      read : length (take n room) ≡ length (take (length room) s)
-      read = ap length (sym front.same)
+-- an input that may have been read so
+abbrev pub read_of : {E : Type 0} → List ℕ → Result ℕ E → List ℕ
+read_of room (Ok count) = take count room
+read_of room (Err why) = []
 
-      by : (b : Bool) → ltb most (length s) ≡ b → f (take n room) ≡ f s
-      by true e =
-          let long : most < length s = ltb-true most (length s) e in
-          let told : most < length (take n room) = omega (arith, read, length-take (length room) s) in
-          alike (take n room) told ∙ sym (alike s long)
-      by false e = ap f (sym front.same ∙ take_all (length room) s (omega (arith, ltb-false most (length s) e)))
+pub own_read : {E : Type 0} (room : List ℕ) (got : Result ℕ E) → IfOk got (Front (read_of room got) room)
+own_read room (Ok count) = own room count
+own_read room (Err why) = tt
+
+-- Where an input that fills the room may as well be any other that does, what is made of the bytes that were read is made of the whole input.
+pub read_same : {A : Type 0} {f : List ℕ → A} {s room : List ℕ} {count n : ℕ} → AlikeFrom (length room) f → CountWithin count room n
+    → Front s room count → f (take n room) ≡ f s
+read_same {A} {f} {s} {room} {count} {n} alike h front = by (leb (length room) (length s)) refl
+  where
+    read : take n room ≡ take (length room) s
+    read = cut h ∙ sym front.same
+
+    by : (b : Bool) → leb (length room) (length s) ≡ b → f (take n room) ≡ f s
+    by true e =
+        let long : length room ≤ length s = leb-true (length room) (length s) e in
+        alike (take n room) s (omega (arith, ap length read, length-take (length room) s)) long
+    by false e = ap f (read ∙ take_all (length room) s (omega (arith, leb-false (length room) (length s) e)))
 
 -- ---- two ways to say the same are one
 

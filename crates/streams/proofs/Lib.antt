@@ -1,3 +1,3 @@
 pub mod Laws
-pub mod Moving
+pub mod Pages
 pub mod Unique

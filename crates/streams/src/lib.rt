@@ -2,10 +2,14 @@
 // beside it.
 #![tactic(auto)]
 
-ghost use Rattle.std.specs.Prelude.{◌≡◌, ◌+◌, ◌≤◌, length, take};
+ghost use Rattle.std.specs.Prelude.{◌≡◌, ◌+◌, ◌^◌, ◌≤◌, ◌<◌, List, ℕ, length, take, is_err, IfOk};
 ghost use Rattle.digits.specs.Digits.{Writing};
-ghost use Rattle.streams.specs.Streams.{CountWithin, error, unread_text, refused_text, beside_text, Saying, RestKept};
+ghost use Rattle.streams.specs.Streams.{Front, CountWithin, Speech, error, unread_text, refused_text, beside_text, Saying, RestKept};
+ghost use Rattle.streams.specs.Work.{TakesRoom, Speaks, AlikeFrom, read_speech};
+ghost use Rattle.streams.specs.Work.{TakesInput, TakesFiles, TakesRoomOfTwo, SpeaksOfTwo, AlikeOfTwoFrom, read_speech_of_two};
+ghost use Rattle.numbers.specs.Choice.{either};
 
+use digits::Page;
 use std::env::{Env, FillError};
 use std::fs::{File, OpenOptions};
 use std::io::{Cursor, ErrorKind, Read, Write};
@@ -14,14 +18,14 @@ use std::{fs, io, str};
 // The size of a room for a name: the most bytes that the system takes of one, with the zero behind it.
 pub const NAME_ROOM: usize = 4096;
 
-// What was read: so many bytes at the front of the room, or a read that failed.
-#[derive(Clone, Copy)]
-pub struct Input {
-    pub count: usize,
-    pub failed: bool,
+// What could not be read.
+#[derive(Clone, Copy, PartialEq, Eq)]
+pub enum Unread {
+    Input,
+    File,
 }
 
-#[derive(Clone, Copy)]
+#[derive(Clone, Copy, PartialEq, Eq)]
 pub enum Stream {
     Output,
     Error,
@@ -34,57 +38,37 @@ pub struct Said {
     pub count: usize,
 }
 
-// One read. Where no byte comes the input is at its end, or the read failed. Which bytes it puts into the room, no contract can say.
-fn read_once<R: Read>(from: &mut R, room: &mut [u8]) -> Input
-    ensures { result.count ≤ length room.new }
-{
-    match from.read(room) {
-        Ok(count) => Input {
-            count: count,
-            failed: false,
-        },
-        Err(_) => Input {
-            count: 0,
-            failed: true,
-        },
-    }
-}
-
-// Reads until the input ends, the room is full, or a read fails.
-fn read_from<R: Read>(from: &mut R, room: &mut [u8]) -> Input
-    ensures { result.count ≤ length room.new }
+// Reads until the input ends, the room is full, or a read fails. The count goes on by what a read brought, so this is no walk over the bytes. Which
+// bytes come, no contract can say.
+fn read_from<R: Read>(from: &mut R, room: &mut [u8]) -> io::Result<usize>
+    ensures { IfOk result (λ count. count ≤ length room.new) }
 {
     let mut count = 0;
     while count < room.len() {
-        let got = read_once(from, &mut room[count..]);
-        let more = got.count;
-        if more == 0 {
-            return Input {
-                count: count,
-                failed: got.failed,
-            };
+        let got = from.read(&mut room[count..])?;
+        if got == 0 {
+            return Ok(count);
         }
-        count += more;
+        count += got;
     }
-    Input {
-        count: count,
-        failed: false,
-    }
+    Ok(count)
 }
 
-pub fn read_input(rt: &HostRuntime, room: &mut [u8]) -> Input
-    ensures { result.count ≤ length room.new }
+// How many bytes of standard input are at the front of the room.
+pub fn read_input(rt: &HostRuntime, room: &mut [u8]) -> Result<usize, Unread>
+    ensures { IfOk result (λ count. count ≤ length room.new) }
 {
-    read_from(&mut rt.stdin(), room)
+    read_from(&mut rt.stdin(), room).map_err(|_| Unread::Input)
 }
 
-// One read of standard input, of at most so many bytes, into a room from a place on. Where none come the input is at its end, or the read failed.
-pub fn read_some(rt: &HostRuntime, room: &mut [u8], at: usize, most: usize) -> Input
+// One read of standard input, of at most so many bytes, into a room from a place on. Where none come the input is at its end.
+pub fn read_some(rt: &HostRuntime, room: &mut [u8], at: usize, most: usize) -> Result<usize, Unread>
     requires { at + most ≤ length room.old }
-    ensures { result.count ≤ most }
+    ensures { IfOk result (λ count. count ≤ most) }
 {
-    let end = at + most;
-    read_once(&mut rt.stdin(), &mut room[at..end])
+    rt.stdin()
+        .read(&mut room[at..at + most])
+        .map_err(|_| Unread::Input)
 }
 
 // Moves what stands in a room from one place up to another to its front, and says how many bytes it is.
@@ -92,33 +76,16 @@ pub fn keep_rest(room: &mut [u8], from: usize, end: usize) -> usize
     requires { end ≤ length room.old }
     ensures { RestKept room.old from end result room.new }
 {
-    if from == 0 {
-        return end;
+    if end <= from {
+        return 0;
     }
-    let mut i = 0;
-    while from + i < end {
-        room[i] = room[from + i];
-        i += 1;
-    }
-    i
-}
-
-// Writes all the bytes, or fails with the first write that fails or takes nothing. Some of them may then be written.
-fn write_all<W: Write>(to: &mut W, bytes: &[u8]) -> io::Result<()> {
-    let mut done = 0;
-    while done < bytes.len() {
-        let some = to.write(&bytes[done..])?;
-        if some == 0 {
-            return Err(io::Error::from(ErrorKind::WriteZero));
-        }
-        done += some;
-    }
-    Ok(())
+    room.copy_within(from..end, 0);
+    end - from
 }
 
 // Where standard error does not take it, there is nobody to tell.
 fn complain(rt: &HostRuntime, text: &[u8]) {
-    let _ = write_all(&mut rt.stderr(), text);
+    let _ = rt.stderr().write_all(text);
 }
 
 // ---- words of the call
@@ -126,14 +93,12 @@ fn complain(rt: &HostRuntime, text: &[u8]) {
 // How many words the call has, the program's own name among them.
 pub fn word_count(rt: &HostRuntime) -> usize {
     let mut start = [0u8; 1];
-    let mut count = 0;
-    while count < usize::MAX {
+    for count in 0..usize::MAX {
         if let Err(FillError::NotPresent) = rt.arg(count, &mut start) {
             return count;
         }
-        count += 1;
     }
-    count
+    usize::MAX
 }
 
 // A word of the call, at the front of the room, and how many bytes it has: none, where there is no such word, or where it is longer than the room.
@@ -141,83 +106,77 @@ pub fn read_word(rt: &HostRuntime, word: usize, room: &mut [u8]) -> usize
     ensures fits { result ≤ length room.new }
     ensures whole { result ≡ length (take result room.new) }
 {
-    match rt.arg(word, room) {
-        Ok(count) => count,
-        Err(_) => 0,
-    }
+    rt.arg(word, room).unwrap_or(0)
 }
 
 // ---- a file that is read
 
 // The name as text, which is all that the system is asked for.
 fn path_of(name: &[u8]) -> io::Result<&str> {
-    match str::from_utf8(name) {
-        Ok(path) => Ok(path),
-        Err(_) => Err(io::Error::new(ErrorKind::InvalidInput, "its name is not UTF-8")),
-    }
+    str::from_utf8(name).map_err(|_| io::Error::new(
+        ErrorKind::InvalidInput,
+        "its name is not UTF-8",
+    ))
 }
 
 fn open_read(rt: &HostRuntime, name: &[u8]) -> io::Result<File> {
     File::open(rt, path_of(name)?)
 }
 
-fn say_unread(rt: &HostRuntime, program: &[u8], name: &[u8]) {
+// The failure, when it is said.
+fn say_unread(rt: &HostRuntime, program: &[u8], name: &[u8]) -> Unread {
     complain(rt, program);
     complain(rt, b": cannot read ");
     complain(rt, name);
     complain(rt, b"\n");
+    Unread::File
 }
 
-fn read_file(rt: &HostRuntime, name: &[u8], room: &mut [u8]) -> Input
-    ensures { result.count ≤ length room.new }
+fn read_file(rt: &HostRuntime, name: &[u8], room: &mut [u8]) -> io::Result<usize>
+    ensures { IfOk result (λ count. count ≤ length room.new) }
+{
+    read_from(&mut open_read(rt, name)?, room)
+}
+
+// Reads the file that a word of the call names. Where it cannot be opened or read, standard error has a line with its name.
+pub fn read_named(
+    rt: &HostRuntime,
+    program: &[u8],
+    word: usize,
+    room: &mut [u8],
+) -> Result<usize, Unread>
+    ensures { IfOk result (λ count. count ≤ length room.new) }
+{
+    let mut name = [0u8; NAME_ROOM];
+    let n = read_word(rt, word, &mut name);
+    read_file(rt, &name[..n], room).map_err(|_| say_unread(rt, program, &name[..n]))
+}
+
+// Nothing is read where no file has the name.
+fn read_if_there(rt: &HostRuntime, name: &[u8], room: &mut [u8]) -> io::Result<usize>
+    ensures { IfOk result (λ count. count ≤ length room.new) }
 {
     match open_read(rt, name) {
         Ok(mut file) => read_from(&mut file, room),
-        Err(_) => Input {
-            count: 0,
-            failed: true,
+        Err(error) => match error.kind() {
+            ErrorKind::NotFound => Ok(0),
+            _ => Err(error),
         },
     }
 }
 
-// Reads the file that a word of the call names. Where it cannot be opened or read, standard error has a line with its name.
-pub fn read_named(rt: &HostRuntime, program: &[u8], word: usize, room: &mut [u8]) -> Input
-    ensures { result.count ≤ length room.new }
+// The same as `read_named`, but that nothing is read where no file has the name, or the call has no such word.
+pub fn read_kept(
+    rt: &HostRuntime,
+    program: &[u8],
+    word: usize,
+    room: &mut [u8],
+) -> Result<usize, Unread>
+    ensures { IfOk result (λ count. count ≤ length room.new) }
 {
     let mut name = [0u8; NAME_ROOM];
     let n = read_word(rt, word, &mut name);
-    let got = read_file(rt, &name[..n], room);
-    if got.failed {
-        say_unread(rt, program, &name[..n]);
-    }
-    got
-}
-
-// The same, but that nothing is read where no file has the name, or the call has no such word.
-pub fn read_kept(rt: &HostRuntime, program: &[u8], word: usize, room: &mut [u8]) -> Input
-    ensures { result.count ≤ length room.new }
-{
-    let mut name = [0u8; NAME_ROOM];
-    let n = read_word(rt, word, &mut name);
-    match open_read(rt, &name[..n]) {
-        Ok(mut file) => {
-            let got = read_from(&mut file, room);
-            if got.failed {
-                say_unread(rt, program, &name[..n]);
-            }
-            got
-        }
-        Err(error) => {
-            let missing = error.kind() == ErrorKind::NotFound;
-            if !missing {
-                say_unread(rt, program, &name[..n]);
-            }
-            Input {
-                count: 0,
-                failed: !missing,
-            }
-        }
-    }
+    read_if_there(rt, &name[..n], room).map_err(|_| say_unread(rt, program, &name[..n]))
 }
 
 // ---- what is said
@@ -226,8 +185,7 @@ pub fn read_kept(rt: &HostRuntime, program: &[u8], word: usize, room: &mut [u8])
 pub fn within(count: usize, room: &[u8]) -> usize
     ensures { CountWithin count room.now result }
 {
-    let n = room.len();
-    if count < n { count } else { n }
+    count.min(room.len())
 }
 
 // The failure of a read, in words.
@@ -235,12 +193,12 @@ pub fn put_unread(name: &[u8], room: &mut [u8]) -> Said
     requires { length name.now + 29 ≤ length room.old }
     ensures { Saying (error (unread_text name.now)) room.old result room.new }
 {
-    let next = digits::put_bytes(name, room, 0);
-    let count = digits::put_bytes(b": cannot read standard input\n", room, next);
-    let stream = Stream::Error;
+    let mut page = Page::new(room);
+    page.put_bytes(name);
+    page.put_bytes(b": cannot read standard input\n");
     Said {
-        stream: stream,
-        count: count,
+        stream: Stream::Error,
+        count: page.used,
     }
 }
 
@@ -249,62 +207,111 @@ pub fn put_refused(number: u8, words: &[u8], room: &mut [u8]) -> Said
     requires { length words.now + 8 ≤ length room.old }
     ensures { Saying (error (refused_text number words.now)) room.old result room.new }
 {
-    let a = digits::put_decimal(number as usize, room, 0);
-    let b = digits::put_bytes(b": ", room, a);
-    let c = digits::put_bytes(words, room, b);
-    let count = digits::put_byte(b'\n', room, c);
-    let to = Stream::Error;
+    let mut page = Page::new(room);
+    page.put_decimal(number as usize);
+    page.put_bytes(b": ");
+    page.put_bytes(words);
+    page.put_byte(b'\n');
     Said {
-        stream: to,
-        count: count,
+        stream: Stream::Error,
+        count: page.used,
     }
 }
 
-fn write_output(rt: &HostRuntime, name: &[u8], text: &[u8]) -> bool {
-    if write_all(&mut rt.stdout(), text).is_ok() {
-        return true;
+// What a program says of its input: what a work makes of the bytes that were read, or that they could not be read. The room for the input has a byte more
+// than the longest input of which the bytes matter: so what is said of what was read is what is said of the whole input.
+pub fn put_answer<F: FnOnce(&[u8], &mut [u8]) -> Said>(
+    name: &[u8],
+    input: &[u8],
+    got: Result<usize, Unread>,
+    room: &mut [u8],
+    work: F,
+) -> Said
+    requires name_fits { length name.now + 29 ≤ length room.old }
+    requires takes { TakesRoom (F.pre work) (length room.old) }
+    ensures by_index { (speech : List ℕ → Speech) → Speaks (F.post work) speech → AlikeFrom (length input.now) speech → (s : List ℕ) →
+        IfOk got (Front s input.now) → Saying (read_speech name.now (is_err got) speech s) room.old result room.new }
+{
+    match got {
+        Ok(count) => work(&input[..within(count, input)], room),
+        Err(_) => put_unread(name, room),
     }
-    complain(rt, name);
-    complain(rt, b": cannot write standard output\n");
-    false
 }
 
-// Writes what is said. Where standard output does not take it, standard error has a line. Whether all of it went to standard output, it answers.
-fn pass_on(rt: &HostRuntime, name: &[u8], said: Said, room: &[u8]) -> bool {
-    let stream = said.stream;
+// The same of two files. Of a file that was not read something was said already.
+pub fn put_answer_of_two<F: FnOnce(&[u8], &[u8], &mut [u8]) -> Said>(
+    first: &[u8],
+    one: Result<usize, Unread>,
+    second: &[u8],
+    other: Result<usize, Unread>,
+    room: &mut [u8],
+    work: F,
+) -> Said
+    requires { TakesRoomOfTwo (F.pre work) (length room.old) }
+    ensures by_index { (speech : List ℕ → List ℕ → Speech) → SpeaksOfTwo (F.post work) speech →
+        AlikeOfTwoFrom (length first.now) (length second.now) speech →
+        (s t : List ℕ) → IfOk one (Front s first.now) → IfOk other (Front t second.now) →
+        Saying (read_speech_of_two (either (is_err one) (is_err other)) speech s t) room.old result room.new }
+{
+    match (one, other) {
+        (Ok(n), Ok(m)) => work(
+            &first[..within(n, first)],
+            &second[..within(m, second)],
+            room,
+        ),
+        _ => Said {
+            stream: Stream::Error,
+            count: 0,
+        },
+    }
+}
+
+// Why what is said is not on standard output: it was for standard error, or it could not be written.
+#[derive(Clone, Copy, PartialEq, Eq)]
+pub enum Unsaid {
+    Refusal,
+    Unwritten,
+}
+
+fn write_output(rt: &HostRuntime, name: &[u8], text: &[u8]) -> Result<(), Unsaid> {
+    rt.stdout().write_all(text).map_err(|_| {
+        complain(rt, name);
+        complain(rt, b": cannot write standard output\n");
+        Unsaid::Unwritten
+    })
+}
+
+// Writes what is said. Where standard output does not take it, standard error has a line.
+pub fn say_all(rt: &HostRuntime, name: &[u8], said: Said, room: &[u8]) -> Result<(), Unsaid> {
     let count = within(said.count, room);
-    match stream {
+    match said.stream {
         Stream::Output => write_output(rt, name, &room[..count]),
         Stream::Error => {
             complain(rt, &room[..count]);
-            false
+            Err(Unsaid::Refusal)
         }
     }
 }
 
-pub fn say_all(rt: &HostRuntime, name: &[u8], said: Said, room: &[u8]) -> bool {
-    pass_on(rt, name, said, room)
-}
-
 pub fn say(rt: &HostRuntime, name: &[u8], said: Said, room: &[u8]) {
-    pass_on(rt, name, said, room);
+    let _ = say_all(rt, name, said, room);
 }
 
 // ---- a file that is written
 
-fn say_start(rt: &HostRuntime, program: &[u8], name: &[u8]) {
-    complain(rt, program);
-    complain(rt, b": cannot write ");
-    complain(rt, name);
-    complain(rt, b": ");
-}
-
 // Why a file is not written.
-fn say_unwritten(rt: &HostRuntime, program: &[u8], name: &[u8], why: &[u8]) -> bool {
-    say_start(rt, program, name);
-    complain(rt, why);
-    complain(rt, b"\n");
-    false
+#[derive(Drop)]
+pub enum Unwritten {
+    LongName,
+    NoName,
+    Link,
+    NoPlainFile,
+    Folder,
+    NoFolder,
+    // The other name of the file is taken: another run is writing, or one that was ended left it.
+    Taken,
+    // A call of the system failed.
+    Failed(io::Error),
 }
 
 // The system's words for a failure, without its number, which stands behind them.
@@ -318,13 +325,40 @@ fn system_words(text: &[u8]) -> &[u8] {
     }
 }
 
-// The same in the system's own words for the call that failed.
-fn say_failed(rt: &HostRuntime, program: &[u8], name: &[u8], failure: io::Error) -> bool {
+fn say_failure(rt: &HostRuntime, failure: &io::Error) {
     let mut words = Cursor::new([0u8; 128]);
     let _ = write!(words, "{failure}");
     let n = within(words.position() as usize, words.get_ref());
     let text = words.into_inner();
-    say_unwritten(rt, program, name, system_words(&text[..n]))
+    complain(rt, system_words(&text[..n]));
+}
+
+fn say_cause(rt: &HostRuntime, name: &[u8], why: &[u8]) {
+    complain(rt, b": cannot write ");
+    complain(rt, name);
+    complain(rt, b": ");
+    complain(rt, why);
+}
+
+fn say_unwritten(rt: &HostRuntime, program: &[u8], name: &[u8], why: &Unwritten) {
+    complain(rt, program);
+    match why {
+        Unwritten::LongName => complain(rt, b": the name of the file to write is too long"),
+        Unwritten::NoName => complain(rt, b": the name of the file to write is empty"),
+        Unwritten::Link => say_cause(rt, name, b"it is a link; give the name of the file itself"),
+        Unwritten::NoPlainFile => say_cause(rt, name, b"it is not a plain file"),
+        Unwritten::Folder => say_cause(rt, name, b"it is a folder"),
+        Unwritten::NoFolder => say_cause(rt, name, b"there is no such folder"),
+        Unwritten::Taken => {
+            say_cause(rt, name, name);
+            complain(rt, b".new is there, in use by another run or left by one");
+        }
+        Unwritten::Failed(failure) => {
+            say_cause(rt, name, b"");
+            say_failure(rt, failure);
+        }
+    }
+    complain(rt, b"\n");
 }
 
 fn open_update(rt: &HostRuntime, name: &[u8]) -> io::Result<File> {
@@ -342,14 +376,8 @@ fn open_new(rt: &HostRuntime, name: &[u8]) -> io::Result<File> {
 }
 
 // Whether the name is that of a link.
-fn is_link(rt: &HostRuntime, name: &[u8]) -> bool {
-    match path_of(name) {
-        Ok(path) => match fs::symlink_metadata(rt, path) {
-            Ok(about) => about.is_symlink(),
-            Err(_) => false,
-        },
-        Err(_) => false,
-    }
+fn is_link(rt: &HostRuntime, name: &[u8]) -> io::Result<bool> {
+    Ok(fs::symlink_metadata(rt, path_of(name)?)?.is_symlink())
 }
 
 fn rename(rt: &HostRuntime, from: &[u8], to: &[u8]) -> io::Result<()> {
@@ -360,91 +388,42 @@ fn remove(rt: &HostRuntime, name: &[u8]) -> io::Result<()> {
     fs::remove_file(rt, path_of(name)?)
 }
 
-// Whether a file may take the name: it is free, or a plain file has it that may be written. No device has `fsync`, and no folder can be opened so.
-fn replaceable(rt: &HostRuntime, program: &[u8], name: &[u8]) -> bool {
+// A file may take the name if it is free, or if a plain file has it that may be written. No device has `fsync`, and no folder can be opened so.
+fn check_replaceable(rt: &HostRuntime, name: &[u8]) -> Result<(), Unwritten> {
     match open_update(rt, name) {
-        Ok(file) => {
-            if file.sync_all().is_ok() {
-                return true;
-            }
-            say_unwritten(rt, program, name, b"it is not a plain file")
-        }
-        Err(error) => {
-            let kind = error.kind();
-            if kind == ErrorKind::NotFound {
-                return true;
-            }
-            if kind == ErrorKind::IsADirectory {
-                return say_unwritten(rt, program, name, b"it is a folder");
-            }
-            say_failed(rt, program, name, error)
-        }
+        Ok(file) => file.sync_all().map_err(|_| Unwritten::NoPlainFile),
+        Err(error) => match error.kind() {
+            ErrorKind::NotFound => Ok(()),
+            ErrorKind::IsADirectory => Err(Unwritten::Folder),
+            _ => Err(Unwritten::Failed(error)),
+        },
     }
 }
 
-// The other name of the file is taken: another run is writing, or one that was ended left it.
-fn say_taken(rt: &HostRuntime, program: &[u8], name: &[u8], beside: &[u8]) -> bool {
-    say_start(rt, program, name);
-    complain(rt, beside);
-    complain(rt, b" is there, in use by another run or left by one\n");
-    false
-}
-
-// The file cannot be made under its other name.
-fn say_unmade(
-    rt: &HostRuntime,
-    program: &[u8],
-    name: &[u8],
-    beside: &[u8],
-    failure: io::Error,
-) -> bool {
-    let kind = failure.kind();
-    if kind == ErrorKind::AlreadyExists {
-        return say_taken(rt, program, name, beside);
-    }
-    if kind == ErrorKind::NotFound {
-        return say_unwritten(rt, program, name, b"there is no such folder");
-    }
-    say_failed(rt, program, name, failure)
+fn make(rt: &HostRuntime, beside: &[u8]) -> Result<File, Unwritten> {
+    open_new(rt, beside).map_err(|error| match error.kind() {
+        ErrorKind::AlreadyExists => Unwritten::Taken,
+        ErrorKind::NotFound => Unwritten::NoFolder,
+        _ => Unwritten::Failed(error),
+    })
 }
 
 // Writes all bytes to the device, and closes the file.
 fn fill(mut file: File, bytes: &[u8]) -> io::Result<()> {
-    write_all(&mut file, bytes)?;
+    file.write_all(bytes)?;
     file.sync_all()
 }
 
-// Writes the bytes to a file that is made for them under the other name. Where they cannot be written no file is left.
-fn make(rt: &HostRuntime, program: &[u8], name: &[u8], beside: &[u8], bytes: &[u8]) -> bool {
-    match open_new(rt, beside) {
-        Ok(file) => match fill(file, bytes) {
-            Ok(()) => true,
-            Err(error) => {
-                say_failed(rt, program, name, error);
-                let _ = remove(rt, beside);
-                false
-            }
-        },
-        Err(error) => say_unmade(rt, program, name, beside, error),
-    }
-}
-
-// Makes the file under another name, and then gives it its own: so it is whole, or what had the name is as it was.
-fn replace(rt: &HostRuntime, program: &[u8], name: &[u8], beside: &[u8], bytes: &[u8]) -> bool {
-    if !replaceable(rt, program, name) {
-        return false;
-    }
-    if !make(rt, program, name, beside, bytes) {
-        return false;
-    }
-    match rename(rt, beside, name) {
-        Ok(()) => true,
-        Err(error) => {
-            say_failed(rt, program, name, error);
-            let _ = remove(rt, beside);
-            false
-        }
-    }
+// Fills the file that was made under the other name, and then gives it its own.
+fn finish(
+    rt: &HostRuntime,
+    name: &[u8],
+    beside: &[u8],
+    file: File,
+    bytes: &[u8],
+) -> io::Result<()> {
+    fill(file, bytes)?;
+    rename(rt, beside, name)
 }
 
 // The other name of a file: its own, and `.new` behind it. A name that is too long for that has none.
@@ -455,42 +434,49 @@ fn put_beside(name: &[u8], room: &mut [u8]) -> usize
     if 4000 < name.len() {
         return 0;
     }
-    let next = digits::put_bytes(name, room, 0);
-    digits::put_bytes(b".new", room, next)
+    let mut page = Page::new(room);
+    page.put_bytes(name);
+    page.put_bytes(b".new");
+    page.used
 }
 
-fn say_name(rt: &HostRuntime, program: &[u8], why: &[u8]) -> bool {
-    complain(rt, program);
-    complain(rt, b": the name of the file to write is ");
-    complain(rt, why);
-    complain(rt, b"\n");
-    false
+// Makes the file under another name, and then gives it its own: so it is whole, or what had the name is as it was. Where it cannot be written no file
+// is left under the other name.
+fn write_file(rt: &HostRuntime, name: &[u8], bytes: &[u8]) -> Result<(), Unwritten> {
+    let mut room = [0u8; NAME_ROOM];
+    let n = within(put_beside(name, &mut room), &room);
+    let beside = &room[..n];
+    if beside.is_empty() {
+        return Err(Unwritten::LongName);
+    }
+    if name.is_empty() {
+        return Err(Unwritten::NoName);
+    }
+    if is_link(rt, name).unwrap_or(false) {
+        return Err(Unwritten::Link);
+    }
+    check_replaceable(rt, name)?;
+    let file = make(rt, beside)?;
+    if let Err(error) = finish(rt, name, beside, file, bytes) {
+        let _ = remove(rt, beside);
+        return Err(Unwritten::Failed(error));
+    }
+    Ok(())
 }
 
 // Writes the file that a word of the call names, which is not a link. Where it cannot be written, standard error has a line that says why.
-pub fn write_named(rt: &HostRuntime, program: &[u8], word: usize, bytes: &[u8]) -> bool {
+pub fn write_named(
+    rt: &HostRuntime,
+    program: &[u8],
+    word: usize,
+    bytes: &[u8],
+) -> Result<(), Unwritten> {
     let mut name = [0u8; NAME_ROOM];
-    let got = rt.arg(word, &mut name);
-    let cut = got.is_err();
-    let n = within(got.unwrap_or(0), &name);
-    let mut other = [0u8; NAME_ROOM];
-    let put = put_beside(&name[..n], &mut other);
-    let m = within(put, &other);
-    if numbers::or(cut, m == 0) {
-        return say_name(rt, program, b"too long");
-    }
-    if n == 0 {
-        return say_name(rt, program, b"empty");
-    }
-    if is_link(rt, &name[..n]) {
-        return say_unwritten(
-            rt,
-            program,
-            &name[..n],
-            b"it is a link; give the name of the file itself",
-        );
-    }
-    replace(rt, program, &name[..n], &other[..m], bytes)
+    let Ok(n) = rt.arg(word, &mut name) else {
+        say_unwritten(rt, program, b"", &Unwritten::LongName);
+        return Err(Unwritten::LongName);
+    };
+    write_file(rt, &name[..n], bytes).inspect_err(|why| say_unwritten(rt, program, &name[..n], why))
 }
 
 // Says what is said; where it goes to standard output, the file that a word of the call names is written first. Where it cannot be written,
@@ -503,34 +489,48 @@ pub fn say_with_file(
     word: usize,
     bytes: &[u8],
 ) {
-    let stream = said.stream;
-    let count = said.count;
-    match stream {
-        Stream::Output => {
-            if write_named(rt, program, word, bytes) {
-                let out = Stream::Output;
-                say(
-                    rt,
-                    program,
-                    Said {
-                        stream: out,
-                        count: count,
-                    },
-                    room,
-                );
-            }
-        }
-        Stream::Error => {
-            let err = Stream::Error;
-            say(
-                rt,
-                program,
-                Said {
-                    stream: err,
-                    count: count,
-                },
-                room,
-            );
-        }
+    if said.stream == Stream::Output && write_named(rt, program, word, bytes).is_err() {
+        return;
     }
+    say(rt, program, said, room);
+}
+
+// ---- a program, whole
+
+// Reads standard input, and says what the program makes of what was read.
+pub fn answer_input<
+    const N: usize,
+    const M: usize,
+    F: FnOnce(&[u8], Result<usize, Unread>, &mut [u8]) -> Said,
+>(rt: &HostRuntime, name: &[u8], put: F)
+    requires takes { TakesInput (F.pre put) N M }
+    requires input_bound { N < 2 ^ 63 }
+    requires room_bound { M < 2 ^ 63 }
+{
+    let mut input = [0u8; N];
+    let got = read_input(rt, &mut input);
+    let mut room = [0u8; M];
+    let said = put(&input, got, &mut room);
+    say(rt, name, said, &room);
+}
+
+// Reads the files that the first two words of the call name, and says what the program makes of what was read.
+pub fn answer_files<
+    const N: usize,
+    const M: usize,
+    const K: usize,
+    F: FnOnce(&[u8], Result<usize, Unread>, &[u8], Result<usize, Unread>, &mut [u8]) -> Said,
+>(rt: &HostRuntime, name: &[u8], put: F)
+    requires takes { TakesFiles (F.pre put) N M K }
+    requires first_bound { N < 2 ^ 63 }
+    requires second_bound { M < 2 ^ 63 }
+    requires room_bound { K < 2 ^ 63 }
+{
+    let mut first = [0u8; N];
+    let one = read_named(rt, name, 1, &mut first);
+    let mut second = [0u8; M];
+    let other = read_named(rt, name, 2, &mut second);
+    let mut room = [0u8; K];
+    let said = put(&first, one, &second, other, &mut room);
+    say(rt, name, said, &room);
 }

@@ -10,9 +10,9 @@ use Rattle.streams.specs.Streams.{Speech, Saying}
 use Rattle.runs.specs.declared.Outcome.{Outcome}
 use Rattle.runs.specs.declared.Outcome.TheVariants.{Done, Over}
 use Rattle.runs.specs.Record.{Rec, recs_of}
-use Rattle.runs.specs.Run.{Did, lines_after, end_after, Result, outcome_of, RunsTo, Runs}
+use Rattle.runs.specs.Run.{Did, Fits, lines_after, end_after, Result, outcome_of, RunsTo, Runs}
 use Rattle.runs.proofs.Records.{Bytes}
-use Rattle.runs.proofs.Lines.{Fits, lines_coded}
+use Rattle.runs.proofs.Lines.{lines_coded}
 use Rattle.runs.proofs.Ends.{done_within}
 use Rattle.text.specs.Text.{first_refused, first_coded, ran_speech}
 use Rattle.text.proofs.Refused.{first_coded_lem}

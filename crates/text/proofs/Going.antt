@@ -14,32 +14,32 @@ use Rattle.numbers.proofs.Bounds.{times, picked}
 use Rattle.slices.specs.Slices.{part}
 use Rattle.slices.proofs.Laws.{part_length, part_rest}
 use Rattle.text.specs.Text.{code_kind, code_answer, code_replied, last_width, codes_most, codes_text}
-use Rattle.digits.specs.Digits.{decimal_text, width_of, Writing}
+use Rattle.digits.specs.declared.Page.{Page}
+use Rattle.digits.specs.Digits.{decimal_text, width_of, Appends}
 use Rattle.text.specs.Line.{line_text, fields_text, start_text, end_text}
-use Rattle.digits.proofs.Laws.{kept, none, then, wider, width_short, width_long, width_least}
+use Rattle.digits.proofs.Laws.{none, then, wider, width_short, width_long, width_least}
 use Rattle.text.proofs.Laws.{take_drop_min}
 
 -- i lines are written, with so much of the replies: whatever is written behind them as the rest makes the whole. The lines are numbered from a number on,
 -- and take at most so many bytes each, but for their replies
-pub record Going (most first : ℕ) (codes replies before : List ℕ) (at : ℕ) (room : List ℕ) (next used i : ℕ) : Type 0 where
+pub record Going (most first : ℕ) (codes replies : List ℕ) (before page : Page) (used i : ℕ) : Type 0 where
   pub within : i ≤ length codes
   pub served : used ≤ length replies
-  pub sized : length room ≡ length before
-  pub short : next ≤ at + (most * i + 2 * used)
-  pub whole : (m last : ℕ) (after : List ℕ) → Writing m (codes_text (first + i) (drop i codes) (drop used replies)) room next last after
-      → Writing (most * i + 2 * used + m) (codes_text first codes replies) before at last after
+  pub sized : length page.room.now ≡ length before.room.now
+  pub short : page.used ≤ before.used + (most * i + 2 * used)
+  pub whole : (m : ℕ) (after : Page) → Appends m (codes_text (first + i) (drop i codes) (drop used replies)) page after
+      → Appends (most * i + 2 * used + m) (codes_text first codes replies) before after
 
-pub start : (most first : ℕ) (codes replies before : List ℕ) (at : ℕ) → Going most first codes replies before at before at 0 0
-start most first codes replies before at = record {
+pub start : (most first : ℕ) (codes replies : List ℕ) (before : Page) → Going most first codes replies before before 0 0
+start most first codes replies before = record {
   within = omega arith;
   served = omega arith;
   sized = refl;
   short = omega arith;
-  whole = λ m last after w. wider (rw (add-zero first) at w) (omega arith);
+  whole = λ m after w. wider (rw (add-zero first) at w) (omega arith);
 }
 
-module _ {most first : ℕ} {codes replies before : List ℕ} {at : ℕ} {room : List ℕ} {next used i : ℕ}
-    (g : Going most first codes replies before at room next used i) where
+module _ {most first : ℕ} {codes replies : List ℕ} {before page : Page} {used i : ℕ} (g : Going most first codes replies before page used i) where
   abbrev rest : List ℕ
   rest = part (length replies - used) replies used
 
@@ -51,7 +51,8 @@ module _ {most first : ℕ} {codes replies before : List ℕ} {at : ℕ} {room :
   line_more = rw (add-one i) (mul-suc most i)
 
   -- what is left of the room holds a line more, with all that is left of the replies
-  pub roomy : at + (most * length codes + 2 * length replies) ≤ length before → i < length codes → next + (most + 2 * length rest) ≤ length room
+  pub roomy : before.used + (most * length codes + 2 * length replies) ≤ length before.room.now → i < length codes
+      → page.used + (most + 2 * length rest) ≤ length page.room.now
   roomy fits h = omega (arith, g.short, g.sized, rest_length, line_more, times most (i + 1) most (length codes) (omega arith) (omega arith))
 
   -- a part of what is left of the replies lies within them
@@ -59,18 +60,18 @@ module _ {most first : ℕ} {codes replies before : List ℕ} {at : ℕ} {room :
   served_more h = omega (arith, rest_length)
 
   -- the line with the number first + i, with its part of the replies
-  pub more : {digits : ℕ} {mid low after : List ℕ} {start fields last count : ℕ} → i < length codes → digits + 12 ≤ most
+  pub more : {digits count : ℕ} {mid low after : Page} → i < length codes → digits + 12 ≤ most
       → count ≡ min (code_replied (get_or codes i 0)) (length rest)
-      → Writing digits (decimal_text (first + i)) room next start mid
-      → Writing 10 (fields_text (code_kind (get_or codes i 0)) (code_answer (get_or codes i 0))) mid start fields low
-      → Writing (2 + 2 * length (take count rest)) (end_text (take count rest)) low fields last after
-      → Going most first codes replies before at after last (used + count) (i + 1)
+      → Appends digits (decimal_text (first + i)) page mid
+      → Appends 10 (fields_text (code_kind (get_or codes i 0)) (code_answer (get_or codes i 0))) mid low
+      → Appends (2 + 2 * length (take count rest)) (end_text (take count rest)) low after
+      → Going most first codes replies before after (used + count) (i + 1)
   unfolding start_text
-  more {after = after} {last = last} {count = count} h few e w₁ w₂ w₃ =
+  more {count = count} {after = after} h few e w₁ w₂ w₃ =
       let asked = code_replied (get_or codes i 0) in
       let left = drop used replies in
-      let w : Writing (most + 2 * length (take count left))
-      (line_text (first + i) (code_kind (get_or codes i 0)) (code_answer (get_or codes i 0)) (take count left)) room next last after
+      let w : Appends (most + 2 * length (take count left))
+      (line_text (first + i) (code_kind (get_or codes i 0)) (code_answer (get_or codes i 0)) (take count left)) page after
       = wider (then (then w₁ w₂) (rw (part_rest replies used) at w₃)) (omega arith) in
       let n : count ≡ min asked (length left) = rw (part_rest replies used) at e in
       let size : length (take count left) ≡ count = length-take-le count left (omega arith) in
@@ -81,35 +82,35 @@ module _ {most first : ℕ} {codes replies before : List ℕ} {at : ℕ} {room :
       record {
         within = omega arith;
         served = served_more (omega arith);
-        sized = kept w ∙ g.sized;
-        short = omega (arith, g.short, w.within, size, line_more);
-        whole = λ m l a v.
-            wider (g.whole (most + 2 * length (take count left) + m) l a (rw (opened, ← cut.0, behind, number) (then w v)))
+        sized = w.size ∙ g.sized;
+        short = omega (arith, g.short, w.writing.within, size, line_more);
+        whole = λ m a v.
+            wider (g.whole (most + 2 * length (take count left) + m) a (rw (opened, ← cut.0, behind, number) (then w v)))
             (omega (arith, size, line_more));
       }
 
   -- the same without a reply, of a code that shows it
-  pub more_bare : {digits : ℕ} {mid low after : List ℕ} {start fields last : ℕ} → i < length codes → digits + 12 ≤ most → get_or codes i 0 < 16777216
-      → Writing digits (decimal_text (first + i)) room next start mid
-      → Writing 10 (fields_text (code_kind (get_or codes i 0)) (get_or codes i 0 / 65536)) mid start fields low
-      → Writing 2 (end_text []) low fields last after → Going most first codes replies before at after last used (i + 1)
+  pub more_bare : {digits : ℕ} {mid low after : Page} → i < length codes → digits + 12 ≤ most → get_or codes i 0 < 16777216
+      → Appends digits (decimal_text (first + i)) page mid
+      → Appends 10 (fields_text (code_kind (get_or codes i 0)) (get_or codes i 0 / 65536)) mid low
+      → Appends 2 (end_text []) low after → Going most first codes replies before after used (i + 1)
   more_bare h few bare w₁ w₂ w₃ =
       let answer : get_or codes i 0 / 65536 ≡ code_answer (get_or codes i 0) = omega arith in
       rw (add-zero used) at (more {count = 0} h few (omega arith) w₁ (rw answer at w₂) (wider w₃ (omega arith)))
 
-  pub more_done : {digits : ℕ} {mid low after : List ℕ} {start fields last : ℕ} → i < length codes → digits + 12 ≤ most → get_or codes i 0 < 256
-      → Writing digits (decimal_text (first + i)) room next start mid
-      → Writing 8 (fields_text (get_or codes i 0) 0) mid start fields low
-      → Writing 2 (end_text []) low fields last after → Going most first codes replies before at after last used (i + 1)
+  pub more_done : {digits : ℕ} {mid low after : Page} → i < length codes → digits + 12 ≤ most → get_or codes i 0 < 256
+      → Appends digits (decimal_text (first + i)) page mid
+      → Appends 8 (fields_text (get_or codes i 0) 0) mid low → Appends 2 (end_text []) low after
+      → Going most first codes replies before after used (i + 1)
   more_done h few below w₁ w₂ w₃ =
       let kind : code_kind (get_or codes i 0) ≡ get_or codes i 0 = omega (arith, below) in
       let answer : get_or codes i 0 / 65536 ≡ 0 = omega (arith, below) in
       more_bare h few (omega (arith, below)) w₁ (rw (kind, answer) (wider w₂ (omega arith))) w₃
 
-  pub ended : length codes ≤ i → Writing (most * length codes + 2 * length replies) (codes_text first codes replies) before at next room
+  pub ended : length codes ≤ i → Appends (most * length codes + 2 * length replies) (codes_text first codes replies) before page
   ended h =
       let all : i ≡ length codes = omega (arith, g.within) in
-      wider (g.whole 0 next room (rw (drop_of_length-le codes h) (none room next))) (omega (arith, g.served, ap (λ (k : ℕ). most * k) all))
+      wider (g.whole 0 page (rw (drop_of_length-le codes h) (none page))) (omega (arith, g.served, ap (λ (k : ℕ). most * k) all))
 
 -- ---- the digits of a number among the lines
 

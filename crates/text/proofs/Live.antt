@@ -15,10 +15,10 @@ use Rattle.slices.proofs.Laws.{put_length}
 use Rattle.digits.specs.Digits.{Writing}
 use Rattle.streams.specs.declared.Stream.TheVariants.{Output}
 use Rattle.runs.specs.Record.{Rec, cut, whole_of, size_of, recs_of}
-use Rattle.runs.specs.Run.{Did, silently, Line, line_of, lines_after, end_after, codes_of, replies_of, Result, Running}
+use Rattle.runs.specs.Run.{Did, Fits, silently, Line, line_of, lines_after, end_after, codes_of, replies_of, Result, Running}
 use Rattle.runs.specs.Divided.{wholes_in, left_over, wholes_span, input_of}
 use Rattle.runs.proofs.Records.{Bytes, recs_cons, rec_cut, size_cut}
-use Rattle.runs.proofs.Lines.{AllCoded, Fits, lines_length, lines_coded, lines_fit}
+use Rattle.runs.proofs.Lines.{AllCoded, lines_length, lines_coded, lines_fit}
 use Rattle.runs.proofs.Steps.{roomy_lines, roomy_end}
 use Rattle.runs.proofs.Divided.{taken_first, divided, carried_on}
 use Rattle.runs.proofs.Wholes.{span_within, span_records, wholes_few}

@@ -1,5 +1,6 @@
 -- What `report` writes of what a run hands back is the text of its lines.
 use mathlib.Core.Path.{◌≡◌, refl, sym, ap, ◌∙◌}
+use mathlib.Core.Bool.{Bool}
 use mathlib.Core.List.{List, [], ◌∷◌, ◌++◌, append-nil}
 use Prim.Native.Nat.{ℕ, suc, ◌+◌, ◌/◌, ◌≤◌, ◌<◌}
 use native.Mathlib.Omega.{arith}
@@ -7,15 +8,18 @@ use borrow.Author.Tests.{le-leb}
 use lib.ListN.{length, take, length-take}
 use Rattle.slices.specs.Slices.{put}
 use Rattle.slices.proofs.Laws.{put_length, put_read}
-use Rattle.streams.specs.Streams.{Speech}
+use Rattle.streams.specs.Streams.{Speech, output}
+use Rattle.streams.specs.Work.{AlikeFrom}
+use Rattle.gauge.specs.declared.Gauge.{Gauge}
 use Rattle.runs.specs.declared.Outcome.{Outcome}
 use Rattle.runs.specs.declared.Outcome.TheVariants.{Done, Over}
 use Rattle.runs.specs.Record.{Rec, recs_of}
-use Rattle.runs.specs.Run.{Did, Line, lines_after, codes_of, replies_of, Result, outcome_of, Running, RunsTo, Runs}
+use Rattle.runs.specs.Run.{Did, Fits, Line, lines_after, codes_of, replies_of, Result, outcome_of, Running, RunsTo, Runs}
 use Rattle.runs.proofs.Records.{Bytes}
-use Rattle.runs.proofs.Lines.{Fits, lines_coded, lines_few, lines_fit}
+use Rattle.runs.proofs.Lines.{lines_coded, lines_few, lines_fit}
 use Rattle.runs.proofs.Ends.{done_within, over_over}
 use Rattle.text.specs.Text.{header_text, over_text, coded_text, text_of, run_text, most_of, fits_of, report_of, Reporting, ran_speech, unrun_speech}
+use Rattle.text.specs.Session.{session_lines, session_speech, out_speech}
 use Rattle.text.proofs.Lines.{codes_lines}
 
 -- as many numbers as lines
@@ -86,6 +90,14 @@ pub over_alike : (lines : List ℕ → ℕ → List Line) (s : List ℕ) → 327
 unfolding run_text
 over_alike lines s h = rw (over_over (length s) h)
 
+pub session_alike : {S : Type 0} (did : S → ℕ → Rec → Did S) (start : S) → AlikeFrom 32769 (session_speech did start)
+session_alike did start s s' long long' =
+    ap output (over_alike (session_lines did start) s long ∙ sym (over_alike (session_lines did start) s' long'))
+
 -- nor does what is said of it
-pub over_said : (s : List ℕ) (said : Speech) → 32768 < length s → ran_speech (outcome_of (length s)) said ≡ unrun_speech Over
+over_said : (s : List ℕ) (said : Speech) → 32768 < length s → ran_speech (outcome_of (length s)) said ≡ unrun_speech Over
 over_said s said h = rw (over_over (length s) h) refl
+
+pub out_alike : {S : Type 0} (did : S → ℕ → Rec → Did S) (start : S) (held : S → Bool) (gauge : S → Gauge) (words : List ℕ)
+    → AlikeFrom 32769 (out_speech did start held gauge words)
+out_alike did start held gauge words s s' long long' = over_said s _ long ∙ sym (over_said s' _ long')

@@ -7,7 +7,8 @@ use native.Mathlib.Numerals.{add-one}
 use native.Mathlib.Omega.{arith}
 use lib.ListN.{length, get_or, drop, drop_of_length-le}
 use lib.Seq.{drop-cons}
-use Rattle.digits.specs.Digits.{Writing}
+use Rattle.digits.specs.declared.Page.{Page}
+use Rattle.digits.specs.Digits.{Appends}
 use Rattle.digits.proofs.Laws.{none, wider}
 use Rattle.runs.specs.Run.{Line, codes_of}
 use Rattle.runs.proofs.Lines.{AllCoded}
@@ -28,15 +29,15 @@ module _ (codes : List ℕ) (i : ℕ) (inside : i < length codes) where
       → first_coded (i + 1) (drop i codes) ≡ first_coded (i + 1 + 1) (drop (i + 1) codes)
   first_later is = ap (first_coded (i + 1)) rest ∙ rw is refl
 
-module _ (codes : List ℕ) (i : ℕ) {out before : List ℕ} {at : ℕ} (same : out ≡ before) (so : first_coded (i + 1) (drop i codes) ≡ first_coded 1 codes) where
+module _ (codes : List ℕ) (i : ℕ) {page before : Page} (same : page ≡ before) (so : first_coded (i + 1) (drop i codes) ≡ first_coded 1 codes) where
   -- it is found
-  pub first_found : {after : List ℕ} {next : ℕ} → i < length codes → refused_image (code_kind (get_or codes i 0)) (code_answer (get_or codes i 0)) ≡ true
-      → Writing 105 (refused_image_text (i + 1) (code_answer (get_or codes i 0))) out at next after → Writing 105 (first_coded 1 codes) before at next after
+  pub first_found : {after : Page} → i < length codes → refused_image (code_kind (get_or codes i 0)) (code_answer (get_or codes i 0)) ≡ true
+      → Appends 105 (refused_image_text (i + 1) (code_answer (get_or codes i 0))) page after → Appends 105 (first_coded 1 codes) before after
   first_found inside is w = rw (sym so ∙ first_here codes i inside is, sym same) w
 
   -- there is none
-  pub first_none : length codes ≤ i → Writing 105 (first_coded 1 codes) before at at out
-  first_none past = rw (sym so ∙ ap (first_coded (i + 1)) (drop_of_length-le codes past), sym same) (wider (none out at) (omega arith))
+  pub first_none : length codes ≤ i → Appends 105 (first_coded 1 codes) before page
+  first_none past = rw (sym so ∙ ap (first_coded (i + 1)) (drop_of_length-le codes past), sym same) (wider (none page) (omega arith))
 
 -- ---- of the lines
 

@@ -1,6 +1,19 @@
 -- The contracts of this crate's public functions leave no choice.
-use mathlib.Core.Path.{sym, ◌∙◌}
+use mathlib.Core.Path.{refl, sym, ◌∙◌}
+use mathlib.Core.Bool.{Bool}
+use mathlib.Core.List.{List}
+use Prim.Native.Nat.{ℕ}
+use Rattle.std.specs.Prelude.{Result}
+use denote.Ref.{MutBor}
+use denote.Param.Laws.{Laws}
+use denote.RattleType.{RattleType}
+use mir.Syntax.{Dict}
 use Rattle.numbers.specs.Once.{Once}
+use Rattle.digits.proofs.Unique.{same}
+use Rattle.record.specs.declared.Refusal.{Refusal}
+use Rattle.gauge.specs.declared.Gauge.{Gauge}
+use Rattle.runs.specs.declared.Runner.{Ghosts}
+use Rattle.text.specs.Session.{GivesOut}
 use Rattle.streams.proofs.Laws.{same_said, same_room}
 use Rattle.text.proofs.put_fields
 use Rattle.text.specs.contracts.put_fields as put_fields'
@@ -20,26 +33,30 @@ use Rattle.text.proofs.put_unrun
 use Rattle.text.specs.contracts.put_unrun as put_unrun'
 use Rattle.text.proofs.put_meaning
 use Rattle.text.specs.contracts.put_meaning as put_meaning'
+use Rattle.text.proofs.put_session
+use Rattle.text.specs.contracts.put_session as put_session'
+use Rattle.text.proofs.put_taken
+use Rattle.text.specs.contracts.put_taken as put_taken'
 use Rattle.text.proofs.put_no_image
 use Rattle.text.specs.contracts.put_no_image as put_no_image'
 
 pub put_fields_once : Once put_fields'.ended put_fields.Reads.Pre put_fields.Reads.Learnt
-put_fields_once κs a r r' w w' p h h' = (h.onward ∙ sym h'.onward, λ i. (tt, (tt, (tt, ((h.written ∙ sym h'.written) i, (tt, tt))))))
+put_fields_once κs a r r' w w' p h h' = (refl, λ i. (tt, (tt, (tt, (same h h' i, tt)))))
 
 pub put_done_once : Once put_done'.ended put_done.Reads.Pre put_done.Reads.Learnt
-put_done_once κs a r r' w w' p h h' = (h.onward ∙ sym h'.onward, λ i. (tt, (tt, ((h.written ∙ sym h'.written) i, (tt, tt)))))
+put_done_once κs a r r' w w' p h h' = (refl, λ i. (tt, (tt, (same h h' i, tt))))
 
 pub put_bare_end_once : Once put_bare_end'.ended put_bare_end.Reads.Pre put_bare_end.Reads.Learnt
-put_bare_end_once κs a r r' w w' p h h' = (h.onward ∙ sym h'.onward, λ i. ((h.written ∙ sym h'.written) i, (tt, tt)))
+put_bare_end_once κs a r r' w w' p h h' = (refl, λ i. (same h h' i, tt))
 
 pub put_end_once : Once put_end'.ended put_end.Reads.Pre put_end.Reads.Learnt
-put_end_once κs a r r' w w' p h h' = (h.onward ∙ sym h'.onward, λ i. (tt, (tt, ((h.written ∙ sym h'.written) i, (tt, tt)))))
+put_end_once κs a r r' w w' p h h' = (refl, λ i. (tt, (tt, (same h h' i, tt))))
 
 pub put_codes_once : Once put_codes'.ended put_codes.Reads.Pre put_codes.Reads.Learnt
-put_codes_once κs a r r' w w' p h h' = (h.onward ∙ sym h'.onward, λ i. (tt, (tt, (tt, ((h.written ∙ sym h'.written) i, (tt, tt))))))
+put_codes_once κs a r r' w w' p h h' = (refl, λ i. (tt, (tt, (tt, (same h h' i, tt)))))
 
 pub put_header_once : Once put_header'.ended put_header.Reads.Pre put_header.Reads.Learnt
-put_header_once κs a r r' w w' p h h' = (h.onward ∙ sym h'.onward, λ i. ((h.written ∙ sym h'.written) i, tt))
+put_header_once κs a r r' w w' p h h' = (refl, λ i. (same h h' i, tt))
 
 pub report_once : Once report'.ended report.Reads.Pre report.Reads.Learnt
 report_once κs a r r' w w' p h h' = (h.counted ∙ sym h'.counted, λ i. (tt, (tt, (tt, ((h.written ∙ sym h'.written) i, tt)))))
@@ -48,7 +65,28 @@ pub put_unrun_once : Once put_unrun'.ended put_unrun.Reads.Pre put_unrun.Reads.L
 put_unrun_once κs a r r' w w' p h h' = (same_said h h', λ i. (tt, (same_room h h' i, tt)))
 
 pub put_meaning_once : Once put_meaning'.ended put_meaning.Reads.Pre put_meaning.Reads.Learnt
-put_meaning_once κs a r r' w w' p h h' = (h.onward ∙ sym h'.onward, λ i. (tt, ((h.written ∙ sym h'.written) i, (tt, tt))))
+put_meaning_once κs a r r' w w' p h h' = (refl, λ i. (tt, (same h h' i, tt)))
 
 pub put_no_image_once : Once put_no_image'.ended put_no_image.Reads.Pre put_no_image.Reads.Learnt
 put_no_image_once κs a r r' w w' p h h' = (same_said h h', λ i. (tt, (tt, (tt, (tt, (same_room h h' i, tt))))))
+
+-- of any runner
+pub put_session_once : (R : RattleType) (S : RattleType) (l : Laws R) (m : Laws S) (g : Ghosts R.Denot S.Denot) (d : Dict) (e : Dict)
+    → Once (put_session'.ended R S g d e) (put_session.Reads.Pre R S l m g d e) (put_session.Reads.Learnt R S l m g d e)
+put_session_once R S l m g d e κs a r r' w w' p h h' = (same_said h h', λ i. (tt, (same_room h h' i, tt)))
+
+-- and of what takes an image out, where that leaves no choice
+pub record Taking (S : Type 0) (post : S → MutBor (List ℕ) → Result ℕ Refusal → MutBor (List ℕ) → Type 0) : Type 0 where
+  pub held : S → Bool
+  pub gauge : S → Gauge
+  pub gives : GivesOut post held gauge
+
+pub put_taken_once : (R : RattleType) (F : RattleType) (S : RattleType) (l : Laws R) (k : Laws F) (m : Laws S) (g : Ghosts R.Denot S.Denot) (d : Dict)
+    (call : put_taken'.F-FnOnce.Ghosts R F S) (e : Dict) (b : Dict) (f : Dict)
+    → Once (put_taken'.ended R F S g d call e b f)
+    (λ κs a. put_taken.Reads.Pre R F S l k m g d call e b f κs a × Taking S.Denot ((put_taken'.F-FnOnce.words R F S call).post a.1.1.1.0))
+    (put_taken.Reads.Learnt R F S l k m g d call e b f)
+put_taken_once R F S l k m g d call e b f κs a r r' w w' p h h' =
+    let x = h p.1.held p.1.gauge p.1.gives in
+    let y = h' p.1.held p.1.gauge p.1.gives in
+    (same_said x y, λ i. (tt, (tt, (same_room x y i, (tt, tt)))))

@@ -2,130 +2,132 @@
 #![tactic(auto)]
 
 ghost use Rattle.std.specs.Prelude.{◌≡◌, [], ◌+◌, ◌*◌, ◌≤◌, ◌<◌, length, take, ◌++◌};
-ghost use Rattle.digits.specs.Digits.{lower, pairs_of, Writing};
+ghost use Rattle.std.specs.Prelude.{Bool, List, ℕ};
+ghost use Rattle.digits.specs.Digits.{lower, pairs_of, Writing, Appends};
 ghost use Rattle.streams.specs.Streams.{Saying, error, refused_text};
+ghost use Rattle.gauge.specs.declared.Gauge.{Gauge};
 ghost use Rattle.text.specs.Line.{kind_text, fields_text, end_text};
-ghost use Rattle.text.specs.Text.{codes_most, codes_text, header_text, over_text, coded_text, most_of, fits_of, Held, ended_text, Reporting, unrun_speech};
-ghost use Rattle.text.specs.Text.{image_meaning, refused_image, refused_image_text, first_coded};
+ghost use Rattle.text.specs.Text.{codes_most, codes_text, header_text, over_text, coded_text, most_of, fits_of, Held, ended_text, Reporting};
+ghost use Rattle.text.specs.Text.{pack_speech, unrun_speech, image_meaning, refused_image, refused_image_text, first_coded};
+ghost use Rattle.text.specs.Session.{session_speech, OutOf, GivesOut, out_speech};
 
-use runs::{Ended, Outcome};
+use digits::Page;
+use record::Refusal;
+use runs::{Ended, Outcome, Runner};
 use streams::{Said, Stream};
 
-fn put_kind(table: &[u8; 512], kind: usize, answer: usize, out: &mut [u8], at: usize) -> usize
+fn put_kind(table: &[u8; 512], kind: usize, answer: usize, page: &mut Page)
     requires table_value { table.now ≡ pairs_of lower }
     requires kind_bound { kind < 65536 }
-    requires at_in_bounds { at + 4 ≤ length out.old }
-    ensures { Writing 4 (kind_text kind answer) out.old at result out.new }
+    requires used_in_bounds { page.old.used + 4 ≤ length page.old.room.now }
+    ensures { Appends 4 (kind_text kind answer) page.old page.new }
 {
     if answer == 2 {
-        return digits::put_bytes(b"----", out, at);
+        page.put_bytes(b"----");
+        return;
     }
-    let next = digits::put_entry(table, (kind / 256) as u8, out, at);
-    digits::put_entry(table, (kind % 256) as u8, out, next)
+    page.put_entry(table, (kind / 256) as u8);
+    page.put_entry(table, (kind % 256) as u8);
 }
 
 // What stands between the number and the reply. The table for the kind's digits is the caller's: it keeps it from line to line.
-pub fn put_fields(table: &[u8; 512], kind: usize, answer: usize, out: &mut [u8], at: usize) -> usize
+pub fn put_fields(table: &[u8; 512], kind: usize, answer: usize, page: &mut Page)
     requires table_value { table.now ≡ pairs_of lower }
     requires kind_bound { kind < 65536 }
     requires answer_bound { answer < 256 }
-    requires at_in_bounds { at + 12 ≤ length out.old }
-    ensures { Writing 10 (fields_text kind answer) out.old at result out.new }
+    requires used_in_bounds { page.old.used + 12 ≤ length page.old.room.now }
+    ensures { Appends 10 (fields_text kind answer) page.old page.new }
 {
-    let a = digits::put_byte(b' ', out, at);
-    let b = put_kind(table, kind, answer, out, a);
-    let c = digits::put_byte(b' ', out, b);
-    let d = digits::put_decimal(answer, out, c);
-    digits::put_byte(b' ', out, d)
+    page.put_byte(b' ');
+    put_kind(table, kind, answer, page);
+    page.put_byte(b' ');
+    page.put_decimal(answer);
+    page.put_byte(b' ');
 }
 
 // The same of a record that is done, and of a kind of one byte.
-pub fn put_done(table: &[u8; 512], kind: u8, out: &mut [u8], at: usize) -> usize
+pub fn put_done(table: &[u8; 512], kind: u8, page: &mut Page)
     requires table_value { table.now ≡ pairs_of lower }
-    requires at_in_bounds { at + 8 ≤ length out.old }
-    ensures { Writing 8 (fields_text kind 0) out.old at result out.new }
+    requires used_in_bounds { page.old.used + 8 ≤ length page.old.room.now }
+    ensures { Appends 8 (fields_text kind 0) page.old page.new }
 {
-    let a = digits::put_bytes(b" 00", out, at);
-    let b = digits::put_entry(table, kind, out, a);
-    digits::put_bytes(b" 0 ", out, b)
+    page.put_bytes(b" 00");
+    page.put_entry(table, kind);
+    page.put_bytes(b" 0 ");
 }
 
 // The end of a line without a reply.
-pub fn put_bare_end(out: &mut [u8], at: usize) -> usize
-    requires { at + 2 ≤ length out.old }
-    ensures { Writing 2 (end_text []) out.old at result out.new }
+pub fn put_bare_end(page: &mut Page)
+    requires { page.old.used + 2 ≤ length page.old.room.now }
+    ensures { Appends 2 (end_text []) page.old page.new }
 {
-    digits::put_bytes(b"-\n", out, at)
+    page.put_bytes(b"-\n");
 }
 
 // The reply and the end of the line.
-pub fn put_end(table: &[u8; 512], reply: &[u8], out: &mut [u8], at: usize) -> usize
+pub fn put_end(table: &[u8; 512], reply: &[u8], page: &mut Page)
     requires table_value { table.now ≡ pairs_of lower }
-    requires reply_in_bounds { at + (2 + 2 * length reply.now) ≤ length out.old }
-    ensures { Writing (2 + 2 * length reply.now) (end_text reply.now) out.old at result out.new }
+    requires reply_in_bounds { page.old.used + (2 + 2 * length reply.now) ≤ length page.old.room.now }
+    ensures { Appends (2 + 2 * length reply.now) (end_text reply.now) page.old page.new }
 {
-    if reply.len() == 0 {
-        return put_bare_end(out, at);
+    if reply.is_empty() {
+        put_bare_end(page);
+        return;
     }
-    let next = digits::put_hex(table, reply, out, at);
-    digits::put_byte(b'\n', out, next)
+    page.put_hex(table, reply);
+    page.put_byte(b'\n');
 }
 
 // The lines, numbered from a number on. A line's code has its kind, its answer and the length of its reply, which is the next part of the replies. Most
 // codes are below 655360 = 10 * 65536, and have an answer of one digit and no reply; and most of these below 256, which is the kind of a record that is
 // done.
-pub fn put_codes(first: usize, codes: &[u64], replies: &[u8], out: &mut [u8], at: usize) -> usize
+pub fn put_codes(first: usize, codes: &[u64], replies: &[u8], page: &mut Page)
     requires codes_bound { first + length codes.now < 18446744073709551616 }
-    requires replies_in_bounds { at + codes_most first (length codes.now) (length replies.now) ≤ length out.old }
-    ensures { Writing (codes_most first (length codes.now) (length replies.now))
-        (codes_text first codes.now replies.now) out.old at result out.new }
+    requires replies_in_bounds { page.old.used + codes_most first (length codes.now) (length replies.now) ≤ length page.old.room.now }
+    ensures { Appends (codes_most first (length codes.now) (length replies.now))
+        (codes_text first codes.now replies.now) page.old page.new }
 {
     let table = digits::lower_pairs();
     let mut four = digits::packed(first);
-    let mut next = at;
     let mut used = 0;
-    let mut i = 0;
-    while i < codes.len() {
-        let code = codes[i];
+    for (i, &code) in codes.iter().enumerate() {
         let number = first + i;
-        i += 1;
-        let start = digits::put_counted(four.high, four.low, number, out, next);
+        page.put_counted(four.high, four.low, number);
         four = digits::counted_up(number, four);
         if code < 655360 {
             if code < 256 {
-                let end = put_done(&table, code as u8, out, start);
-                next = put_bare_end(out, end);
+                put_done(&table, code as u8, page);
+                put_bare_end(page);
             } else {
                 let kind = (code % 65536) as usize;
-                let end = put_fields(&table, kind, (code / 65536) as usize, out, start);
-                next = put_bare_end(out, end);
+                put_fields(&table, kind, (code / 65536) as usize, page);
+                put_bare_end(page);
             }
         } else {
             let kind = (code % 65536) as usize;
             let rest = &replies[used..];
-            let count = numbers::at_most(rest.len() as u64, code / 16777216) as usize;
-            let end = put_fields(&table, kind, (code / 65536 % 256) as usize, out, start);
-            next = put_end(&table, &rest[..count], out, end);
+            let count = ((code / 16777216) as usize).min(rest.len());
+            put_fields(&table, kind, (code / 65536 % 256) as usize, page);
+            put_end(&table, &rest[..count], page);
             used += count;
         }
     }
-    next
 }
 
 // ---- the text
 
-pub fn put_header(out: &mut [u8]) -> usize
-    requires { 25 ≤ length out.old }
-    ensures { Writing 25 header_text out.old 0 result out.new }
+pub fn put_header(page: &mut Page)
+    requires { page.old.used + 25 ≤ length page.old.room.now }
+    ensures { Appends 25 header_text page.old page.new }
 {
-    digits::put_bytes(b"record kind answer reply\n", out, 0)
+    page.put_bytes(b"record kind answer reply\n");
 }
 
-fn put_over(out: &mut [u8], at: usize) -> usize
-    requires { at + 11 ≤ length out.old }
-    ensures { Writing 11 over_text out.old at result out.new }
+fn put_over(page: &mut Page)
+    requires { page.old.used + 11 ≤ length page.old.room.now }
+    ensures { Appends 11 over_text page.old page.new }
 {
-    digits::put_bytes(b"0 ---- 1 -\n", out, at)
+    page.put_bytes(b"0 ---- 1 -\n");
 }
 
 fn put_coded(outcome: Outcome, codes: &[u64], replies: &[u8], out: &mut [u8]) -> usize
@@ -133,14 +135,16 @@ fn put_coded(outcome: Outcome, codes: &[u64], replies: &[u8], out: &mut [u8]) ->
     ensures { Writing (most_of (length codes.now) (length replies.now))
         (coded_text outcome codes.now replies.now) out.old 0 result out.new }
 {
+    let mut page = Page::new(out);
+    put_header(&mut page);
     match outcome {
         Outcome::Done => {
-            let at = put_header(out);
-            put_codes(1, codes, replies, out, at)
+            put_codes(1, codes, replies, &mut page);
+            page.used
         }
         Outcome::Over => {
-            let at = put_header(out);
-            put_over(out, at)
+            put_over(&mut page);
+            page.used
         }
     }
 }
@@ -165,11 +169,10 @@ pub fn report(ended: Ended, answers: &[u64], replies: &[u8], out: &mut [u8]) -> 
     ensures { Reporting (ended_text ended answers.now replies.now (length out.old))
         out.old result out.new }
 {
-    let outcome = ended.outcome;
-    let lines = slices::lesser(ended.lines, answers.len());
-    let replied = slices::lesser(ended.replied, replies.len());
+    let lines = ended.lines.min(answers.len());
+    let replied = ended.replied.min(replies.len());
     if fits(lines, replied, out.len()) {
-        return put_coded(outcome, &answers[..lines], &replies[..replied], out);
+        return put_coded(ended.outcome, &answers[..lines], &replies[..replied], out);
     }
     0
 }
@@ -180,13 +183,10 @@ pub fn put_unrun(outcome: Outcome, room: &mut [u8]) -> Said
     ensures { Saying (unrun_speech outcome) room.old result room.new }
 {
     match outcome {
-        Outcome::Done => {
-            let stream = Stream::Output;
-            Said {
-                stream: stream,
-                count: 0,
-            }
-        }
+        Outcome::Done => Said {
+            stream: Stream::Output,
+            count: 0,
+        },
         Outcome::Over => streams::put_refused(
             runs::outcome_number(Outcome::Over),
             b"the session is over 32,768 bytes",
@@ -198,69 +198,52 @@ pub fn put_unrun(outcome: Outcome, room: &mut [u8]) -> Said
 // ---- why no image was accepted
 
 // What the refusal of an image means, by its number.
-pub fn put_meaning(answer: u8, out: &mut [u8], at: usize) -> usize
-    requires { at + 50 ≤ length out.old }
-    ensures { Writing 50 (image_meaning answer) out.old at result out.new }
+pub fn put_meaning(answer: u8, page: &mut Page)
+    requires { page.old.used + 50 ≤ length page.old.room.now }
+    ensures { Appends 50 (image_meaning answer) page.old page.new }
 {
-    if answer == 4 {
-        return digits::put_bytes(b"it is not 60 bytes (61 in kind 8)", out, at);
+    match answer {
+        4 => page.put_bytes(b"it is not 60 bytes (61 in kind 8)"),
+        5 => page.put_bytes(b"it comes after an event or after eight images"),
+        6 => page.put_bytes(b"its address has another family code or a wrong CRC"),
+        7 => page.put_bytes(b"its lock byte is above 3"),
+        10 => page.put_bytes(b"its breakpoints are crossed or above 40 degrees"),
+        12 => page.put_bytes(b"its address is there already"),
+        _ => page.put_bytes(b"it is refused"),
     }
-    if answer == 5 {
-        return digits::put_bytes(b"it comes after an event or after eight images", out, at);
-    }
-    if answer == 6 {
-        return digits::put_bytes(
-            b"its address has another family code or a wrong CRC",
-            out,
-            at,
-        );
-    }
-    if answer == 7 {
-        return digits::put_bytes(b"its lock byte is above 3", out, at);
-    }
-    if answer == 10 {
-        return digits::put_bytes(b"its breakpoints are crossed or above 40 degrees", out, at);
-    }
-    if answer == 12 {
-        return digits::put_bytes(b"its address is there already", out, at);
-    }
-    digits::put_bytes(b"it is refused", out, at)
 }
 
 fn refused_image(kind: u64, answer: u8) -> bool
     ensures { result ≡ refused_image kind answer }
 {
-    numbers::and(numbers::or(kind == 1, kind == 8), 0 < answer)
+    (kind == 1 || kind == 8) && 0 < answer
 }
 
-fn put_refused_image(number: usize, answer: u8, out: &mut [u8], at: usize) -> usize
+fn put_refused_image(number: usize, answer: u8, page: &mut Page)
     requires number_bound { number < 100000 }
-    requires at_in_bounds { at + 105 ≤ length out.old }
-    ensures { Writing 105 (refused_image_text number answer) out.old at result out.new }
+    requires used_in_bounds { page.old.used + 105 ≤ length page.old.room.now }
+    ensures { Appends 105 (refused_image_text number answer) page.old page.new }
 {
-    let a = digits::put_bytes(b"; the first that was refused, record ", out, at);
-    let b = digits::put_decimal(number, out, a);
-    let c = digits::put_bytes(b", got ", out, b);
-    let d = digits::put_decimal(answer as usize, out, c);
-    let e = digits::put_bytes(b": ", out, d);
-    put_meaning(answer, out, e)
+    page.put_bytes(b"; the first that was refused, record ");
+    page.put_decimal(number);
+    page.put_bytes(b", got ");
+    page.put_decimal(answer as usize);
+    page.put_bytes(b": ");
+    put_meaning(answer, page);
 }
 
-fn put_first_refused(codes: &[u64], out: &mut [u8], at: usize) -> usize
+fn put_first_refused(codes: &[u64], page: &mut Page)
     requires codes_len_bound { length codes.now < 100000 }
-    requires at_in_bounds { at + 105 ≤ length out.old }
-    ensures { Writing 105 (first_coded 1 codes.now) out.old at result out.new }
+    requires used_in_bounds { page.old.used + 105 ≤ length page.old.room.now }
+    ensures { Appends 105 (first_coded 1 codes.now) page.old page.new }
 {
-    let mut i = 0;
-    while i < codes.len() {
-        let code = codes[i];
+    for (i, &code) in codes.iter().enumerate() {
         let answer = (code / 65536 % 256) as u8;
         if refused_image(code % 65536, answer) {
-            return put_refused_image(i + 1, answer, out, at);
+            put_refused_image(i + 1, answer, page);
+            return;
         }
-        i += 1;
     }
-    at
 }
 
 // That no image was accepted, in words, and which was refused first, of as many of the lent answers as the run has lines.
@@ -276,15 +259,83 @@ pub fn put_no_image(
     ensures { Saying (error (refused_text number (words.now ++ first_coded 1 (take lines answers.now))))
         room.old result room.new }
 {
-    let few = slices::lesser(lines, answers.len());
-    let a = digits::put_decimal(number as usize, room, 0);
-    let b = digits::put_bytes(b": ", room, a);
-    let c = digits::put_bytes(words, room, b);
-    let d = put_first_refused(&answers[..few], room, c);
-    let count = digits::put_byte(b'\n', room, d);
-    let stream = Stream::Error;
+    let few = lines.min(answers.len());
+    let mut page = Page::new(room);
+    page.put_decimal(number as usize);
+    page.put_bytes(b": ");
+    page.put_bytes(words);
+    put_first_refused(&answers[..few], &mut page);
+    page.put_byte(b'\n');
     Said {
-        stream: stream,
-        count: count,
+        stream: Stream::Error,
+        count: page.used,
+    }
+}
+
+// ---- a program that runs a session
+
+// The text of a session, with an answer for each record that 32,768 bytes can hold and 65,536 bytes of reply room.
+pub fn put_session<R: Runner>(bytes: &[u8], out: &mut [u8]) -> Said
+where
+    R::State: Drop,
+    requires { 270372 ≤ length out.old }
+    ensures { Saying (session_speech R.did R.first bytes.now) out.old result out.new }
+{
+    let mut replies = [0u8; 65536];
+    let mut answers = [0u64; 8192];
+    let ran = runs::run::<R>(bytes, &mut replies, &mut answers);
+    let count = report(ran.ended, &answers, &replies, out);
+    Said {
+        stream: Stream::Output,
+        count,
+    }
+}
+
+// The image that was taken out of a state, where there is one; or, in words, that there is none, of a run that has so many lines.
+fn put_out(
+    taken: Result<usize, Refusal>,
+    words: &[u8],
+    lines: usize,
+    answers: &[u64],
+    room: &mut [u8],
+) -> Said
+    requires answers_len_bound { length answers.now < 100000 }
+    requires words_in_bounds { length words.now + 113 ≤ length room.old }
+    ensures { (held : Bool) (gauge : Gauge) (before : List ℕ) → OutOf held gauge before taken room.old → 61 ≤ length before →
+        length room.old ≡ length before →
+        Saying (pack_speech held gauge (words.now ++ first_coded 1 (take lines answers.now))) before result room.new }
+{
+    match taken {
+        Ok(count) => Said {
+            stream: Stream::Output,
+            count,
+        },
+        Err(refusal) => put_no_image(u8::from(refusal), words, lines, answers, room),
+    }
+}
+
+// The image that is taken out at the end of a session, or why there is none: the words say that no image was accepted.
+pub fn put_taken<R: Runner, F: FnOnce(R::State, &mut [u8]) -> Result<usize, Refusal>>(
+    bytes: &[u8],
+    words: &[u8],
+    room: &mut [u8],
+    take: F,
+) -> Said
+where
+    R::State: Drop,
+    requires takes { F.IsAlwaysCallable take }
+    requires words_in_bounds { length words.now + 113 ≤ length room.old }
+    ensures { (held : R.State → Bool) (gauge : R.State → Gauge) → GivesOut (F.post take) held gauge →
+        Saying (out_speech R.did R.first held gauge words.now bytes.now) room.old result room.new }
+{
+    let mut scratch = [0u8; 65536];
+    let mut answers = [0u64; 8192];
+    let ran = runs::run::<R>(bytes, &mut scratch, &mut answers);
+    match ran.ended.outcome {
+        Outcome::Done => {
+            let taken = take(ran.state, room);
+            put_out(taken, words, ran.ended.lines, &answers, room)
+        }
+        Outcome::Over => put_unrun(Outcome::Over, room),
     }
 }

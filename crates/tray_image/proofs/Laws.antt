@@ -1,21 +1,17 @@
 -- A session that is over 32,768 bytes: its bytes do not matter.
-use mathlib.Core.Path.{◌≡◌, refl}
+use mathlib.Core.Path.{ap}
 use mathlib.Core.List.{List}
-use Prim.Native.Nat.{ℕ, ◌<◌}
-use lib.ListN.{length}
+use Prim.Native.Nat.{ℕ}
 use Rattle.numbers.specs.Choice.{pick}
 use Rattle.streams.specs.Streams.{Speech, error}
-use Rattle.runs.specs.declared.Outcome.TheVariants.{Over}
-use Rattle.runs.specs.Record.{recs_of}
-use Rattle.runs.specs.Run.{lines_after}
+use Rattle.streams.specs.Work.{AlikeFrom}
 use Rattle.tray_record.specs.Tray.{empty_tray, tray_did}
-use Rattle.text.specs.Text.{unrun_speech, first_refused}
-use Rattle.text.proofs.Printed.{over_said}
-use Rattle.tray_image.specs.TrayImage.{is_number, slot_of, no_number_text, tray_at_end, slot_speech, tray_image_speech, word_speech}
+use Rattle.text.proofs.Printed.{out_alike}
+use Rattle.tray_run.specs.TrayRun.{named_held, named_pack}
+use Rattle.tray_image.specs.TrayImage.{is_number, slot_of, no_number_text, slot_words, tray_at_end, tray_image_speech, word_speech}
 
-abbrev pub over_speech : List ℕ → Speech
-over_speech word = pick (is_number word) (unrun_speech Over) (error no_number_text)
-
-pub alike : (word s : List ℕ) → 32768 < length s → word_speech word s ≡ over_speech word
-unfolding word_speech tray_image_speech
-alike word s h = rw (over_said s (slot_speech (tray_at_end s) (slot_of word) (first_refused 1 (lines_after tray_did empty_tray 65536 (recs_of s)))) h) refl
+pub alike : (word : List ℕ) → AlikeFrom 32769 (word_speech word)
+unfolding word_speech tray_image_speech tray_at_end
+alike word s s' long long' =
+    ap (λ (said : Speech). pick (is_number word) said (error no_number_text))
+    (out_alike tray_did empty_tray (named_held (slot_of word)) (named_pack (slot_of word)) slot_words s s' long long')

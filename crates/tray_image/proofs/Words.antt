@@ -5,12 +5,23 @@ use mathlib.Core.List.{List, [], ◌∷◌}
 use Prim.Native.Nat.{ℕ, ◌+◌, ◌-◌, ◌*◌, ◌≤◌, ◌<◌, min}
 use native.Mathlib.Omega.{arith}
 use native.Mathlib.Numerals.{add-one}
-use borrow.Author.Tests.{leb-true, leb-false}
+use borrow.Author.Tests.{leb-true, leb-false, lt-ltb, le-ltb}
 use lib.Dec.{ltb, leb}
 use lib.ListN.{length, get_or, drop}
 use lib.Seq.{drop-cons}
+use Rattle.std.specs.Prelude.{◌&&◌, Some, None}
+use Rattle.std.specs.Char.{is_ascii_digit}
 use Rattle.numbers.specs.Choice.{both}
-use Rattle.tray_image.specs.TrayImage.{is_digit, all_digits, is_number, value_from}
+use Rattle.tray_image.specs.TrayImage.{is_digit, all_digits, is_number, value_from, slot_of}
+
+-- the library's digits are these
+pub digit_same : (c : ℕ) → is_ascii_digit c ≡ is_digit c
+unfolding is_digit
+digit_same c = by (leb 48 c)
+  where
+    by : (b : Bool) → (b && leb c 57) ≡ both b (leb c 57)
+    by true = refl
+    by false = refl
 
 -- a digit at the front goes, and what the others tell stays; a byte that is none tells all
 pub digit_more : (l : List ℕ) (i : ℕ) → i < length l → is_digit (get_or l i 0) ≡ true → all_digits (drop (i + 1) l) ≡ all_digits (drop i l)
@@ -52,3 +63,13 @@ value_capped l n = by (leb n 8) refl
 pub value_more : (l : List ℕ) (i n : ℕ) → i < length l
     → min (value_from (min (10 * n + (get_or l i 0 - 48)) 8) (drop (i + 1) l)) 8 ≡ min (value_from n (drop i l)) 8
 value_more l i n h = value_capped (drop (i + 1) l) (10 * n + (get_or l i 0 - 48)) ∙ rw (add-one, drop-cons l i 0)
+
+-- ---- the slot of a number that was read up to 8
+
+pub slot_told : (word : List ℕ) (n : ℕ) → n < 8 → min n 8 ≡ min (value_from 0 word) 8 → slot_of word ≡ Some n
+unfolding slot_of
+slot_told word n few told = let value : value_from 0 word ≡ n = omega arith in rw (value, lt-ltb n 8 few)
+
+pub no_slot : (word : List ℕ) (n : ℕ) → 8 ≤ n → min n 8 ≡ min (value_from 0 word) 8 → slot_of word ≡ None
+unfolding slot_of
+no_slot word n many told = let over : 8 ≤ value_from 0 word = omega arith in rw (le-ltb (value_from 0 word) 8 over)

@@ -1,13 +1,13 @@
 -- What the program says of a tray session and of a word of its call, SLOT: the pack image taken out of that slot at the end, or why there is none.
-use Rattle.std.specs.Prelude.{Bool, true, List, [], ◌∷◌, ◌++◌, ℕ, ◌+◌, ◌-◌, ◌*◌, min, ltb, leb, length}
+use Rattle.std.specs.Prelude.{Option, Some, None, Bool, true, List, [], ◌∷◌, ◌++◌, ℕ, ◌+◌, ◌-◌, ◌*◌, ltb, leb, length}
 use Rattle.numbers.specs.Choice.{pick, both}
 use Rattle.digits.specs.Ascii.{ascii}
 use Rattle.streams.specs.Streams.{Speech, error, unread_text}
 use Rattle.runs.specs.Record.{recs_of}
 use Rattle.runs.specs.Run.{lines_after, end_after, outcome_of}
 use Rattle.tray_record.specs.declared.Tray.{Tray}
-use Rattle.tray_record.specs.Tray.{empty_tray, pack_of, tray_did}
-use Rattle.tray_run.specs.TrayRun.{slot_held}
+use Rattle.tray_record.specs.Tray.{empty_tray, tray_did}
+use Rattle.tray_run.specs.TrayRun.{named_held, named_pack}
 use Rattle.text.specs.Text.{ran_speech, pack_speech, first_refused}
 
 -- ---- SLOT, in decimal digits
@@ -28,9 +28,9 @@ abbrev pub value_from : ℕ → List ℕ → ℕ
 value_from n [] = n
 value_from n (c ∷ cs) = value_from (10 * n + (c - 48)) cs
 
--- 8 stands for each slot from 8 on: no tray has it
-unfoldable pub slot_of : List ℕ → ℕ
-slot_of word = min (value_from 0 word) 8
+-- no tray has a slot from 8 on
+unfoldable pub slot_of : List ℕ → Option ℕ
+slot_of word = pick (ltb (value_from 0 word) 8) (Some (value_from 0 word)) None
 
 -- ---- words
 
@@ -50,12 +50,13 @@ unfoldable pub tray_at_end : List ℕ → Tray
 tray_at_end s = end_after tray_did empty_tray 65536 (recs_of s)
 
 -- the image goes to standard output, 5 for a slot without an image to standard error, with the first image that was refused
-abbrev pub slot_speech : Tray → ℕ → List ℕ → Speech
-slot_speech tray i first = pack_speech (slot_held tray i) (pack_of tray i) (slot_words ++ first)
+abbrev pub slot_speech : Tray → Option ℕ → List ℕ → Speech
+slot_speech tray slot first = pack_speech (named_held slot tray) (named_pack slot tray) (slot_words ++ first)
 
 -- and so does the refusal of a session that was not run, with an answer lent for each record that 32,768 bytes can hold
-unfoldable pub tray_image_speech : ℕ → List ℕ → Speech
-tray_image_speech i s = ran_speech (outcome_of (length s)) (slot_speech (tray_at_end s) i (first_refused 1 (lines_after tray_did empty_tray 65536 (recs_of s))))
+unfoldable pub tray_image_speech : Option ℕ → List ℕ → Speech
+tray_image_speech slot s =
+    ran_speech (outcome_of (length s)) (slot_speech (tray_at_end s) slot (first_refused 1 (lines_after tray_did empty_tray 65536 (recs_of s))))
 
 -- of any word
 unfoldable pub word_speech : List ℕ → List ℕ → Speech

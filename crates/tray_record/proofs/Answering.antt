@@ -63,7 +63,7 @@ module _ (t : Transaction) (common : Common) (label : Label) (meter : Meter) whe
     said : (rest : List ℕ) → replied_of chosen common label meter t ++ rest ≡ answer ++ rest
     said rest = ap (λ (b : Bool). replied_of b common label meter t ++ rest) es
 
-    in_bytes : (rest : List ℕ) {room : List ℕ} → room ≡ replied_of chosen common label meter t ++ rest → ((j : ℕ) → get_or room j 0 < 256)
+    pub in_bytes : (rest : List ℕ) {room : List ℕ} → room ≡ replied_of chosen common label meter t ++ rest → ((j : ℕ) → get_or room j 0 < 256)
         → and_bytes (line_high t) answer ≡ answer
     in_bytes rest written bytes =
         high_and 0 t.count answer rest (listed_length _ 0 t.count)
@@ -80,15 +80,6 @@ module _ (t : Transaction) (common : Common) (label : Label) (meter : Meter) whe
     heard_further scratch room e eb bytes ea =
         let front = ap (take t.count) (eb ∙ said (drop t.count scratch)) ∙ take_at answer _ t.count (listed_length _ 0 t.count) in
         rw e (ea ∙ ap (and_bytes room) front, (eb ∙ said (drop t.count scratch), in_bytes (drop t.count scratch) eb bytes))
-
--- where it reaches nobody
-pub unheard_none : (t : Transaction) (room : List ℕ) {stop n : ℕ} → stop ≡ 0 → n ≡ t.count
-    → listed (λ i. 0xff) 0 n ++ drop t.count room ≡ unheard_of t stop room
-unheard_none t room es en = rw (es, en) refl
-
-pub unheard_some : (t : Transaction) (room : List ℕ) (stop : ℕ) → (stop ≡ 0 → ⊥) → room ≡ unheard_of t stop room
-unheard_some t room zero h = absurd (h refl)
-unheard_some t room (suc n) h = refl
 
 -- ---- one after the other
 

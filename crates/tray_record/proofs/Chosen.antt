@@ -14,35 +14,17 @@ use Rattle.bus.specs.Ask.{same_bytes, own_of}
 use Rattle.replies.specs.Reply.{selected_of}
 use Rattle.tray_record.specs.declared.Tray.{Tray}
 use Rattle.tray_record.specs.declared.Span.{Span}
-use Rattle.tray_record.specs.declared.Found.{Found}
-use Rattle.tray_record.specs.declared.Found.TheVariants.{At, Nowhere}
-use Rattle.tray_record.specs.Tray.{no_gauge, pack_of, search_from, search_of, matched_of, aimed_by, hearers_of, Reach, reach_by, tray_reach, reach_span}
+use Rattle.std.specs.Prelude.{Option, Some, None}
+use Rattle.tray_record.specs.Tray.{no_gauge, pack_of, search_from, search_of, matched_of, reach_by, tray_reach, reach_span}
 use Rattle.tray_record.specs.Tray.{selecting_of}
 use Rattle.tray_record.proofs.Laws.{Below, matched_below}
-
--- ---- the slots
-
-abbrev Spans : ℕ → Rom → Found → Reach → Type 0
-Spans count r (At i) reach = ◌≡◌ {A = Span} (record { first = i; stop = i + 1 }) (reach_span count reach)
-Spans count r Nowhere reach = ◌≡◌ {A = Span} (record { first = 0; stop = hearers_of r count }) (reach_span count reach)
-
-pub spanned : (count : ℕ) (r : Rom) (matched : Found) {found : Found} → aimed_by r matched ≡ found → Spans count r found (reach_by r matched)
-spanned count r matched e = subst (λ (f : Found). Spans count r f (reach_by r matched)) e (by r matched)
-  where
-    by : (q : Rom) (f : Found) → Spans count q (aimed_by q f) (reach_by q f)
-    by rom.Skip f = refl
-    by rom.Match (At i) = refl
-    by rom.Match Nowhere = refl
-    by rom.Net33 f = refl
-    by rom.Net39 f = refl
-    by rom.Quiet f = refl
 
 -- ---- the pack that a Match finds
 
 module _ (t : Transaction) (master : List ℕ) (τ : Tray) where
-  abbrev pub Selected : Found → Type 0
-  Selected (At i) = selected_of (pack_of τ i).common.address t master ≡ true
-  Selected Nowhere = Unit
+  abbrev pub Selected : Option ℕ → Type 0
+  Selected (Some i) = selected_of (pack_of τ i).common.address t master ≡ true
+  Selected None = Unit
 
   module _ (by-match : t.rom ≡ rom.Match) (long : ltb (length master) 9 ≡ false) where
     match_selects : (address : List ℕ) → selected_of address t master ≡ same_bytes address (take 8 (drop 1 master))
@@ -52,13 +34,13 @@ module _ (t : Transaction) (master : List ℕ) (τ : Tray) where
     search_selects : (i n : ℕ) → Selected (search_from τ.commons no_gauge.common (take 8 (drop 1 master)) i n)
     search_selects i zero = tt
     search_selects i (suc n) =
-        picked Selected (same_bytes (pack_of τ i).common.address (take 8 (drop 1 master))) (At i) _
+        picked Selected (same_bytes (pack_of τ i).common.address (take 8 (drop 1 master))) (Some i) _
         (λ hit. match_selects (pack_of τ i).common.address ∙ hit) (λ miss. search_selects (i + 1) n)
 
   pub matched_selects : t.rom ≡ rom.Match → Selected (matched_of τ.commons τ.count master)
   unfolding matched_of search_of
   matched_selects by-match =
-      picked Selected (ltb (length master) 9) Nowhere _ (λ short. tt) (λ long. search_selects by-match long 0 τ.count)
+      picked Selected (ltb (length master) 9) None _ (λ short. tt) (λ long. search_selects by-match long 0 τ.count)
 
 -- ---- a pack that it reaches
 
@@ -69,10 +51,10 @@ module _ (t : Transaction) (master : List ℕ) (τ : Tray) where
   pub span_inside : span_at.stop ≤ τ.count
   span_inside = by t.rom (matched_of τ.commons τ.count master) (matched_below τ.commons τ.count master)
     where
-      by : (r : Rom) (f : Found) → Below τ.count f → (reach_span τ.count (reach_by r f)).stop ≤ τ.count
+      by : (r : Rom) (f : Option ℕ) → Below τ.count f → (reach_span τ.count (reach_by r f)).stop ≤ τ.count
       by rom.Skip f h = omega arith
-      by rom.Match (At i) h = omega arith
-      by rom.Match Nowhere h = omega arith
+      by rom.Match (Some i) h = omega arith
+      by rom.Match None h = omega arith
       by rom.Net33 f h = omega arith
       by rom.Net39 f h = omega arith
       by rom.Quiet f h = omega arith
@@ -81,14 +63,14 @@ module _ (t : Transaction) (master : List ℕ) (τ : Tray) where
   unfolding selected_of
   reach_selects i = by t.rom (matched_of τ.commons τ.count master) refl refl
     where
-      by : (r : Rom) (f : Found) → t.rom ≡ r → matched_of τ.commons τ.count master ≡ f
+      by : (r : Rom) (f : Option ℕ) → t.rom ≡ r → matched_of τ.commons τ.count master ≡ f
           → (reach_span τ.count (reach_by r f)).first ≤ i → i < (reach_span τ.count (reach_by r f)).stop
           → selected_of (pack_of τ i).common.address t master ≡ selecting_of r
       by rom.Skip f e ef low high = rw e refl
-      by rom.Match (At j) e ef low high =
+      by rom.Match (Some j) e ef low high =
           let same : i ≡ j = omega arith in
           rw same (subst (Selected t master τ) ef (matched_selects t master τ e))
-      by rom.Match Nowhere e ef low high = absurd (omega arith)
+      by rom.Match None e ef low high = absurd (omega arith)
       by rom.Net33 f e ef low high = rw e refl
       by rom.Net39 f e ef low high = rw e refl
       by rom.Quiet f e ef low high = rw e refl

@@ -9,6 +9,7 @@ use borrow.Author.Tests.{eqb-true, leb-true, ltb-true, ltb-false, le-ltb, lt-ltb
 use lib.Dec.{ltb, leb, eqb}
 use lib.ListN.{length, get_or, drop, length-take, length-drop}
 use lib.Seq.{get_or-take, get_or-drop, take-take}
+use Rattle.std.specs.Prelude.{Err, is_some}
 use Rattle.numbers.specs.Choice.{pick, either}
 use Rattle.numbers.proofs.Bounds.{picked}
 use Rattle.slices.specs.Slices.{part, pair_at}
@@ -20,22 +21,23 @@ use Rattle.state.specs.declared.Meter.{Meter}
 use Rattle.record.specs.declared.Kind.{Kind}
 use Rattle.record.specs.declared.Kind.TheVariants as kind
 use Rattle.record.specs.declared.Refusal.TheVariants.{Order, Size}
-use Rattle.record.specs.declared.Taken.{Taken}
-use Rattle.record.specs.declared.Taken.TheVariants.{Refused}
 use Rattle.record.specs.Image.{image_size, image_address}
-use Rattle.record.specs.Record.{sized_of, taken_by, timed_of, fitted_of}
+use Rattle.record.specs.Record.{sized_of, taken_by, timed_of, fitted_of, Taken}
 use Rattle.record.proofs.Fits.{Stateless, transaction_timely, passes}
 use Rattle.runs.specs.Record.{whole_of}
-use Rattle.runs.proofs.Records.{whole_end}
+use Rattle.runs.proofs.Records.{whole_head, whole_end}
 use Rattle.runs.specs.AnyRecord.{taken_read, front_by}
 use Rattle.runs.proofs.AnyRecord.{read_whole, read_cut}
 use Rattle.tray_record.specs.declared.Tray.{Tray}
 use Rattle.tray_record.proofs.Laws.{within}
 use Rattle.runs.specs.declared.Record.{Record}
-use Rattle.tray_record.specs.Tray.{no_gauge, pack_of, search_of, is_found, tray_kind_of, ahead_of, slot_in, accepted_for, tray_asked_by}
+use Rattle.tray_record.specs.Tray.{no_gauge, pack_of, search_of, tray_kind_of, ahead_of, slot_in, accepted_for, tray_asked_by}
 use Rattle.tray_record.specs.Tray.{tray_asked_at, again_of, slot_tick, tray_told, named_slot, image_at, TrayWf}
 
 -- ---- what is asked looks at the address of an image of its size alone, and at the tick of a slot that has a pack
+
+-- a record at the front, whole or cut
+pub ruleset fronts = (whole_head, whole_end, read_whole, read_cut)
 
 module _ (room count : ℕ) (closed : Bool) (p : List ℕ) (again again' : Bool) (last last' : Tick) where
   abbrev asks : Bool → Tick → Kind → Taken
@@ -59,8 +61,8 @@ module _ (room count : ℕ) (closed : Bool) (p : List ℕ) (again again' : Bool)
   sampled true e h = ap (λ (t : Tick). asks again t kind.Sample) (h e)
   sampled false e h = rw e (late (sized_of kind.Sample (length (drop 1 p))))
     where
-      late : (s : Bool) → fitted_of room (timed_of last (pick s (Refused Order) (Refused Size)))
-          ≡ fitted_of room (timed_of last' (pick s (Refused Order) (Refused Size)))
+      late : (s : Bool) → fitted_of room (timed_of last (pick s (Err Order) (Err Size)))
+          ≡ fitted_of room (timed_of last' (pick s (Err Order) (Err Size)))
       late true = refl
       late false = refl
 
@@ -128,7 +130,7 @@ named_slot_lem m l some low =
 module _ (τ : Tray) (w : TrayWf τ) (room : ℕ) (l : List ℕ) where
   -- what the code asks first: whether an accepted pack has the address, where an image of its size is there, and the tick of the slot that it names
   abbrev pub again_at : Bool
-  again_at = pick (image_at l) (is_found (search_of τ.commons τ.count (part 8 l 4))) false
+  again_at = pick (image_at l) (is_some (search_of τ.commons τ.count (part 8 l 4))) false
 
   abbrev pub tick_at : Tick
   tick_at = (pack_of τ (named_slot l)).meter.flow.tick
@@ -171,7 +173,7 @@ module _ (τ : Tray) (w : TrayWf τ) (room : ℕ) (l : List ℕ) where
       go false e = sym (read_cut _ room l e) ∙ read_cut _ room l e
 
   -- as the code reads it
-  pub again_known : image_at l ≡ true → {again : Bool} → again ≡ is_found (search_of τ.commons τ.count (part 8 l 4)) → again ≡ again_at
+  pub again_known : image_at l ≡ true → {again : Bool} → again ≡ is_some (search_of τ.commons τ.count (part 8 l 4)) → again ≡ again_at
   again_known e h = h ∙ rw e refl
 
   pub again_none : image_at l ≡ false → {again : Bool} → again ≡ false → again ≡ again_at

@@ -1,13 +1,15 @@
 -- Laws of trays: packs by slot, and what a record asks.
 use mathlib.Core.Path.{◌≡◌, refl, sym, ap, subst, ◌∙◌}
-use mathlib.Core.Bool.{Bool, true, false}
+use mathlib.Core.Bool.{Bool}
 use mathlib.Core.List.{List, [], ◌∷◌}
 use Prim.Native.Nat.{ℕ, zero, suc, ◌+◌, ◌-◌, ◌≤◌, ◌<◌, zero-le}
 use native.Mathlib.Omega.{arith}
 use borrow.Author.Tests.{le-leb, lt-leb}
-use lib.Dec.{ltb}
+use lib.Dec.{ltb, eqb}
+use lib.Pointwise.{pointwise}
 use lib.Seq.{get_or-set_other}
 use lib.ListN.{length, get_or, set, take, drop, replicate, length-set}
+use Rattle.std.specs.Prelude.{Err}
 use Rattle.state.specs.declared.Tick.{Tick}
 use Rattle.state.specs.State.{MeterWf}
 use Rattle.gauge.specs.declared.Gauge.{Gauge}
@@ -16,19 +18,19 @@ use Rattle.bus.specs.Ask.{same_bytes}
 use Rattle.state.specs.declared.Common.{Common}
 use Rattle.state.specs.declared.Label.{Label}
 use Rattle.state.specs.declared.Meter.{Meter}
+use Rattle.std.proofs.lemmas.List.{take_all}
+use Rattle.std.proofs.lemmas.Slice.Eq.{bytes_eq-Decides, compares_Decides}
+use Rattle.std.proofs.lemmas.Bool.Decides.{same_from_decides}
+use borrow.Author.Rules.{rules}
 use Rattle.numbers.specs.Choice.{pick}
+use Rattle.slices.specs.Slices.{part}
 use Rattle.numbers.proofs.Bounds.{picked}
-use Rattle.bus.specs.declared.Rom.{Rom}
-use Rattle.bus.specs.declared.Rom.TheVariants as rom
 use Rattle.record.specs.declared.Kind.{Kind}
 use Rattle.record.specs.declared.Refusal.TheVariants.{Size}
-use Rattle.record.specs.declared.Taken.{Taken}
-use Rattle.record.specs.declared.Taken.TheVariants.{Refused}
-use Rattle.record.specs.Record.{taken_by, timed_of, fitted_of}
+use Rattle.record.specs.Record.{taken_by, timed_of, fitted_of, Taken}
 use Rattle.tray_record.specs.declared.Tray.{Tray}
-use Rattle.tray_record.specs.declared.Found.{Found}
-use Rattle.tray_record.specs.declared.Found.TheVariants.{At, Nowhere}
-use Rattle.tray_record.specs.Tray.{search_from, search_of, matched_of, aimed_by, no_gauge, empty_tray, pack_of, stored_of, pack_joined}
+use Rattle.std.specs.Prelude.{Option, Some, None}
+use Rattle.tray_record.specs.Tray.{search_from, search_of, matched_of, no_gauge, empty_tray, pack_of, stored_of, pack_joined}
 use Rattle.tray_record.specs.Tray.{TrayWf, tray_kind_of, ahead_of, accepted_for, tray_asked_at}
 
 -- ---- before the first record every place has the same
@@ -117,7 +119,7 @@ stored_other τ i j g h = λ x. record {
 module _ (room n count : ℕ) (closed again : Bool) (last : Tick) (p : List ℕ) {k : Kind} {from : ℕ} (ek : k ≡ tray_kind_of n)
     (ef : from ≡ ahead_of k) where
   -- the slot byte is missing
-  pub asked_short : length p < from → Refused Size ≡ fitted_of room (tray_asked_at count closed again last n p)
+  pub asked_short : length p < from → Err Size ≡ fitted_of room (tray_asked_at count closed again last n p)
   asked_short h = rw (← ek, lt-leb (ahead_of k) (length p) (omega (arith, ef))) refl
 
   -- what the old kind asks of the rest
@@ -131,49 +133,34 @@ module _ (room n count : ℕ) (closed again : Bool) (last : Tick) (p : List ℕ)
 
 -- ---- the search: one slot more
 
-module _ (commons : List Common) (address : List ℕ) (i n : ℕ) (more : i < n) (d : Common) (inside : i < length commons) where
+module _ (commons : List Common) (address : List ℕ) (i n : ℕ) (more : i < n) (d : Common) (inside : i < length commons) {at : ℕ} (is : at ≡ i) where
   abbrev none : Common
   none = no_gauge.common
 
-  unroll : {b : Bool} → same_bytes (get_or commons i d).address address ≡ b
-      → pick b (At i) (search_from commons none address (i + 1) (n - (i + 1))) ≡ search_from commons none address i (n - i)
-  unroll e =
+  pub search_more : {same : Bool} → same ≡ same_bytes (get_or commons at d).address address
+      → pick same (Some i) (search_from commons none address (i + 1) (n - (i + 1))) ≡ search_from commons none address i (n - i)
+  search_more e =
       let m : n - i ≡ suc (n - (i + 1)) = omega arith in
-      rw (m, within commons i none d inside, e) refl
-
-  pub search_skip : same_bytes (get_or commons i d).address address ≡ false
-      → search_from commons none address (i + 1) (n - (i + 1)) ≡ search_from commons none address i (n - i)
-  search_skip e = unroll e
-
-  pub search_hit : same_bytes (get_or commons i d).address address ≡ true → At i ≡ search_from commons none address i (n - i)
-  search_hit e = unroll e
+      rw (m, within commons i none d inside, ← (rw is at e)) refl
 
 -- what is found is one of the slots
 
-abbrev pub Below : ℕ → Found → Type 0
-Below n (At i) = i < n
-Below n Nowhere = Unit
+abbrev pub Below : ℕ → Option ℕ → Type 0
+Below n (Some i) = i < n
+Below n None = Unit
 
 search_below : (commons : List Common) (past : Common) (address : List ℕ) (i n : ℕ) → Below (i + n) (search_from commons past address i n)
 search_below commons past address i zero = tt
 search_below commons past address i (suc n) =
-    picked (Below (i + suc n)) (same_bytes (get_or commons i past).address address) (At i) _ (λ hit. omega arith)
+    picked (Below (i + suc n)) (same_bytes (get_or commons i past).address address) (Some i) _ (λ hit. omega arith)
     (λ miss. let e : i + 1 + n ≡ i + suc n = omega arith in
     subst (λ (m : ℕ). Below m (search_from commons past address (i + 1) n)) e (search_below commons past address (i + 1) n))
 
 pub matched_below : (commons : List Common) (count : ℕ) (master : List ℕ) → Below count (matched_of commons count master)
 unfolding matched_of search_of
 matched_below commons count master =
-    picked (Below count) (ltb (length master) 9) Nowhere _ (λ short. tt)
+    picked (Below count) (ltb (length master) 9) None _ (λ short. tt)
     (λ long. let e : 0 + count ≡ count = omega arith in rw e at (search_below commons no_gauge.common (take 8 (drop 1 master)) 0 count))
 
-pub aimed_below : (said : Rom) (commons : List Common) (count : ℕ) (master : List ℕ) {i : ℕ} →
-    aimed_by said (matched_of commons count master) ≡ At i → i < count
-aimed_below said commons count master e = subst (Below count) e (by said)
-  where
-    by : (r : Rom) → Below count (aimed_by r (matched_of commons count master))
-    by rom.Skip = tt
-    by rom.Match = matched_below commons count master
-    by rom.Net33 = tt
-    by rom.Net39 = tt
-    by rom.Quiet = tt
+pub matched_at : (commons : List Common) (count : ℕ) (master : List ℕ) {i : ℕ} → matched_of commons count master ≡ Some i → i < count
+matched_at commons count master e = subst (Below count) e (matched_below commons count master)

@@ -7,6 +7,7 @@ use native.Mathlib.Omega.{arith}
 use borrow.Author.Tests.{leb-true, leb-false, ltb-true}
 use lib.Dec.{ltb, leb}
 use lib.ListN.{length, drop}
+use Rattle.std.specs.Prelude.{Ok, Err}
 use Rattle.numbers.specs.Choice.{either}
 use Rattle.numbers.proofs.Bounds.{picked}
 use Rattle.state.specs.declared.Tick.{Tick}
@@ -15,10 +16,8 @@ use Rattle.record.specs.declared.Kind.TheVariants as kind
 use Rattle.record.specs.declared.Change.{Change as Changing}
 use Rattle.record.specs.declared.Event.{Event}
 use Rattle.record.specs.declared.Event.TheVariants.{Image, Change, Transact}
-use Rattle.record.specs.declared.Taken.{Taken}
-use Rattle.record.specs.declared.Taken.TheVariants.{Run, Refused}
 use Rattle.state.specs.State.{image_size_of}
-use Rattle.record.specs.Record.{judged_by, taken_by, timed_of, Mastered}
+use Rattle.record.specs.Record.{judged_by, taken_by, timed_of, Mastered, Taken}
 use Rattle.record.proofs.Fits.{Taking, timed_by, kind_sort, Sorted, sorted_by, judged_alone}
 use Rattle.slices.specs.Slices.{pair_at}
 use Rattle.runs.specs.Record.{Rec}
@@ -31,10 +30,10 @@ use Rattle.tray_record.proofs.Fronts.{named_slot_lem}
 
 module _ (count : ℕ) (closed : Bool) (p : List ℕ) where
   abbrev pub TrayTaking : Bool → Taken → Type 0
-  TrayTaking again (Run (Image f)) = (closed ≡ false) × (count < 8) × (length p ≡ image_size_of f) × (again ≡ false) × (judged_by f p ≡ Run (Image f))
-  TrayTaking again (Run (Change c)) = (1 ≤ length p) × (slot_in p < count)
-  TrayTaking again (Run (Transact t)) = (0 < count) × Mastered t p
-  TrayTaking again (Refused r) = Unit
+  TrayTaking again (Ok (Image f)) = (closed ≡ false) × (count < 8) × (length p ≡ image_size_of f) × (again ≡ false) × (judged_by f p ≡ Ok (Image f))
+  TrayTaking again (Ok (Change c)) = (1 ≤ length p) × (slot_in p < count)
+  TrayTaking again (Ok (Transact t)) = (0 < count) × Mastered t p
+  TrayTaking again (Err r) = Unit
 
   image_kind_lem : (k : Kind) → 0 ≡ kind_sort k → (accepted_for count closed k p ≡ either closed (leb 8 count)) × (ahead_of k ≡ 0)
   image_kind_lem (kind.Image f) e = (refl, refl)
@@ -77,16 +76,16 @@ module _ (count : ℕ) (closed : Bool) (p : List ℕ) where
   by_event : (again : Bool) (k : Kind) → ahead_of k ≤ length p → (t : Taken) → Sorted k t →
       Taking again (accepted_for count closed k p) (drop (ahead_of k) p) t
       → TrayTaking again t
-  by_event again k h (Run (Image f)) s x =
+  by_event again k h (Ok (Image f)) s x =
       let e = image_kind_lem k s in
       let o = opening closed (sym e.0 ∙ x.0) in
       let j = judged_alone f again p (rw e.1 at x.1) in
       (o.0, o.1, rw e.1 at x.2, j.0, j.1)
-  by_event again k h (Run (Change c)) s x = slot_kind k s h x
-  by_event again k h (Run (Transact t)) s x =
+  by_event again k h (Ok (Change c)) s x = slot_kind k s h x
+  by_event again k h (Ok (Transact t)) s x =
       let e = transaction_kind k s in
       (ltb-true 0 count (sym e.0 ∙ x.0), rw e.1 at x.1)
-  by_event again k h (Refused r) s x = tt
+  by_event again k h (Err r) s x = tt
 
   asked_taking : (again : Bool) (last : Tick) (k : Kind) → TrayTaking again (tray_asked_by count closed again last k p)
   asked_taking again last k =
@@ -107,7 +106,7 @@ did_same τ room r = refl
 
 -- what is taken has what it asks for
 pub ran_taking : {τ : Tray} {room : ℕ} {l : List ℕ} {used : ℕ} {e : Event} → Ran of_tray τ room l used e
-    → TrayTaking τ.count τ.closed (payload_of used l) (again_of τ (payload_of used l)) (Run e)
+    → TrayTaking τ.count τ.closed (payload_of used l) (again_of τ (payload_of used l)) (Ok e)
 ran_taking {τ} {l = l} {used} x =
     subst (TrayTaking τ.count τ.closed (payload_of used l) (again_of τ (payload_of used l))) x.told (tray_taking τ (pair_at l 2) (payload_of used l))
 

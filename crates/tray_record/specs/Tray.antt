@@ -1,5 +1,6 @@
 -- A tray of one to eight packs on one line: its state, what a record asks of it, and what each event does.
 use Rattle.std.specs.Prelude.{◌≡◌, Bool, true, false, List, ◌++◌, ℕ, zero, suc, ◌+◌, ◌≤◌, ltb, leb, eqb, length, get_or, set, take, drop, replicate}
+use Rattle.std.specs.Prelude.{Err, Option, Some, None, is_some}
 use Rattle.numbers.specs.Choice.{pick, both, either}
 use Rattle.slices.specs.Slices.{pair_at}
 use Rattle.state.specs.declared.Tick.{Tick}
@@ -23,17 +24,13 @@ use Rattle.record.specs.declared.Kind.TheVariants as kind
 use Rattle.record.specs.declared.Refusal.TheVariants as refusal
 use Rattle.record.specs.declared.Event.{Event}
 use Rattle.record.specs.declared.Event.TheVariants.{Image, Change, Transact}
-use Rattle.record.specs.declared.Taken.{Taken}
-use Rattle.record.specs.declared.Taken.TheVariants.{Refused}
 use Rattle.record.specs.Image.{image_size, image_address}
-use Rattle.record.specs.Record.{taken_by, timed_of, master_of}
+use Rattle.record.specs.Record.{taken_by, timed_of, master_of, Taken}
 use Rattle.runs.specs.Record.{Rec}
 use Rattle.runs.specs.Run.{Did, silently}
 use Rattle.runs.specs.AnyRecord.{Steps, record_by}
 use Rattle.tray_record.specs.declared.Tray.{Tray}
 use Rattle.tray_record.specs.declared.Span.{Span}
-use Rattle.tray_record.specs.declared.Found.{Found}
-use Rattle.tray_record.specs.declared.Found.TheVariants.{At, Nowhere}
 use Rattle.tray_record.specs.Wire.{and_bytes}
 
 -- ---- the state: how many packs there are, whether the opening is closed, and each pack by its parts
@@ -86,17 +83,13 @@ pack_joined tray gauge = record {
 -- ---- the search over the tray, which stops at the slot whose address matches
 
 -- over so many slots from i on
-abbrev pub search_from : List Common → Common → List ℕ → ℕ → ℕ → Found
-search_from commons none address i zero = Nowhere
+abbrev pub search_from : List Common → Common → List ℕ → ℕ → ℕ → Option ℕ
+search_from commons none address i zero = None
 search_from commons none address i (suc n) =
-    pick (same_bytes (get_or commons i none).address address) (At i) (search_from commons none address (i + 1) n)
+    pick (same_bytes (get_or commons i none).address address) (Some i) (search_from commons none address (i + 1) n)
 
-unfoldable pub search_of : List Common → ℕ → List ℕ → Found
+unfoldable pub search_of : List Common → ℕ → List ℕ → Option ℕ
 search_of commons count address = search_from commons no_gauge.common address 0 count
-
-abbrev pub is_found : Found → Bool
-is_found (At i) = true
-is_found Nowhere = false
 
 -- ---- what a record asks
 
@@ -141,14 +134,14 @@ accepted_for count closed kind.Unknown p = false
 abbrev pub tray_asked_by : ℕ → Bool → Bool → Tick → Kind → List ℕ → Taken
 tray_asked_by count closed again last which p =
     pick (leb (ahead_of which) (length p)) (timed_of last (taken_by again which (accepted_for count closed which p) (drop (ahead_of which) p)))
-    (Refused refusal.Size)
+    (Err refusal.Size)
 
 abbrev pub tray_asked_at : ℕ → Bool → Bool → Tick → ℕ → List ℕ → Taken
 tray_asked_at count closed again last n p = tray_asked_by count closed again last (tray_kind_of n) p
 
 -- 12: "for a repeated address"
 abbrev pub again_of : Tray → List ℕ → Bool
-again_of tray p = is_found (search_of tray.commons tray.count (image_address p))
+again_of tray p = is_some (search_of tray.commons tray.count (image_address p))
 
 -- each pack has a tick of its own
 abbrev pub slot_tick : Tray → List ℕ → Tick
@@ -160,8 +153,8 @@ tray_told tray n p = tray_asked_at tray.count tray.closed (again_of tray p) (slo
 -- ---- what a transaction does
 
 -- the address is the 8 bytes after the first
-unfoldable pub matched_of : List Common → ℕ → List ℕ → Found
-matched_of commons count master = pick (ltb (length master) 9) Nowhere (search_of commons count (take 8 (drop 1 master)))
+unfoldable pub matched_of : List Common → ℕ → List ℕ → Option ℕ
+matched_of commons count master = pick (ltb (length master) 9) None (search_of commons count (take 8 (drop 1 master)))
 
 -- whom a transaction reaches: the pack in a slot alone, every pack, or nobody
 pub data Reach : Type 0 where
@@ -170,12 +163,12 @@ pub data Reach : Type 0 where
   nobody : Reach
 
 -- whom a Match reaches: "For Match, the search over the tray stops at the slot whose address matches"; where no pack has the address, nobody
-abbrev pub reach_found : Found → Reach
-reach_found (At i) = one i
-reach_found Nowhere = nobody
+abbrev pub reach_found : Option ℕ → Reach
+reach_found (Some i) = one i
+reach_found None = nobody
 
 -- CCh, 33h and 39h go to every pack, any other first byte and none to nobody
-abbrev pub reach_by : Rom → Found → Reach
+abbrev pub reach_by : Rom → Option ℕ → Reach
 reach_by rom.Skip found = every
 reach_by rom.Match found = reach_found found
 reach_by rom.Net33 found = every
@@ -238,21 +231,6 @@ named_slot l = pick (ltb 4 (length l)) (pick (ltb (get_or l 4 0) 8) (get_or l 4 
 unfoldable pub image_at : List ℕ → Bool
 image_at l = pick (ltb (length l) (4 + image_size)) false (either (eqb (pair_at l 2) 1) (eqb (pair_at l 2) 8))
 
--- the slot that a transaction goes to alone, and how many of the packs hear it else
-abbrev pub aimed_by : Rom → Found → Found
-aimed_by rom.Skip found = Nowhere
-aimed_by rom.Match found = found
-aimed_by rom.Net33 found = Nowhere
-aimed_by rom.Net39 found = Nowhere
-aimed_by rom.Quiet found = Nowhere
-
-abbrev pub hearers_of : Rom → ℕ → ℕ
-hearers_of rom.Skip count = count
-hearers_of rom.Match count = 0
-hearers_of rom.Net33 count = count
-hearers_of rom.Net39 count = count
-hearers_of rom.Quiet count = 0
-
 -- ---- a transaction, as the code carries it out: slot by slot
 
 -- the slots that it reaches
@@ -297,7 +275,7 @@ module _ (t : Transaction) where
   unheard_of zero room = line_high t ++ drop t.count room
   unheard_of (suc n) room = room
 
--- ---- what holds of every tray: eight places, of which the first are packs, each well-formed
+-- ---- what holds of every tray: eight places, of which the first are packs, each well-formed (a clause, as ChargeWf)
 
 pub record TrayWf (τ : Tray) : Type 0 where
   pub few : τ.count ≤ 8

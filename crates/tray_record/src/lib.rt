@@ -1,22 +1,23 @@
 // One record of a tray, read; the search over its packs; and what a transaction does with those that it reaches.
 #![tactic(auto)]
 
-ghost use Rattle.std.specs.Prelude.{◌≡◌, true, ◌≤◌, ◌<◌, length};
+ghost use Rattle.std.specs.Prelude.{◌≡◌, true, ◌≤◌, ◌<◌, is_some, length};
 ghost use Rattle.state.specs.State.{MeterWf};
 ghost use Rattle.record.specs.Record.{fitted_of};
 ghost use Rattle.runs.specs.AnyRecord.{front_by};
 ghost use Rattle.tray_record.specs.Wire.{and_bytes};
-ghost use Rattle.tray_record.specs.Tray.{empty_tray, TrayWf, search_of, tray_kind_of, ahead_of, accepted_for, tray_asked_at, is_found, matched_of, aimed_by};
-ghost use Rattle.tray_record.specs.Tray.{hearers_of, reach_by, tray_reach, tray_acted, named_slot, image_at};
+ghost use Rattle.tray_record.specs.Tray.{empty_tray, TrayWf, search_of, tray_kind_of, ahead_of, accepted_for, tray_asked_at, matched_of};
+ghost use Rattle.tray_record.specs.Tray.{reach_by, tray_reach, tray_acted, named_slot, image_at};
 ghost use Rattle.tray_record.specs.Tray.{reach_span, selecting_of, changing_of, answer_of, line_high, on_line, beside_line, unheard_of};
 
 use bus::{Rom, Transaction};
 use gauge::Gauge;
-use record::{Form, IMAGE_SIZE, Kind, Refusal, Taken};
+use record::{Event, Form, IMAGE_SIZE, Kind, Refusal};
 use runs::Record;
 use state::{Common, Label, Meter, Profile, Tick};
 
-// The packs on one line, each by its parts; how many there are; and whether the opening is closed.
+// The packs on one line, each by its parts; how many there are; and whether the opening is closed. (The parts stand in three arrays, since an event
+// takes out and stores back the one that it changes: with whole gauges in one array a conversion took a fifth more.)
 #[derive(Clone, Copy)]
 pub struct Tray {
     pub count: u8,
@@ -26,14 +27,7 @@ pub struct Tray {
     pub meters: [Meter; 8],
 }
 
-// A slot whose pack has an address, or none.
-#[derive(Clone, Copy)]
-pub enum Found {
-    At(u8),
-    Nowhere,
-}
-
-// The slots that a transaction reaches, one after the other: from the first on, before the stop.
+// The slots that a transaction reaches, one after the other: from the first on, before the stop. (No range of std: callers and laws read the fields.)
 #[derive(Clone, Copy)]
 pub struct Span {
     pub first: u8,
@@ -47,45 +41,38 @@ pub fn empty() -> Tray
 {
     let zeros = [0u8; IMAGE_SIZE];
     let gauge = gauge::image_in(Profile::Ds2781, &zeros);
-    let common = gauge.common;
-    let label = gauge.label;
-    let meter = gauge.meter;
     Tray {
         count: 0,
         closed: false,
-        commons: [common; 8],
-        labels: [label; 8],
-        meters: [meter; 8],
+        commons: [gauge.common; 8],
+        labels: [gauge.label; 8],
+        meters: [gauge.meter; 8],
     }
 }
 
 // ---- what a record asks
 
 // The slot that the record at the front names, where a tray can have it.
+#[tactic(auto, using(crate::proofs::Laws::within), unfolding(crate::specs::Tray::named_slot))]
 pub fn slot(rest: &[u8]) -> usize
     ensures value { result ≡ named_slot rest.now }
     ensures small { result < 8 }
 {
-    if 4 < rest.len() {
-        let s = slices::wide(rest[4]);
-        if s < 8 {
-            return s;
-        }
+    match rest.get(4) {
+        Some(slot) if *slot < 8 => usize::from(*slot),
+        _ => 0,
     }
-    0
 }
 
 // Whether the record at the front is an image, long enough for its address.
+#[tactic(auto, unfolding(crate::specs::Tray::image_at))]
 pub fn image_at(rest: &[u8]) -> bool
     ensures { result ≡ image_at rest.now }
 {
-    if rest.len() < 4 + IMAGE_SIZE {
-        return false;
-    }
-    let kind = slices::pair(rest, 2);
-    numbers::or(kind == 1, kind == 8)
+    4 + IMAGE_SIZE <= rest.len() && matches!(slices::pair(rest, 2), 1 | 8)
 }
 
+#[tactic(auto, unfolding(crate::specs::Tray::tray_kind_of))]
 fn kind_of(n: u16) -> Kind
     ensures { result ≡ tray_kind_of n }
 {
@@ -108,28 +95,23 @@ fn ahead(kind: Kind) -> usize
     ensures small { result ≤ 1 }
 {
     match kind {
-        Kind::Image(_) => 0,
-        Kind::Reading => 1,
-        Kind::Conversion => 1,
-        Kind::Transaction(_) => 0,
-        Kind::PowerOn => 1,
-        Kind::Sample => 1,
-        Kind::Unknown => 0,
+        Kind::Reading | Kind::Conversion | Kind::PowerOn | Kind::Sample => 1,
+        Kind::Image(_) | Kind::Transaction(_) | Kind::Unknown => 0,
     }
 }
 
-// What stands for an accepted image in a plain session.
+// What stands for an accepted image in a plain session. (One arm for the four alike would cost a conversion of a tray 10 instructions.)
 fn accepted(kind: Kind, count: u8, closed: bool, payload: &[u8]) -> bool
     requires { ahead_of kind ≤ length payload.now }
     ensures { result ≡ accepted_for count closed kind payload.now }
 {
     match kind {
-        Kind::Image(_) => numbers::or(closed, 8 <= count),
+        Kind::Image(_) => closed || 8 <= count,
         Kind::Reading => payload[0] < count,
         Kind::Conversion => payload[0] < count,
-        Kind::Transaction(_) => 0 < count,
         Kind::PowerOn => payload[0] < count,
         Kind::Sample => payload[0] < count,
+        Kind::Transaction(_) => 0 < count,
         Kind::Unknown => false,
     }
 }
@@ -142,13 +124,13 @@ fn asked(
     last: Tick,
     room: usize,
     payload: &[u8],
-) -> Taken
+) -> Result<Event, Refusal>
     ensures { result ≡ fitted_of room (tray_asked_at count closed again last kind payload.now) }
 {
     let decoded = kind_of(kind);
     let from = ahead(decoded);
     if payload.len() < from {
-        return Taken::Refused(Refusal::Size);
+        return Err(Refusal::Size);
     }
     let loaded = accepted(decoded, count, closed, payload);
     record::fitted_by(decoded, again, loaded, last, room, &payload[from..])
@@ -156,6 +138,7 @@ fn asked(
 
 // The record at the front of the rest, by whether an accepted pack has an image's address, by the tick of the slot's pack, and with so many bytes of
 // reply room left.
+#[tactic(auto, using(crate::proofs::Fronts::fronts))]
 pub fn front(rest: &[u8], count: u8, closed: bool, again: bool, last: Tick, room: usize) -> Record
     ensures { result ≡ front_by (tray_asked_at count closed again last) room rest.now }
 {
@@ -176,27 +159,23 @@ fn sized(address: [u8; 8])
     ensures { length address ≡ 8 }
 {}
 
-// The slot whose pack has the address in the eight bytes.
-fn search(commons: [Common; 8], count: u8, address: &[u8]) -> Found
+// The slot whose pack has the address in the eight bytes: the slots and the bytes are gone over by loops of their own, as document 01 has it.
+#[tactic(auto, unfolding(crate::specs::Tray::search_of))]
+fn search(commons: [Common; 8], count: u8, address: &[u8]) -> Option<u8>
     requires { (count ≤ 8) × (length address.now ≡ 8) }
     ensures { result ≡ search_of commons count address.now }
 {
-    let n = slices::wide(count);
-    let mut found = Found::Nowhere;
-    let mut i = 0;
-    'slots: while i < n {
-        let common = commons[i];
-        let own = common.address;
+    let mut found = None;
+    'slots: for slot in 0..count {
+        let own = commons[usize::from(slot)].address;
         sized(own);
-        let mut j = 0;
-        while own[j] == address[j] {
-            j += 1;
-            if j == 8 {
-                found = Found::At(i as u8);
-                break 'slots;
+        for j in 0..8 {
+            if own[j] != address[j] {
+                continue 'slots;
             }
         }
-        i += 1;
+        found = Some(slot);
+        break;
     }
     found
 }
@@ -204,86 +183,55 @@ fn search(commons: [Common; 8], count: u8, address: &[u8]) -> Found
 // Whether an accepted pack has the address in the eight bytes.
 pub fn known(commons: [Common; 8], count: u8, address: &[u8]) -> bool
     requires { (count ≤ 8) × (length address.now ≡ 8) }
-    ensures { result ≡ is_found (search_of commons count address.now) }
+    ensures { result ≡ is_some (search_of commons count address.now) }
 {
-    match search(commons, count, address) {
-        Found::At(_) => true,
-        Found::Nowhere => false,
-    }
+    search(commons, count, address).is_some()
 }
 
 // The slot whose pack a Match selects.
-fn matched(commons: [Common; 8], count: u8, master: &[u8]) -> Found
+#[tactic(auto, unfolding(crate::specs::Tray::matched_of))]
+fn matched(commons: [Common; 8], count: u8, master: &[u8]) -> Option<u8>
     requires { count ≤ 8 }
     ensures { result ≡ matched_of commons count master.now }
 {
-    if master.len() < 9 {
-        return Found::Nowhere;
-    }
-    search(commons, count, &master[1..9])
+    search(commons, count, master.get(1..9)?)
 }
 
 // ---- replies on one line
 
 // Another reply on the same line.
+#[tactic(auto, using(crate::proofs::Anded::and_end))]
 pub fn wire(reply: &[u8], room: &mut [u8])
     requires { length reply.now ≤ length room.old }
     ensures { room.new ≡ and_bytes room.old reply.now }
 {
-    let mut i = 0;
-    while i < reply.len() {
-        room[i] = room[i] & reply[i];
-        i += 1;
+    for i in 0..reply.len() {
+        room[i] &= reply[i];
     }
 }
 
 // ---- whom a transaction reaches
 
-// The slot that a transaction goes to alone, where a Match finds one.
-fn aimed(rom: Rom, commons: [Common; 8], count: u8, master: &[u8]) -> Found
-    requires { count ≤ 8 }
-    ensures { result ≡ aimed_by rom (matched_of commons count master.now) }
-{
-    match rom {
-        Rom::Match => matched(commons, count, master),
-        Rom::Net33 => Found::Nowhere,
-        Rom::Net39 => Found::Nowhere,
-        Rom::Skip => Found::Nowhere,
-        Rom::Quiet => Found::Nowhere,
-    }
-}
-
-// How many of the packs hear it else: all, or nobody.
-fn hearers(rom: Rom, count: u8) -> u8
-    ensures value { result ≡ hearers_of rom count }
-    ensures few { result ≤ count }
-{
-    match rom {
-        Rom::Match => 0,
-        Rom::Net33 => count,
-        Rom::Net39 => count,
-        Rom::Skip => count,
-        Rom::Quiet => 0,
-    }
-}
-
-// The slots of the packs that hear it.
+// The slots of the packs that hear it: the one that a Match finds, else all of them or none.
+#[tactic(auto, using(crate::proofs::Laws::matched_at))]
 pub fn reached(transaction: Transaction, commons: [Common; 8], count: u8, master: &[u8]) -> Span
     requires { count ≤ 8 }
     ensures value { result ≡ reach_span count (reach_by transaction.rom (matched_of commons count master.now)) }
     ensures inside { (result.first ≤ result.stop) × (result.stop ≤ count) }
 {
-    let rom = transaction.rom;
-    let found = aimed(rom, commons, count, master);
-    match found {
-        Found::At(i) => Span {
-            first: i,
-            stop: i + 1,
+    match transaction.rom {
+        Rom::Match => match matched(commons, count, master) {
+            Some(slot) => Span {
+                first: slot,
+                stop: slot + 1,
+            },
+            None => Span { first: 0, stop: 0 },
         },
-        Found::Nowhere => Span {
+        Rom::Net33 | Rom::Net39 | Rom::Skip => Span {
             first: 0,
-            stop: hearers(rom, count),
+            stop: count,
         },
+        Rom::Quiet => Span { first: 0, stop: 0 },
     }
 }
 
@@ -291,13 +239,7 @@ pub fn reached(transaction: Transaction, commons: [Common; 8], count: u8, master
 pub fn selecting(rom: Rom) -> bool
     ensures { result ≡ selecting_of rom }
 {
-    match rom {
-        Rom::Match => true,
-        Rom::Net33 => false,
-        Rom::Net39 => false,
-        Rom::Skip => true,
-        Rom::Quiet => false,
-    }
+    matches!(rom, Rom::Match | Rom::Skip)
 }
 
 // ---- what those do that it reaches
@@ -306,39 +248,28 @@ pub fn selecting(rom: Rom) -> bool
 pub fn changing(transaction: Transaction) -> bool
     ensures { result ≡ changing_of transaction }
 {
-    let rom = transaction.rom;
-    let command = transaction.command;
-    numbers::and(selecting(rom), gauge::can_change(command))
+    selecting(transaction.rom) && gauge::can_change(transaction.command)
 }
 
 // Each changes by itself, and no other.
+#[tactic(auto, using(crate::proofs::Laws::pack_wf, crate::proofs::Acting::changing_start))]
 pub fn changed(mut tray: Tray, transaction: Transaction, master: &[u8]) -> Tray
     requires tray_wf { TrayWf tray }
     requires transaction_value { changing_of transaction ≡ true }
     ensures value { result ≡ tray_acted transaction master.now (tray_reach tray transaction master.now) tray }
     ensures kept { TrayWf result }
 {
-    let commons = tray.commons;
-    let span = reached(transaction, commons, tray.count, master);
-    let stop = slices::wide(span.stop);
-    let mut i = slices::wide(span.first);
-    while i < stop {
-        let old_common = tray.commons[i];
-        let old_label = tray.labels[i];
-        let old_meter = tray.meters[i];
+    let span = reached(transaction, tray.commons, tray.count, master);
+    for i in usize::from(span.first)..usize::from(span.stop) {
         let gauge = Gauge {
-            common: old_common,
-            label: old_label,
-            meter: old_meter,
+            common: tray.commons[i],
+            label: tray.labels[i],
+            meter: tray.meters[i],
         };
         let after = gauge.ran(transaction, master);
-        let common = after.common;
-        let label = after.label;
-        let meter = after.meter;
-        tray.commons[i] = common;
-        tray.labels[i] = label;
-        tray.meters[i] = meter;
-        i += 1;
+        tray.commons[i] = after.common;
+        tray.labels[i] = after.label;
+        tray.meters[i] = after.meter;
     }
     tray
 }
@@ -360,8 +291,7 @@ pub fn heard(
     ensures aside { scratch.new ≡ beside_line transaction first (answer_of transaction common label meter) scratch.old }
     ensures bytes { and_bytes (line_high transaction) (answer_of transaction common label meter) ≡ answer_of transaction common label meter }
 {
-    let rom = transaction.rom;
-    let chosen = selecting(rom);
+    let chosen = selecting(transaction.rom);
     if first {
         replies::replied(common, label, meter, transaction, chosen, room);
     } else {

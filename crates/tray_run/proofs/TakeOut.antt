@@ -1,19 +1,17 @@
 -- The refusals of an image out of a slot, in the numbers of the paper: 5 for a slot without an
 -- image, else 9 for a room under 60, or under 61; nothing is written.
-use mathlib.Core.Path.{◌≡◌, refl, ap, ◌∙◌}
-use mathlib.Core.Bool.{Bool, true, false}
+use mathlib.Core.Path.{◌≡◌, refl, ap}
+use mathlib.Core.Bool.{true, false}
 use mathlib.Core.List.{List, [], ◌∷◌}
 use Prim.Native.Nat.{ℕ, zero, suc, ◌≤◌, ◌<◌}
 use native.Mathlib.Omega.{arith}
 use borrow.Author.Tests.{lt-leb, ltb-true}
-use lib.Dec.{ltb, leb}
+use lib.Dec.{ltb}
 use lib.ListN.{length, get_or}
-use Rattle.numbers.specs.Choice.{pick}
 use Rattle.numbers.proofs.Bounds.{both_true}
 use Rattle.state.specs.State.{image_size_of, powered_of}
 use Rattle.state.specs.declared.Meter.{Meter}
-use Rattle.gauge.specs.declared.Gauge.{Gauge}
-use Rattle.gauge.specs.Image.{image_of, size_for, room_after, ImageOut}
+use Rattle.gauge.specs.Image.{image_of, size_for}
 use Rattle.tray_record.specs.Tray.{no_gauge, pack_of}
 use Rattle.tray_record.specs.declared.Tray.{Tray}
 use Rattle.tray_run.specs.TrayRun.{slot_held, SlotOut}
@@ -30,15 +28,6 @@ beyond τ i h = ap (λ (m : Meter). image_size_of m.cells.profile) (past τ.mete
 
 pub below : (τ : Tray) (i : ℕ) → slot_held τ i ≡ true → i < 8
 below τ i e = ltb-true i 8 (both_true (ltb i 8) (ltb i τ.count) e).0
-
--- what the pack in the slot leaves in the room
-pub slot_out_lem : (τ : Tray) (i : ℕ) {g : Gauge} {room after : List ℕ} {answer : ℕ} {done : Bool} → slot_held τ i ≡ true → g ≡ pack_of τ i →
-    ImageOut g room done after
-    → answer ≡ pick done 0 9 → SlotOut τ i room answer after
-slot_out_lem τ i {g} {room} {after} h e o n = record {
-  number = n ∙ ap (λ (b : Bool). pick b 0 9) o.fits ∙ ap (λ (k : Gauge). pick (leb (size_for k) (length room)) 0 9) e ∙ rw h refl;
-  written = o.written ∙ ap (λ (k : Gauge). room_after (leb (size_for k) (length room)) k room) e ∙ rw h refl;
-}
 
 module _ {τ : Tray} {i : ℕ} {room after : List ℕ} {answer : ℕ} (t : SlotOut τ i room answer after) where
   pub empty_says_5 : slot_held τ i ≡ false → (answer ≡ 5) × (after ≡ room)

@@ -5,6 +5,7 @@ use mathlib.Core.List.{List, ◌++◌}
 use Prim.Native.Nat.{ℕ, ◌+◌, ◌-◌, ◌≤◌, ◌<◌}
 use native.Mathlib.Omega.{arith}
 use lib.ListN.{length, get_or, set, take, drop, length-set}
+use Rattle.std.specs.Prelude.{None}
 use Rattle.slices.specs.Slices.{part}
 use Rattle.bus.specs.declared.Transaction.{Transaction}
 use Rattle.state.specs.declared.Label.{Label}
@@ -23,11 +24,8 @@ use Rattle.record.specs.declared.Change.{Change as Changes}
 use Rattle.record.specs.declared.Change.TheVariants.{Reading, Conversion, Sample, PowerOn}
 use Rattle.record.specs.declared.Event.TheVariants.{Image, Change, Transact}
 use Rattle.record.specs.Record.{master_of}
-use Rattle.runs.specs.Run.{silently, code_of}
-use Rattle.runs.specs.declared.Asked.TheVariants as asked
+use Rattle.runs.specs.Run.{Fits, silently, code_of}
 use Rattle.runs.specs.declared.Record.{Record}
-use Rattle.runs.proofs.Lines.{Fits}
-use Rattle.runs.proofs.AnyRecord.{record_fits}
 use Rattle.runs.proofs.Fronts.{payload_of, Ran, Front}
 use Rattle.runs.proofs.Turns as every
 use Rattle.runs.proofs.Turns.{master_part}
@@ -35,6 +33,7 @@ use Rattle.tray_record.specs.declared.Tray.{Tray}
 use Rattle.tray_record.specs.declared.Span.{Span}
 use Rattle.tray_record.specs.Tray.{no_gauge, pack_of, stored_of, closed_of, pack_joined, slot_in, named_slot}
 use Rattle.tray_record.specs.Tray.{tray_reach, tray_acted, tray_reply, reach_span, changing_of, unheard_of, of_tray, tray_did, TrayWf}
+use Rattle.tray_run.specs.Laws.{tray_laws}
 use Rattle.tray_record.proofs.Laws.{within, set_itself, set_each}
 use Rattle.tray_record.proofs.Hearing.{tray_replying}
 use Rattle.tray_record.proofs.Acting.{reach_idle}
@@ -42,8 +41,7 @@ use Rattle.tray_record.proofs.Answering.{Answering, answering_end, changing_high
 use Rattle.tray_record.proofs.Taking.{did_same, slot_inside, slot_named_lem}
 
 pub did_fits : Fits tray_did
-unfolding tray_did
-did_fits = record { answer = (record_fits of_tray tray_replying).answer; reply = (record_fits of_tray tray_replying).reply }
+did_fits = tray_laws.fits
 
 abbrev pub Turn : Tray → List ℕ → ℕ → List ℕ → Tray → List ℕ → ℕ → ℕ → Type 0
 Turn = every.Turn of_tray tray_did did_same TrayWf
@@ -168,7 +166,7 @@ module _ {τ : Tray} {room : List ℕ} {used : ℕ} {t : Transaction} {master : 
 
 module _ {τ : Tray} {room : List ℕ} {used : ℕ} {l : List ℕ} {r : Record} {σ : Tray} {after : List ℕ} {next line : ℕ}
     (f : Front of_tray τ (length room - used) l r) (w : TrayWf τ) where
-  pub turn_idle : r.event ≡ asked.Nothing → σ ≡ τ → after ≡ room → next ≡ used → line ≡ code_of r.kind r.answer 0 →
+  pub turn_idle : r.event ≡ None → σ ≡ τ → after ≡ room → next ≡ used → line ≡ code_of r.kind r.answer 0 →
       Turn τ room used l σ after next line
   turn_idle a e = every.turn_idle of_tray tray_did did_same TrayWf f (subst TrayWf (sym e) w) a e
 

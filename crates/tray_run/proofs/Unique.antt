@@ -1,14 +1,15 @@
 -- The contracts of this crate's public functions leave no choice.
-use mathlib.Core.Path.{refl, sym, ap, ◌∙◌}
+use mathlib.Core.Path.{refl, sym, ◌∙◌}
 use lib.ListN.{length}
 use Rattle.numbers.specs.Once.{Once}
 use Rattle.runs.specs.declared.Outcome.TheVariants.{Done}
-use Rattle.runs.specs.Run.{Result, outcome_of}
-use Rattle.runs.proofs.Ends.{runs_same}
-use Rattle.tray_record.specs.declared.Tray.{Tray}
+use Rattle.runs.specs.Run.{outcome_of, result_of}
+use Rattle.runs.proofs.Ends.{ran_same, runs_same}
 use Rattle.tray_record.specs.Tray.{empty_tray, tray_did}
-use Rattle.tray_run.specs.declared.Ran.{Ran}
-use Rattle.tray_run.specs.TrayRun.{tray_result_of}
+use Rattle.tray_run.proofs.TrayRunnerRunner.start
+use Rattle.tray_run.specs.contracts.TrayRunnerRunner.start as start'
+use Rattle.tray_run.proofs.TrayRunnerRunner.run_on as runner_run_on
+use Rattle.tray_run.specs.contracts.TrayRunnerRunner.run_on as runner_run_on'
 use Rattle.tray_run.proofs.run
 use Rattle.tray_run.specs.contracts.run as run'
 use Rattle.tray_run.proofs.run_on
@@ -20,35 +21,40 @@ use Rattle.tray_run.specs.contracts.take_out as take_out'
 use Rattle.tray_run.proofs.image_size
 use Rattle.tray_run.specs.contracts.image_size as image_size'
 
-ran_of_lem : Result Tray → Ran
-ran_of_lem r = record { tray = r.state; ended = record { outcome = r.outcome; lines = r.lines; replied = r.replied } }
-
 pub run_once : Once run'.ended run.Reads.Pre run.Reads.Learnt
-unfolding ran_of_lem
 run_once κs a r r' w w' p h h' =
     let o = outcome_of (length a.0.now) in
     let e =
-    runs_same tray_did empty_tray a.0.now a.1.0.now a.1.1.0.now (tray_result_of r) (tray_result_of r') w.1.0 w'.1.0 w.1.1.0
+    runs_same tray_did empty_tray a.0.now a.1.0.now a.1.1.0.now (result_of r) (result_of r') w.1.0 w'.1.0 w.1.1.0
     w'.1.1.0 o h h' in
-    (ap ran_of_lem e.0, λ i. (tt, (e.1 i, (e.2 i, tt))))
+    (ran_same _ _ e.0, λ i. (tt, (e.1 i, (e.2 i, tt))))
 
 pub run_on_once : Once run_on'.ended run_on.Reads.Pre run_on.Reads.Learnt
-unfolding ran_of_lem
 run_on_once κs a r r' w w' p h h' =
     let e =
-    runs_same tray_did a.0 a.1.0.now a.1.1.0.now a.1.1.1.0.now (tray_result_of r) (tray_result_of r') w.1.1.0 w'.1.1.0
+    runs_same tray_did a.0 a.1.0.now a.1.1.0.now a.1.1.1.0.now (result_of r) (result_of r') w.1.1.0 w'.1.1.0
     w.1.1.1.0 w'.1.1.1.0 Done h.0 h'.0 in
-    (ap ran_of_lem e.0, λ i. (tt, (tt, (e.1 i, (e.2 i, tt)))))
+    (ran_same _ _ e.0, λ i. (tt, (tt, (e.1 i, (e.2 i, tt)))))
+
+pub start_once : Once start'.ended start.Reads.Pre start.Reads.Learnt
+start_once κs a r r' w w' p h h' = (h.0 ∙ sym h'.0, refl)
+
+pub runner_run_on_once : Once runner_run_on'.ended runner_run_on.Reads.Pre runner_run_on.Reads.Learnt
+runner_run_on_once κs a r r' w w' p h h' =
+    let e =
+    runs_same tray_did a.0 a.1.0.now a.1.1.0.now a.1.1.1.0.now (result_of r) (result_of r') w.1.1.0 w'.1.1.0
+    w.1.1.1.0 w'.1.1.1.0 Done h.0 h'.0 in
+    (ran_same _ _ e.0, λ i. (tt, (tt, (e.1 i, (e.2 i, tt)))))
 
 pub step_once : Once step'.ended step.Reads.Pre step.Reads.Learnt
 step_once κs a r r' w w' p h h' =
     let state = h.0.state ∙ sym h'.0.state in
     let answer = h.0.answered ∙ sym h'.0.answered in
     let replied = h.0.counted ∙ sym h'.0.counted in
-    ((λ i. record { tray = state i; answer = answer i; replied = replied i }), λ i. (tt, (tt, ((h.0.written ∙ sym h'.0.written) i, tt))))
+    ((λ i. record { state = state i; answer = answer i; replied = replied i }), λ i. (tt, (tt, ((h.0.written ∙ sym h'.0.written) i, tt))))
 
 pub take_out_once : Once take_out'.ended take_out.Reads.Pre take_out.Reads.Learnt
-take_out_once κs a r r' w w' p h h' = (h.number ∙ sym h'.number, λ i. (tt, (tt, ((h.written ∙ sym h'.written) i, tt))))
+take_out_once κs a r r' w w' p h h' = (h.0 ∙ sym h'.0, λ i. (tt, (tt, ((h.1.written ∙ sym h'.1.written) i, tt))))
 
 pub image_size_once : Once image_size'.ended image_size.Reads.Pre image_size.Reads.Learnt
 image_size_once κs a r r' w w' p h h' = (h ∙ sym h', refl)

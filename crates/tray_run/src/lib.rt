@@ -1,27 +1,22 @@
 // Tray sessions: records in, an answer each, replies into one lent room; and the image taken out of a slot.
 #![tactic(auto)]
 
-ghost use Rattle.std.specs.Prelude.{◌≡◌, ◌+◌, ◌/◌, ◌≤◌, ◌<◌, length};
+ghost use Rattle.std.specs.Prelude.{◌≡◌, ◌≤◌, ◌<◌, length};
 ghost use Rattle.runs.specs.Record.{recs_of};
-ghost use Rattle.runs.specs.Run.{Running, Runs};
+ghost use Rattle.runs.specs.Run.{Running, Runs, result_of};
 ghost use Rattle.runs.specs.Step.{StepDone};
+ghost use Rattle.runs.specs.Out.{number_in};
 ghost use Rattle.state.specs.State.{image_size_of};
 ghost use Rattle.gauge.specs.Image.{image_of, size_for};
 ghost use Rattle.tray_record.specs.Tray.{TrayWf, empty_tray, pack_of, pack_joined, tray_did};
-ghost use Rattle.tray_run.specs.TrayRun.{tray_result_of, tray_idle_of, SlotOut};
+ghost use Rattle.tray_run.specs.TrayRun.{slot_out_of, SlotOut};
+ghost use Rattle.tray_run.specs.Laws.{tray_laws};
 
 use gauge::Gauge;
-use record::{Change, Event, Refusal, Taken};
-use runs::{Asked, Ended, Outcome};
+use record::{Change, Event, Refusal};
+use runs::{Ended, Outcome, Ran, RecordStep, Runner};
 use state::{Common, Label, Meter, Profile, Tick};
 use tray_record::Tray;
-
-// What a tray session did: the state at its end, and how it ended.
-#[derive(Clone, Copy)]
-pub struct Ran {
-    pub tray: Tray,
-    pub ended: Ended,
-}
 
 // A tray with the pack of an image more.
 fn pack_joined(before: Tray, profile: Profile, image: &[u8]) -> Tray
@@ -30,34 +25,33 @@ fn pack_joined(before: Tray, profile: Profile, image: &[u8]) -> Tray
     ensures kept { TrayWf result }
 {
     let mut tray = before;
-    let n = slices::wide(tray.count);
+    let n = usize::from(tray.count);
     let gauge = gauge::image_in(profile, image);
-    let common = gauge.common;
-    let label = gauge.label;
-    let meter = gauge.meter;
-    tray.commons[n] = common;
-    tray.labels[n] = label;
-    tray.meters[n] = meter;
-    tray.count = tray.count + 1;
+    tray.commons[n] = gauge.common;
+    tray.labels[n] = gauge.label;
+    tray.meters[n] = gauge.meter;
+    tray.count += 1;
     tray
 }
 
 // Records, run from any tray. The match on the event stands in the loop itself, where a slot's parts are taken out and stored back, so that no tray goes
 // through a result but that of an image or of a transaction that changes packs, which is answered with FFh; the packs that any other reaches answer in a
-// loop in it, one after the other. A record that is cut ends the loop, and is answered behind it.
-pub fn run_on(start: Tray, bytes: &[u8], room: &mut [u8], answers: &mut [u64]) -> Ran
+// loop in it, one after the other. A loop in `runs` over a step of the state would copy a whole tray for each record. A record that is cut ends the loop,
+// and is answered behind it.
+pub fn run_on(start: Tray, bytes: &[u8], room: &mut [u8], answers: &mut [u64]) -> Ran<Tray>
     requires tray_wf { TrayWf start }
     requires bytes_len_bound { length bytes.now ≤ 131072 }
     requires bytes_in_bounds { length (recs_of bytes.now) ≤ length answers.old }
-    ensures running { Running tray_did start bytes.now room.old answers.old (tray_result_of result) room.new
+    ensures running { Running tray_did start bytes.now room.old answers.old (result_of result) room.new
         answers.new }
-    ensures kept { TrayWf result.tray }
+    ensures kept { TrayWf result.state }
 {
     let mut tray = start;
     let mut at = 0;
     let mut used = 0;
     let mut lines = 0;
     let mut scratch = [0u8; 256];
+    // no loop over elements: each record says where the next one starts
     while runs::whole(&bytes[at..]) {
         let rest = &bytes[at..];
         let slot = tray_record::slot(rest);
@@ -80,11 +74,10 @@ pub fn run_on(start: Tray, bytes: &[u8], room: &mut [u8], answers: &mut [u64]) -
         );
         let end = first.used;
         let mut line = runs::code(first.kind, first.answer, 0);
-        at = at + end;
-        let asked = first.event;
-        match asked {
-            Asked::Nothing => {}
-            Asked::Run(event) => match event {
+        at += end;
+        match first.event {
+            None => {}
+            Some(event) => match event {
                 Event::Image(profile) => {
                     tray = pack_joined(tray, profile, &rest[4..end]);
                 }
@@ -126,105 +119,81 @@ pub fn run_on(start: Tray, bytes: &[u8], room: &mut [u8], answers: &mut [u64]) -
                     } else {
                         let commons = tray.commons;
                         let span = tray_record::reached(transaction, commons, tray.count, master);
-                        let stop = slices::wide(span.stop);
-                        let mut i = slices::wide(span.first);
-                        while i < stop {
-                            let common = tray.commons[i];
-                            let label = tray.labels[i];
-                            let meter = tray.meters[i];
-                            let fresh = i == slices::wide(span.first);
+                        let stop = usize::from(span.stop);
+                        for i in usize::from(span.first)..stop {
                             tray_record::heard(
-                                common,
-                                label,
-                                meter,
+                                tray.commons[i],
+                                tray.labels[i],
+                                tray.meters[i],
                                 transaction,
-                                fresh,
+                                i == usize::from(span.first),
                                 &mut scratch,
                                 left,
                             );
-                            i += 1;
                         }
                         tray_record::unheard(stop, transaction, left);
                     }
                     tray.closed = true;
-                    used = used + (transaction.count as usize);
+                    used += transaction.count as usize;
                     line = runs::code(first.kind, first.answer, transaction.count);
                 }
             },
         }
         answers[lines] = line;
-        lines = lines + 1;
+        lines += 1;
     }
     if at < bytes.len() {
         answers[lines] = runs::code(0, 2, 0);
-        lines = lines + 1;
+        lines += 1;
     }
     Ran {
-        tray: tray,
+        state: tray,
         ended: Ended {
             outcome: Outcome::Done,
-            lines: lines,
+            lines,
             replied: used,
         },
     }
 }
 
-// Records, run from the tray before the first.
-fn run_all(bytes: &[u8], room: &mut [u8], answers: &mut [u64]) -> Ran
-    requires bytes_len_bound { length bytes.now ≤ 32768 }
-    requires bytes_in_bounds { (length bytes.now + 3) / 4 ≤ length answers.old }
-    ensures { Running tray_did empty_tray bytes.now room.old answers.old (tray_result_of result) room.new
+// What runs the records of a tray.
+pub struct TrayRunner;
+
+impl Runner for TrayRunner {
+    type State = Tray;
+
+    ghost is_wf = { TrayWf };
+
+    ghost first = { empty_tray };
+
+    ghost did = { tray_did };
+
+    ghost laws = { tray_laws };
+
+    fn start() -> Tray {
+        tray_record::empty()
+    }
+
+    fn run_on(start: Tray, bytes: &[u8], room: &mut [u8], answers: &mut [u64]) -> Ran<Tray> {
+        run_on(start, bytes, room, answers)
+    }
+}
+
+// `runs::step`, of a tray.
+pub fn step(tray: Tray, bytes: &[u8], room: &mut [u8]) -> RecordStep<Tray>
+    requires { TrayWf tray }
+    ensures step_done { StepDone tray_did tray bytes.now room.old result.state result.answer result.replied room.new }
+    ensures kept { TrayWf result.state }
+{
+    runs::step::<TrayRunner>(tray, bytes, room)
+}
+
+// `runs::run`, of a tray session.
+pub fn run(bytes: &[u8], room: &mut [u8], answers: &mut [u64; 8192]) -> Ran<Tray>
+    ensures { Runs tray_did empty_tray bytes.now room.old answers.old (result_of result) room.new
         answers.new }
 {
-    let start = tray_record::empty();
-    run_on(start, bytes, room, answers)
-}
-
-// What one record did: the tray after it, its answer, and how many bytes of reply stand at the front of the room.
-#[derive(Clone, Copy)]
-pub struct TrayStep {
-    pub tray: Tray,
-    pub answer: u8,
-    pub replied: usize,
-}
-
-// The record at the front of some bytes, run in any tray; what stands behind it is not looked at.
-pub fn step(tray: Tray, bytes: &[u8], room: &mut [u8]) -> TrayStep
-    requires { TrayWf tray }
-    ensures step_done { StepDone tray_did tray bytes.now room.old result.tray result.answer result.replied room.new }
-    ensures kept { TrayWf result.tray }
-{
-    if runs::whole(bytes) {
-        let end = 4 + slices::pair(bytes, 0) as usize;
-        let mut answers = [0u64; 1];
-        let ran = run_on(tray, &bytes[..end], room, &mut answers);
-        let after = ran.tray;
-        return TrayStep {
-            tray: after,
-            answer: (answers[0] / 65536 % 256) as u8,
-            replied: ran.ended.replied,
-        };
-    }
-    TrayStep {
-        tray: tray,
-        answer: 2,
-        replied: 0,
-    }
-}
-
-// A session that is not run.
-fn idle(outcome: Outcome) -> Ran
-    ensures { result ≡ tray_idle_of outcome }
-{
-    let tray = tray_record::empty();
-    Ran {
-        tray: tray,
-        ended: Ended {
-            outcome: outcome,
-            lines: 0,
-            replied: 0,
-        },
-    }
+    runs::run::<TrayRunner>(bytes, room, answers)
 }
 
 // Every tray has eight places, which is told to a proof.
@@ -232,58 +201,38 @@ fn sized(commons: [Common; 8], labels: [Label; 8], meters: [Meter; 8])
     ensures { (length commons ≡ 8) × (length labels ≡ 8) × (length meters ≡ 8) }
 {}
 
-// The image taken out of a slot: its answer number, and the first bytes of the room.
-pub fn take_out(tray: Tray, slot: u8, room: &mut [u8]) -> u8
-    ensures { SlotOut tray slot room.old result room.new }
-{
-    if numbers::and(slot < 8, slot < tray.count) {
-        let i = slices::wide(slot);
-        let commons = tray.commons;
-        let labels = tray.labels;
-        let meters = tray.meters;
-        sized(commons, labels, meters);
-        let common = commons[i];
-        let label = labels[i];
-        let meter = meters[i];
-        let gauge = Gauge {
-            common: common,
-            label: label,
-            meter: meter,
-        };
-        if gauge::image_out(gauge, room) {
-            return 0;
-        }
-        return record::taken_number(Taken::Refused(Refusal::Room));
-    }
-    record::taken_number(Taken::Refused(Refusal::Order))
-}
-
 // How many bytes the image of a slot has; as many as one of kind 1 where a tray has no such slot.
 pub fn image_size(tray: Tray, slot: u8) -> usize
     ensures { result ≡ size_for (pack_of tray slot) }
 {
-    let i = slices::wide(slot);
+    let i = usize::from(slot);
     let commons = tray.commons;
     let labels = tray.labels;
     let meters = tray.meters;
     sized(commons, labels, meters);
     if i < 8 {
-        let meter = meters[i];
-        let cells = meter.cells;
-        let profile = cells.profile;
-        return state::image_size(profile);
+        return state::image_size(meters[i].cells.profile);
     }
     60
 }
 
-// A whole tray session: an answer for each record, the replies one after the other at the front of the room, the state at the end. Nothing
-// is run and nothing written where it is over 32,768 bytes; so many bytes have at most 8,192 records.
-pub fn run(bytes: &[u8], room: &mut [u8], answers: &mut [u64; 8192]) -> Ran
-    ensures { Runs tray_did empty_tray bytes.now room.old answers.old (tray_result_of result) room.new
-        answers.new }
+// The image taken out of a slot, in the first bytes of the room: how many bytes it has.
+pub fn take_out(tray: Tray, slot: u8, room: &mut [u8]) -> Result<usize, Refusal>
+    ensures value { result ≡ slot_out_of tray slot room.old }
+    ensures slot_out { SlotOut tray slot room.old (number_in result) room.new }
 {
-    match runs::outcome_of(bytes.len()) {
-        Outcome::Done => run_all(bytes, room, answers),
-        Outcome::Over => idle(Outcome::Over),
+    if slot >= 8 || slot >= tray.count {
+        return Err(Refusal::Order);
     }
+    let i = usize::from(slot);
+    let commons = tray.commons;
+    let labels = tray.labels;
+    let meters = tray.meters;
+    sized(commons, labels, meters);
+    let gauge = Gauge {
+        common: commons[i],
+        label: labels[i],
+        meter: meters[i],
+    };
+    gauge::image_out(gauge, room)
 }

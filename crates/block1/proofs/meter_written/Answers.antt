@@ -1,3 +1,4 @@
+-- `block1::meter_written` meets its contract: from 20h on no register is reached, and what is written to the cells leaves profile and lock bit.
 use mathlib.Core.Path.{◌≡◌, refl}
 use mathlib.Core.List.{List}
 use Prim.Native.Nat.{ℕ}
@@ -16,28 +17,20 @@ charging : (m : Meter) (a : ℕ) (bytes : List ℕ) {charge : Charge} → charge
 unfolding meter_written_of
 charging m a bytes h = h
 
-pub returns-then-a-lt32 : goal.returns-then-a-lt32
+pub returns-then-a-lt32-clause-value : goal.returns-then-a-lt32-clause-value
 unfolding meter_written_of cycles_written_of
-returns-then-a-lt32 c = let m = c.args.meter in
+returns-then-a-lt32-clause-value c = let m = c.args.meter in
     let a = c.args.a in
     let bytes = c.args.bytes.now in
-    let w = c.requires.meter_wf in
-    record {
-      value = simp (c.porf_written-porf.ensures, c.cycles_written-meter.ensures, c.cells_written-cells.ensures)
-          (λ i. record {
-            cells = cells_written_of m.cells a bytes;
-            charge = charging m a bytes c.acr_written-charge.ensures.value i;
-            cycles = cycles_written_of m.cycles m.cells a bytes;
-            flow = flowing m a bytes i;
-            shown = with_flags m.shown (flags_written_of m.shown.flags a bytes);
-          });
-      kept = record { charge = c.acr_written-charge.ensures.kept; average = w.average; full = w.full; volt = w.volt; temp = w.temp };
-    }
+    simp (c.porf_written-meter.ensures, c.cycles_written-meter.ensures, c.cells_written-meter.ensures)
+    (λ i. record {
+      cells = cells_written_of m.cells a bytes;
+      charge = charging m a bytes c.acr_written-meter.ensures.value i;
+      cycles = cycles_written_of m.cycles m.cells a bytes;
+      flow = flowing m a bytes i;
+      shown = with_flags m.shown (flags_written_of m.shown.flags a bytes);
+    })
 
-pub returns-else-a-lt32 : goal.returns-else-a-lt32
-returns-else-a-lt32 c = let w = c.requires.meter_wf in
-    record {
-      value = rw (written_above c.args.meter c.args.a c.args.bytes.now c.if-a-lt32.false) (simp c.cells_written-cells.ensures);
-      kept =
-          record { charge = w.charge; average = w.average; full = w.full; volt = w.volt; temp = w.temp };
-    }
+pub returns-else-a-lt32-clause-value : goal.returns-else-a-lt32-clause-value
+returns-else-a-lt32-clause-value c =
+    rw (written_above c.args.meter c.args.a c.args.bytes.now c.if-a-lt32.false) (simp c.cells_written-meter.ensures)

@@ -9,4 +9,4 @@ returns-then-master-i c = c.plain.ensures ∙ simp (lt-ltb _ _ c.if-master-i.tru
 
 pub returns : goal.returns
 unfolding asked_at
-returns c = simp (le-ltb _ _ c.if-master-i.false, c.command_of.ensures)
+returns c = simp (le-ltb _ _ c.if-master-i.false, c.from.ensures)

@@ -1,16 +1,7 @@
-use mathlib.Core.Path.{refl}
-use native.Mathlib.Omega.{arith}
-use Rattle.numbers.proofs.Bounds.{times}
-use Rattle.conversion.specs.Conversion.{share_up_of}
 use borrow.Author.Rules.{rules}
+use Rattle.conversion.specs.Conversion.{share_up_of}
 use Rattle.conversion.proofs.share_up.Goals as goal
-
-pub overflow_mul-result : goal.overflow_mul-result
-overflow_mul-result c = omega (arith, times c.args.x c.args.full40 4294967295 65535 (search rules) (search rules))
-
-pub overflow_add-result : goal.overflow_add-result
-overflow_add-result c = omega (arith, times c.args.x c.args.full40 4294967295 65535 (search rules) (search rules))
 
 pub returns : goal.returns
 unfolding share_up_of
-returns c = refl
+returns c = search rules

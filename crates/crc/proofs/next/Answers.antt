@@ -1,18 +1,9 @@
 use Prim.Native.Nat.{◌<◌}
-use native.Mathlib.Omega.{arith}
 use lib.Bits.{bit_xor, xor_lt}
 use Rattle.crc.specs.Crc.{next_of}
 use Rattle.crc.proofs.next.Goals as goal
 
-pub overflow_cast-i : goal.overflow_cast-i
-overflow_cast-i c = let below : bit_xor c.args.c c.args.b < 256 = xor_lt 8 c.args.c c.args.b c.ranges.c.fits c.ranges.b.fits in
-    omega (arith, below)
-
-pub bounds-table-i : goal.bounds-table-i
-bounds-table-i c = let below : bit_xor c.args.c c.args.b < 256 = xor_lt 8 c.args.c c.args.b c.ranges.c.fits c.ranges.b.fits in
-    omega (arith, below)
-
 pub returns : goal.returns
 unfolding next_of
 returns c = let below : bit_xor c.args.c c.args.b < 256 = xor_lt 8 c.args.c c.args.b c.ranges.c.fits c.ranges.b.fits in
-    c.requires (bit_xor c.args.c c.args.b) below
+    rw c.from.ensures (c.requires (bit_xor c.args.c c.args.b) below)

@@ -1,18 +1,17 @@
 -- `hex_in::put_import` meets its contract.
-use mathlib.Core.Path.{refl, ◌∙◌}
-use native.Mathlib.Nat.{zero-add}
+use borrow.Author.Rules.{rules}
 use borrow.Author.Tests.{lt-ltb}
+use Rattle.streams.proofs.Pages.{said_of_error}
 use Rattle.hex_in.specs.HexIn.{hex_in_speech}
 use Rattle.hex_in.proofs.Laws.{bytes_said, refusal_said}
 use Rattle.hex_in.proofs.put_import.Goals as goal
 
 pub returns-then-text-gt65536 : goal.returns-then-text-gt65536
 unfolding hex_in_speech
-returns-then-text-gt65536 c = let put = c.put_bytes-count.ensures in
-    rw (lt-ltb _ _ c.if-text-gt65536.true) (record { stream = refl; counted = put.onward ∙ zero-add _; written = put.written })
+returns-then-text-gt65536 c = rw (lt-ltb _ _ c.if-text-gt65536.true) (said_of_error c.new-page.ensures c.put_bytes.ensures (search rules))
 
-pub returns-in-Done : goal.returns-in-Done
-returns-in-Done c = search bytes_said
+pub returns-in-Ok : goal.returns-in-Ok
+returns-in-Ok c = search bytes_said
 
-pub returns-in-Refused : goal.returns-in-Refused
-returns-in-Refused c = search refusal_said
+pub returns-in-Err : goal.returns-in-Err
+returns-in-Err c = search refusal_said

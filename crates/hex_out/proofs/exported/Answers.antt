@@ -1,20 +1,11 @@
 -- `hex_out::exported` meets its contract: what is said of what was read is what is said of the two files.
-use mathlib.Core.Path.{◌≡◌}
-use native.Mathlib.Omega.{arith}
-use lib.ListN.{length}
-use Rattle.hex_out.proofs.Laws.{both_seen}
-use borrow.Author.Rules.{rules}
+use Rattle.hex_out.specs.HexOut.{hex_out_speech}
+use Rattle.hex_out.proofs.Laws.{alike}
 use Rattle.hex_out.proofs.exported.Goals as goal
 
 pub returns : goal.returns
-returns c = let one : length c.args.pack.now ≡ 61 = omega arith in
-    let two : length c.args.factory.now ≡ 61 = omega arith in
+returns c =
     record {
-      by_index = λ s t front other.
-          rw (
-            ← c.or-unread.ensures,
-            ← both_seen one two c.within-n.ensures c.within-m.ensures front other,
-          )
-          c.put_export.ensures;
-      value = search rules;
+      by_index = c.put_answer_of_two.ensures.by_index hex_out_speech (λ one other room said after told. told)
+          (rw (c.requires.pack_room, c.requires.factory_room) alike);
     }

@@ -6,7 +6,7 @@ use Rattle.hex_out.proofs.put_refusal.Goals as goal
 
 pub returns : goal.returns
 returns c = wider {m = 39 + (5 + (2 + 50))}
-    (then c.put_bytes-a.ensures
-    (then c.put_decimal-b.ensures
-    (then c.put_bytes-c.ensures c.put_meaning.ensures)))
+    (then c.put_bytes.ensures
+    (then c.put_decimal.ensures
+    (then c.put_bytes-2.ensures c.put_meaning.ensures)))
     (omega arith)

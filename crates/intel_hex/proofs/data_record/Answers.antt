@@ -6,7 +6,7 @@ use Rattle.intel_hex.proofs.data_record.Goals as goal
 
 pub returns : goal.returns
 returns c = let laid = c.store.ensures
-    ∙ ap (λ (l : List ℕ). put l 4 c.args.carried.now) c.store4.ensures.written in
-    ap (set c.store.new.dst 20) c.checksum-sum.ensures
+    ∙ ap (λ (l : List ℕ). put l 4 c.args.carried.now) c.store_array.ensures.written in
+    ap (set c.store.new.dst 20) c.checksum.ensures
     ∙ record_laid c.args.address c.args.carried.now (omega arith) c.requires
     c.store.new.dst laid

@@ -13,25 +13,25 @@ pub bounds-pack-59 : goal.bounds-pack-59
 bounds-pack-59 c = omega (
   arith,
   pack_sized c.args.pack.now c.args.factory.now
-      (sym c.both_accepted.ensures ∙ c.if-both_accepted.true),
+      (sym c.both_accepted.ensures ∙ c.if-not-both_accepted.false),
 )
 
 pub returns-then-pack-eq1 : goal.returns-then-pack-eq1
 returns-then-pack-eq1 c = let locked : image_bl0 c.args.pack.now ≡ true = eq-eqb _ _ c.if-pack-eq1.true in
     let a = c.args in
-    sym (own a.pack.now a.factory.now (sym c.both_accepted.ensures ∙ c.if-both_accepted.true) locked)
+    sym (own a.pack.now a.factory.now (sym c.both_accepted.ensures ∙ c.if-not-both_accepted.false) locked)
 
-pub slice_bounds-result-end-then-both_accepted : goal.slice_bounds-result-end-then-both_accepted
-slice_bounds-result-end-then-both_accepted c = omega (
+pub returns-then-not-both_accepted : goal.returns-then-not-both_accepted
+unfolding export_label
+returns-then-not-both_accepted c = rw (sym c.both_accepted.ensures ∙ c.if-not-both_accepted.true) refl
+
+pub slice_bounds-result-end-2 : goal.slice_bounds-result-end-2
+slice_bounds-result-end-2 c = omega (
   arith,
   factory_sized c.args.pack.now c.args.factory.now
-      (sym c.both_accepted.ensures ∙ c.if-both_accepted.true),
+      (sym c.both_accepted.ensures ∙ c.if-not-both_accepted.false),
 )
-
-pub returns-then-both_accepted : goal.returns-then-both_accepted
-unfolding export_label
-returns-then-both_accepted c = rw (sym c.both_accepted.ensures ∙ c.if-both_accepted.true, ne_eqb _ _ c.if-pack-eq1.false) refl
 
 pub returns : goal.returns
 unfolding export_label
-returns c = rw (sym c.both_accepted.ensures ∙ c.if-both_accepted.false) refl
+returns c = rw (sym c.both_accepted.ensures ∙ c.if-not-both_accepted.false, ne_eqb _ _ c.if-pack-eq1.false) refl

@@ -1,19 +1,22 @@
-use Rattle.std.proofs.Common.{arith, eq-eqb, ne_eqb}
-use Rattle.intel_hex.proofs.Lines.{line_more, line_fed, line_last}
+-- `intel_hex::line_end` meets its contract.
+use Rattle.std.proofs.Common.{ℕ, eqb, rules}
+use Rattle.std.proofs.lemmas.Iterator.{YieldsList-from_slice}
+use Rattle.std.proofs.lemmas.Iterator.Search.{position_from_yields_List}
+use borrow.Author.Tests.{tests}
+use Rattle.intel_hex.specs.Line.{line_feed}
+use Rattle.intel_hex.proofs.Lines.{cut_found}
 use Rattle.intel_hex.proofs.line_end.Goals as goal
 
-pub returns-then-text-end-eq10 : goal.returns-then-text-end-eq10
-returns-then-text-end-eq10 c = line_fed c.args.text.now c.args.at c.loop-end.end c.loop-end.invariant.0
-    c.loop-end-test.true (eq-eqb _ _ c.if-text-end-eq10.true) c.loop-end.invariant.2
+pub returns-in-Some : goal.returns-in-Some
+returns-in-Some c =
+    let found =
+    position_from_yields_List (λ (b : ℕ). eqb b line_feed) _ _ c.position.result c.position.ensures.ran (YieldsList-from_slice c.args.text.now cc)
+    (λ x b q k. search (rules, tests)) in
+    rw c.in-Some.is at (cut_found c.args.text.now c.position.result c.requires found)
 
-pub loop-end-preserved : goal.loop-end-preserved
-loop-end-preserved c = (
-  omega arith,
-  omega arith,
-  line_more c.args.text.now c.args.at c.loop-end.end c.loop-end.invariant.0
-      c.loop-end-test.true (ne_eqb _ _ c.if-text-end-eq10.false) c.loop-end.invariant.2,
-)
-
-pub returns : goal.returns
-returns c = line_last c.args.text.now c.args.at c.loop-end.end c.loop-end.invariant.0
-    c.requires c.loop-end-test.false c.loop-end.invariant.1 c.loop-end.invariant.2
+pub returns-in-None : goal.returns-in-None
+returns-in-None c =
+    let found =
+    position_from_yields_List (λ (b : ℕ). eqb b line_feed) _ _ c.position.result c.position.ensures.ran (YieldsList-from_slice c.args.text.now cc)
+    (λ x b q k. search (rules, tests)) in
+    rw c.in-None.is at (cut_found c.args.text.now c.position.result c.requires found)

@@ -6,16 +6,16 @@ use Rattle.intel_hex.proofs.write_text.Goals as goal
 pub slice_bounds-put_text-end : goal.slice_bounds-put_text-end
 slice_bounds-put_text-end c = let g = granted c.args.pack.now c.args.factory.now
     (length c.args.room.now)
-    (sym c.export_answer-found.ensures ∙ c.in-Done.is) in
+    (sym c.export_answer.ensures ∙ c.in_ok-export_answer.was) in
     omega (arith, pack_sized c.args.pack.now c.args.factory.now g.0)
 
 pub put_text-requires : goal.put_text-requires
 put_text-requires c = let pack = c.args.pack.now in
     let factory = c.args.factory.now in
     let g = granted pack factory (length c.args.room.now)
-    (sym c.export_answer-found.ensures ∙ c.in-Done.is) in
+    (sym c.export_answer.ensures ∙ c.in_ok-export_answer.was) in
     record {
-      label_len = ap length c.export_label-chosen.ensures ∙ label_sized pack factory g.0;
+      label_len = ap length c.export_label-label.ensures ∙ label_sized pack factory g.0;
       block_len = block_sized pack factory g.0;
       export_size_in_bounds = g.1;
     }

@@ -1,9 +1,5 @@
-use Rattle.library.specs.Library.{kept_pack}
-use Rattle.library.proofs.Calls.{record_short, pack_done}
+use Rattle.library.proofs.Calls.{pack_done}
 use Rattle.library.proofs.trovimbe_record.Goals as goal
 
-pub returns-then-bytes-lt4 : goal.returns-then-bytes-lt4
-returns-then-bytes-lt4 c = rw c.said.ensures (record_short kept_pack c.if-bytes-lt4.true)
-
-pub returns : goal.returns
-returns c = rw (c.said-2.ensures, c.choose8.ensures) (pack_done c.if-bytes-lt4.false c.state_step-stepped.ensures)
+pub returns-in-Ok : goal.returns-in-Ok
+returns-in-Ok c = rw c.said-in-Ok.ensures (pack_done c.if-bytes-lt4.false c.state_step.ensures c.in-Ok.is)

@@ -1,5 +1,5 @@
 -- `live::answered` meets its contract.
-use mathlib.Core.Path.{sym, subst}
+use mathlib.Core.Path.{sym, ap, subst}
 use Prim.Native.Nat.{ℕ, ◌*◌, ◌≤◌}
 use native.Mathlib.Omega.{arith}
 use lib.ListN.{length, take, length-take}
@@ -8,6 +8,8 @@ use Rattle.runs.specs.Record.{recs_of}
 use Rattle.runs.specs.SessionRecord.{did_of}
 use Rattle.runs.proofs.AnyRecord.{did_fits}
 use Rattle.runs.proofs.OwnRoom.{did_own}
+use borrow.Author.Rules.{rules}
+use Rattle.digits.proofs.Laws.{fronted}
 use Rattle.text.proofs.Going.{most_long}
 use Rattle.text.proofs.Live.{span_short, span_few, lines_within, told_within, replied_within, after_within, turned}
 use Rattle.live.proofs.answered.Goals as goal
@@ -44,8 +46,8 @@ slice_bounds-put_codes-end-4 c =
     let enough : 1024 ≤ length c.args.answers.now = omega (arith, c.requires.lent.answers) in
     sym (length-take-le _ _ (after_within did_of did_fits did_own 1024 c.args.bytes.now c.span-used.ensures c.run_on-ran.ensures.running roomy enough))
 
-pub put_codes-count-requires-clause-replies_in_bounds : goal.put_codes-count-requires-clause-replies_in_bounds
-put_codes-count-requires-clause-replies_in_bounds c =
+pub put_codes-requires-clause-replies_in_bounds : goal.put_codes-requires-clause-replies_in_bounds
+put_codes-requires-clause-replies_in_bounds c =
     let roomy : 256 * 1024 ≤ length c.args.replies.now = omega (arith, c.requires.lent.replies) in
     let enough : 1024 ≤ length c.args.answers.now = omega (arith, c.requires.lent.answers) in
     let few = lines_within did_of did_fits did_own 1024 c.args.bytes.now c.span-used.ensures c.run_on-ran.ensures.running roomy enough in
@@ -60,6 +62,8 @@ put_codes-count-requires-clause-replies_in_bounds c =
       few,
       within,
       most_long c.args.first (length told) (length after),
+      ap length c.new-page.ensures.same,
+      c.new-page.ensures.front,
       c.requires.lent.out,
       c.requires.lent.replies,
       c.requires.lent.answers,
@@ -70,7 +74,7 @@ returns-clause-turning c =
     let roomy : 256 * 1024 ≤ length c.args.replies.now = omega (arith, c.requires.lent.replies) in
     let enough : 1024 ≤ length c.args.answers.now = omega (arith, c.requires.lent.answers) in
     turned did_of did_fits did_own 1024 c.args.bytes.now c.span-used.ensures c.run_on-ran.ensures.running roomy enough
-    (λ i. (c.type_inv.bytes i).fits) c.args.first c.put_codes-count.ensures
+    (λ i. (c.type_inv.bytes i).fits) c.args.first (fronted c.new-page.ensures c.put_codes.ensures (search rules))
 
 pub returns-clause-few : goal.returns-clause-few
 returns-clause-few c =

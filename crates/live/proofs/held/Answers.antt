@@ -1,13 +1,13 @@
 -- `live::held` meets its contract.
-use mathlib.Core.Path.{refl}
-use borrow.Author.Tests.{eq-eqb, ne_eqb}
+use mathlib.Core.Path.{sym, ap, ◌∙◌}
+use Rattle.state_bytes.proofs.Undoing.{was}
 use Rattle.live.specs.Live.{held_of}
 use Rattle.live.proofs.held.Goals as goal
 
-pub returns-then-kept-eq0-clause-value : goal.returns-then-kept-eq0-clause-value
+pub returns-then-is_empty-clause-value : goal.returns-then-is_empty-clause-value
 unfolding held_of
-returns-then-kept-eq0-clause-value c = rw (eq-eqb _ _ c.if-kept-eq0.true, c.empty.ensures.value) refl
+returns-then-is_empty-clause-value c = rw (sym c.is_empty.ensures ∙ c.if-is_empty.true) (ap was c.empty.ensures.value)
 
 pub returns-clause-value : goal.returns-clause-value
 unfolding held_of
-returns-clause-value c = rw (ne_eqb _ _ c.if-kept-eq0.false) c.state_in.ensures.value
+returns-clause-value c = rw (sym c.is_empty.ensures ∙ c.if-is_empty.false) c.state_in.ensures.value

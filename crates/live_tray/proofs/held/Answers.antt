@@ -1,14 +1,13 @@
 -- `live_tray::held` meets its contract.
-use mathlib.Core.Path.{ap}
-use Rattle.tray_record.specs.declared.Tray.{Tray}
-use borrow.Author.Tests.{eq-eqb, ne_eqb}
+use mathlib.Core.Path.{sym, ap, ◌∙◌}
+use Rattle.state_bytes.proofs.TrayUndoing.{was}
 use Rattle.live_tray.specs.LiveTray.{tray_held_of}
 use Rattle.live_tray.proofs.held.Goals as goal
 
-pub returns-then-kept-eq0-clause-value : goal.returns-then-kept-eq0-clause-value
+pub returns-then-is_empty-clause-value : goal.returns-then-is_empty-clause-value
 unfolding tray_held_of
-returns-then-kept-eq0-clause-value c = rw (eq-eqb _ _ c.if-kept-eq0.true) (ap (λ (t : Tray). record { number = 0; tray = t }) c.empty.ensures.value)
+returns-then-is_empty-clause-value c = rw (sym c.is_empty.ensures ∙ c.if-is_empty.true) (ap was c.empty.ensures.value)
 
 pub returns-clause-value : goal.returns-clause-value
 unfolding tray_held_of
-returns-clause-value c = rw (ne_eqb _ _ c.if-kept-eq0.false) c.tray_state_in.ensures.value
+returns-clause-value c = rw (sym c.is_empty.ensures ∙ c.if-is_empty.false) c.tray_state_in.ensures.value

@@ -1,14 +1,12 @@
 -- `live_tray::put_image` meets its contract.
 use native.Mathlib.Omega.{arith}
-use Rattle.text.proofs.TakenOut.{OutOf, handed}
-use Rattle.tray_record.specs.Tray.{pack_of}
-use Rattle.tray_run.specs.TrayRun.{slot_held}
+use Rattle.text.proofs.TakenOut.{handed, refused}
 use Rattle.live_tray.specs.LiveTray.{empty_slot_words}
 use Rattle.live_tray.proofs.put_image.Goals as goal
 
-pub returns-then-answer-eq0 : goal.returns-then-answer-eq0
-returns-then-answer-eq0 c =
-    let a = c.args in
-    let out : OutOf (slot_held a.tray a.slot) (pack_of a.tray a.slot) a.room.now c.take_out-answer.result c.take_out-answer.new.room =
-    record { number = c.take_out-answer.ensures.number; written = c.take_out-answer.ensures.written } in
-    handed out (omega (arith, c.requires)) empty_slot_words c.if-answer-eq0.true c.take_out-answer.auto.room c.image_size-count.ensures
+pub returns-in-Ok : goal.returns-in-Ok
+returns-in-Ok c = handed c.take_out.ensures (omega (arith, c.requires)) empty_slot_words c.in-Ok.is c.take_out.auto.room
+
+pub returns-in-Err : goal.returns-in-Err
+returns-in-Err c =
+    refused c.take_out.ensures (omega (arith, c.requires)) empty_slot_words c.in-Err.is (rw c.from.ensures at c.put_refused.ensures)

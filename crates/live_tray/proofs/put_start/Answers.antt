@@ -1,26 +1,30 @@
 -- `live_tray::put_start` meets its contract.
-use mathlib.Core.Path.{refl, ◌∙◌}
-use native.Mathlib.Nat.{zero-add}
-use borrow.Author.Tests.{eq-eqb, ne_eqb}
+use mathlib.Core.Path.{ap, ◌∙◌}
+use borrow.Author.Rules.{rules}
+use Rattle.streams.proofs.Pages.{said_of_output}
+use Rattle.state_bytes.specs.State.{state_refusal_number, number_in}
 use Rattle.live_tray.specs.LiveTray.{tray_state_words, tray_start_speech}
 use Rattle.live_tray.proofs.put_start.Goals as goal
 
-pub returns-then-number-eq0 : goal.returns-then-number-eq0
+pub returns-in-Ok : goal.returns-in-Ok
 unfolding tray_start_speech
-returns-then-number-eq0 c =
-    let header = c.put_header-count.ensures in
-    rw (eq-eqb _ _ c.if-number-eq0.true) (record { stream = refl; counted = header.onward ∙ zero-add _; written = header.written })
+returns-in-Ok c =
+    rw (ap number_in c.in-Ok.is) (said_of_output c.new-page.ensures c.put_header.ensures (search rules))
 
-pub returns-then-number-eq50 : goal.returns-then-number-eq50
+pub returns-in-Size : goal.returns-in-Size
 unfolding tray_start_speech tray_state_words
-returns-then-number-eq50 c = rw (ne_eqb _ _ c.if-number-eq0.false, eq-eqb _ _ c.if-number-eq50.true) c.put_refused.ensures
+returns-in-Size c =
+    let number = ap state_refusal_number c.in-Size.is in
+    rw (ap number_in c.in-Err.is ∙ number) (rw (c.from-number.ensures ∙ number) at c.put_refused.ensures)
 
-pub returns-then-number-eq51 : goal.returns-then-number-eq51
+pub returns-in-Version : goal.returns-in-Version
 unfolding tray_start_speech tray_state_words
-returns-then-number-eq51 c =
-    rw (ne_eqb _ _ c.if-number-eq0.false, ne_eqb _ _ c.if-number-eq50.false, eq-eqb _ _ c.if-number-eq51.true) c.put_refused-then-number-eq51.ensures
+returns-in-Version c =
+    let number = ap state_refusal_number c.in-Version.is in
+    rw (ap number_in c.in-Err.is ∙ number) (rw (c.from-number.ensures ∙ number) at c.put_refused-in-Version.ensures)
 
-pub returns : goal.returns
+pub returns-in-Unsound : goal.returns-in-Unsound
 unfolding tray_start_speech tray_state_words
-returns c =
-    rw (ne_eqb _ _ c.if-number-eq0.false, ne_eqb _ _ c.if-number-eq50.false, ne_eqb _ _ c.if-number-eq51.false) c.put_refused-2.ensures
+returns-in-Unsound c =
+    let number = ap state_refusal_number c.in-Unsound.is in
+    rw (ap number_in c.in-Err.is ∙ number) (rw (c.from-number.ensures ∙ number) at c.put_refused-in-Unsound.ensures)

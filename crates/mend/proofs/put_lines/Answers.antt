@@ -2,8 +2,8 @@
 use Rattle.mend.proofs.Laws.{lines_said, refusal_said}
 use Rattle.mend.proofs.put_lines.Goals as goal
 
-pub returns-in-Lines : goal.returns-in-Lines
-returns-in-Lines c = lines_said (rw c.in-Lines.is at c.changes-listed.ensures)
+pub returns-in-Ok : goal.returns-in-Ok
+returns-in-Ok c = lines_said (rw c.in-Ok.is at c.changes.ensures)
 
-pub returns-in-Refused : goal.returns-in-Refused
-returns-in-Refused c = refusal_said (rw c.in-Refused.is at c.changes-listed.ensures) c.put_why.ensures
+pub returns-in-Err : goal.returns-in-Err
+returns-in-Err c = refusal_said (rw c.in-Err.is at c.changes.ensures) c.put_why.ensures

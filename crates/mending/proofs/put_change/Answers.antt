@@ -17,7 +17,7 @@ no_line offset old new same = rw same refl
 pub returns-then-old-new : goal.returns-then-old-new
 returns-then-old-new c = let as_it_was : eqb c.args.old c.args.new ≡ true = eq-eqb _ _ c.if-old-new.true in
     let a = c.args in
-    rw (no_line a.offset a.old a.new as_it_was) (wider (none a.room.now a.at) (omega arith))
+    rw (no_line a.offset a.old a.new as_it_was) (wider (none a.page.now) (omega arith))
 
 pub returns : goal.returns
 unfolding change_text

@@ -1,15 +1,16 @@
 -- `preset_session::put_session` meets its contract: four records, one behind the other.
-use Rattle.runs.specs.Record.{Recorded}
+use borrow.Author.Rules.{rules}
+use Rattle.digits.proofs.Laws.{then, fronted}
+use Rattle.digits.specs.Digits.{Appends}
 use Rattle.preset_session.specs.PresetSession.{copy_payload, read_payload}
+use Rattle.runs.specs.Record.{record_of}
 use Rattle.preset_session.proofs.Laws.{four}
 use Rattle.preset_session.proofs.put_session.Goals as goal
 
 pub returns : goal.returns
-returns c = let copied : Recorded 4 copy_payload c.put_record-b.new.room c.put_record-b.result c.put_record-c.result c.put_record-c.new.room =
-    c.put_record-c.ensures in
-    let read_back : Recorded 4 read_payload c.put_record-c.new.room c.put_record-c.result c.put_record.result c.put_record.new.room = c.put_record.ensures in
+returns c = let copied : Appends 8 (record_of 4 copy_payload) c.put_record-2.new.page c.put_record-3.new.page = c.put_record-3.ensures in
+    let read_back : Appends 8 (record_of 4 read_payload) c.put_record-3.new.page c.put_record-4.new.page = c.put_record-4.ensures in
     four c.args.image.now c.args.wanted.now c.requires.image_len c.requires.wanted_len c.requires.programming_size_in_bounds
-    c.put_record-a.ensures
-    (rw c.write_payload-writing.ensures at c.put_record-b.ensures)
-    copied
-    read_back
+    (fronted c.new-page.ensures
+    (then c.put_record.ensures (then (rw c.write_payload-writing.ensures at c.put_record-2.ensures) (then copied read_back)))
+    (search rules))

@@ -10,5 +10,5 @@ use Rattle.preset_session.proofs.write_payload.Goals as goal
 pub returns : goal.returns
 returns c = let wanted = c.args.wanted.now in
     c.store.ensures
-    ∙ ap (λ (l : List ℕ). put l 4 wanted) c.store4.ensures.written
+    ∙ ap (λ (l : List ℕ). put l 4 wanted) c.store_array.ensures.written
     ∙ write_laid wanted (replicate 36 0) c.requires refl

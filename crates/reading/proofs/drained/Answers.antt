@@ -1,14 +1,16 @@
-use Rattle.std.proofs.Common.{sym, subst}
-use Rattle.state.specs.State.{ChargeWf}
-use Rattle.reading.specs.Reading.{drained_of}
-use Rattle.reading.proofs.Laws.{drained_wf}
+use Rattle.std.proofs.Common.{sym, subst, arith}
 use borrow.Author.Rules.{rules}
+use Rattle.state.specs.State.{ChargeWf}
+use Rattle.reading.proofs.Laws.{drained_wf}
+use Rattle.std.proofs.lemmas.Grind.{common_steps}
+use Rattle.reading.specs.Reading.{drained_of}
 use Rattle.reading.proofs.drained.Goals as goal
 
-pub returns : goal.returns
+pub returns-clause-value : goal.returns-clause-value
 unfolding drained_of
-returns c = record {
-  value = simp (c.emptied.ensures, c.point-point.ensures, c.share-e.ensures.value);
-  kept = subst ChargeWf (sym (simp (c.emptied.ensures, c.point-point.ensures, c.share-e.ensures.value)))
-      (drained_wf c.args.meter c.args.limits c.args.full40 c.args.seen (search rules) c.requires.seen_wf c.requires.charge_wf);
-}
+returns-clause-value c = grind (arith, common_steps)
+
+pub returns-clause-kept : goal.returns-clause-kept
+returns-clause-kept c =
+    subst ChargeWf (sym (returns-clause-value c))
+    (drained_wf c.args.meter c.args.limits c.args.full40 c.args.seen (search rules) c.requires.seen_wf c.requires.charge_wf)

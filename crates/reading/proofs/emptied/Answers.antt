@@ -1,19 +1,20 @@
-use mathlib.Core.Path.{sym, ◌∙◌}
+use Rattle.std.proofs.Common.{arith}
+use Rattle.std.proofs.lemmas.Grind.{common_steps}
 use Rattle.reading.specs.Reading.{emptied_of}
 use Rattle.reading.proofs.emptied.Goals as goal
 
 pub returns-then-holds : goal.returns-then-holds
 unfolding emptied_of
-returns-then-holds c = simp c.if-holds.true
+returns-then-holds c = grind (arith, common_steps)
 
 pub returns-then-point : goal.returns-then-point
 unfolding emptied_of
-returns-then-point c = simp (c.if-holds.false, c.if-point.true) c.set.ensures
+returns-then-point c = grind (arith, common_steps)
 
-pub returns-then-and_not : goal.returns-then-and_not
+pub returns-then-cut : goal.returns-then-cut
 unfolding emptied_of
-returns-then-and_not c = simp (c.if-holds.false, c.if-point.false, sym c.and_not.ensures ∙ c.if-and_not.true)
+returns-then-cut c = grind (arith, common_steps)
 
-pub returns-else-and_not : goal.returns-else-and_not
+pub returns-else-cut : goal.returns-else-cut
 unfolding emptied_of
-returns-else-and_not c = simp (c.if-holds.false, c.if-point.false, sym c.and_not.ensures ∙ c.if-and_not.false)
+returns-else-cut c = grind (arith, common_steps)

@@ -1,10 +1,12 @@
-use mathlib.Core.Path.{◌≡◌}
-use Rattle.numbers.specs.Choice.{pick}
+use Rattle.std.proofs.Common.{arith}
+use Rattle.std.proofs.lemmas.Grind.{common_steps}
 use Rattle.reading.specs.Reading.{kept_of}
 use Rattle.reading.proofs.kept.Goals as goal
 
-pub returns : goal.returns
+pub returns-then-save : goal.returns-then-save
 unfolding kept_of
-returns c = let aged : let a = c.args in c.choose8.result ≡ pick a.save a.charge.aging a.saved.aging = c.choose8.ensures in
-    let counted : let a = c.args in c.choose8-2.result ≡ pick a.save a.cycles a.saved.cycles = c.choose8-2.ensures in
-    simp (counted, aged, c.choose16.ensures)
+returns-then-save c = grind (arith, common_steps)
+
+pub returns-else-save : goal.returns-else-save
+unfolding kept_of
+returns-else-save c = grind (arith, common_steps)

@@ -1,19 +1,15 @@
 use Rattle.reading.specs.Product.{product_of}
-use borrow.Author.Rules.{rules}
 use Rattle.reading.proofs.Product.{product_lines}
 use Rattle.reading.proofs.model_lines.Goals as goal
 
-pub returns : goal.returns
+pub returns-clause-value : goal.returns-clause-value
 unfolding product_of
-returns c = record {
-  value = simp (
-    c.empty_line-2.ensures,
-    c.weighed-3.ensures.value,
-    c.empty_line.ensures,
-    c.weighed-2.ensures.value,
-    c.full_line.ensures,
-    c.weighed.ensures.value,
-    c.segments-degrees.ensures,
-  ) (product_lines _ _);
-  small = search rules;
-}
+returns-clause-value c = simp (
+  c.empty_line-2.ensures,
+  c.weighed-3.ensures.value,
+  c.empty_line.ensures,
+  c.weighed-2.ensures.value,
+  c.full_line.ensures,
+  c.weighed.ensures.value,
+  c.segments-degrees.ensures,
+) (product_lines _ _)

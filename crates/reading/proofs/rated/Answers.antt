@@ -1,4 +1,5 @@
-use native.Mathlib.Omega.{arith}
+use borrow.Author.Rules.{rules}
+use Rattle.std.proofs.Common.{arith}
 use Rattle.reading.specs.Reading.{rated_of}
 use Rattle.conversion.proofs.ChargeLaws.{aged_full_high}
 use Rattle.reading.proofs.rated.Goals as goal
@@ -8,4 +9,4 @@ overflow_cast-af c = omega (arith, aged_full_high c.args.lines.full c.args.charg
 
 pub returns : goal.returns
 unfolding rated_of
-returns c = simp (c.results_of.ensures, c.aged_full-af.ensures)
+returns c = search rules

@@ -5,8 +5,7 @@ use Prim.Native.Nat.{ℕ}
 use Rattle.state.specs.declared.Tick.{Tick}
 use Rattle.record.specs.declared.Kind.{Kind}
 use Rattle.record.specs.declared.Kind.TheVariants as kind
-use Rattle.record.specs.declared.Taken.{Taken}
-use Rattle.record.specs.Record.{taken_by, timed_of, fitted_of}
+use Rattle.record.specs.Record.{taken_by, timed_of, fitted_of, Taken}
 use Rattle.record.proofs.Fits.{Stateless, passes, transaction_timely, sample_fits_lem}
 use Rattle.record.proofs.fitted_by.Goals as goal
 

@@ -1,11 +1,16 @@
+use Rattle.std.proofs.Common.{arith}
+use Rattle.std.proofs.lemmas.Grind.{common_steps}
 use Rattle.samples.specs.Stretch.{learnf_over}
-use Rattle.samples.proofs.Charge.{learnf_set, learnf_clear}
 use Rattle.samples.proofs.learnf_over.Goals as goal
 
-pub returns-then-charge : goal.returns-then-charge
+pub returns-then-not-charge : goal.returns-then-not-charge
 unfolding learnf_over
-returns-then-charge c = simp (c.and_not.ensures, c.or-emptied.ensures, c.and-turned.ensures, c.count_over-first.ensures, c.if-charge.true, learnf_set)
+returns-then-not-charge c = grind (arith, common_steps)
 
-pub returns-else-charge : goal.returns-else-charge
+pub returns-then-not-turned : goal.returns-then-not-turned
 unfolding learnf_over
-returns-else-charge c = simp (c.if-charge.false, learnf_clear)
+returns-then-not-turned c = grind (arith, common_steps)
+
+pub returns-else-not-turned : goal.returns-else-not-turned
+unfolding learnf_over
+returns-else-not-turned c = grind (arith, common_steps)

@@ -1,7 +1,7 @@
+use borrow.Author.Rules.{rules}
 use Rattle.samples.specs.Samples.{sample_of}
-use Rattle.samples.proofs.Laws.{ticked_wf}
 use Rattle.samples.proofs.sample.Goals as goal
 
-pub returns : goal.returns
+pub returns-clause-value : goal.returns-clause-value
 unfolding sample_of
-returns c = record { value = simp (c.quick-meter.ensures.value, c.elapsed-n.ensures); kept = ticked_wf _ _ c.quick-meter.ensures.kept }
+returns-clause-value c = search rules

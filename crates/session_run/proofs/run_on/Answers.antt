@@ -2,11 +2,11 @@ use mathlib.Core.Path.{refl, sym, ap, ◌∙◌}
 use Prim.Native.Nat.{◌-◌}
 use native.Mathlib.Omega.{arith}
 use lib.ListN.{length, length-set}
+use Rattle.std.specs.Prelude.{Some}
 use Rattle.slices.specs.Slices.{part}
 use Rattle.slices.proofs.Laws.{part_rest}
 use Rattle.record.specs.declared.Event.TheVariants.{Change}
 use Rattle.runs.proofs.Going.{going_start, going_end, going_held, going_more}
-use Rattle.runs.specs.declared.Asked.TheVariants.{Run}
 use Rattle.runs.specs.declared.Session.{Session}
 use Rattle.runs.specs.SessionRecord.{SessionWf, of_session, did_of}
 use Rattle.runs.proofs.AnyRecord.{did_fits, session_replying}
@@ -14,8 +14,8 @@ use Rattle.runs.proofs.Fronts.{Front, front, ran}
 use Rattle.runs.proofs.Turns.{master_starts, room_left, front_fits, front_within, whole_more, ended_cut}
 use Rattle.session_run.proofs.Turns.{did_same, Turn, ran_taking, turn_idle, turn_silent, turn_reply}
 use Rattle.session_run.proofs.run_on.Goals as goal
-use Rattle.session_run.proofs.run_on.Goals.{in-Nothing, in-Run+in-Image, in-Run+in-Change+in-Reading, in-Run+in-Change+in-Conversion}
-use Rattle.session_run.proofs.run_on.Goals.{in-Run+in-Change+in-Sample, in-Run+in-Change+in-PowerOn, in-Run+in-Transact}
+use Rattle.session_run.proofs.run_on.Goals.{in-None, in-Some+in-Image, in-Some+in-Change+in-Reading, in-Some+in-Change+in-Conversion}
+use Rattle.session_run.proofs.run_on.Goals.{in-Some+in-Change+in-Sample, in-Some+in-Change+in-PowerOn, in-Some+in-Transact}
 
 pub loop-rest-init : goal.loop-rest-init
 loop-rest-init c = record { going = going_start did_of _ _ _ _; wf = record { gauge = c.requires.session_wf.gauge } }
@@ -62,7 +62,7 @@ slice_bounds-image_in-count c =
         loaded = c.loop-rest.loaded;
         gauge =
             c.loop-rest.gauge;
-      }) _ _ c.front-first.ensures) c.in-Run.is).head,
+      }) _ _ c.front-first.ensures) c.in-Some.is).head,
     )
 
 pub slice_bounds-image_in-start : goal.slice_bounds-image_in-start
@@ -73,7 +73,7 @@ slice_bounds-image_in-start c =
         loaded = c.loop-rest.loaded;
         gauge =
             c.loop-rest.gauge;
-      }) _ _ c.front-first.ensures) c.in-Run.is).head,
+      }) _ _ c.front-first.ensures) c.in-Some.is).head,
     )
 
 pub slice_bounds-image_in-end : goal.slice_bounds-image_in-end
@@ -91,7 +91,7 @@ image_in-gauge-requires c =
       gauge =
           c.loop-rest.gauge;
     }) _ _ c.front-first.ensures)
-    (c.in-Run.is ∙ ap Run c.in-Image.is))).2
+    (c.in-Some.is ∙ ap Some c.in-Image.is))).2
 
 pub read-gauge-requires : goal.read-gauge-requires
 read-gauge-requires c = c.loop-rest.invariant.wf.gauge
@@ -107,19 +107,19 @@ overflow_add-from c = omega (
   arith,
   (ran_taking
       (ran of_session (front of_session session_replying (record { loaded = c.loop-rest.loaded; gauge = c.loop-rest.gauge }) _ _ c.front-first.ensures)
-      (c.in-Run.is ∙ ap Run c.in-Transact.is))).1.near,
+      (c.in-Some.is ∙ ap Some c.in-Transact.is))).1.near,
 )
 
 pub slice_bounds-transact-count : goal.slice_bounds-transact-count
 slice_bounds-transact-count c = let x =
     ran of_session (front of_session session_replying (record { loaded = c.loop-rest.loaded; gauge = c.loop-rest.gauge }) _ _ c.front-first.ensures)
-    (c.in-Run.is ∙ ap Run c.in-Transact.is) in
+    (c.in-Some.is ∙ ap Some c.in-Transact.is) in
     omega (arith, master_starts of_session x (ran_taking x).1)
 
 pub slice_bounds-transact-start : goal.slice_bounds-transact-start
 slice_bounds-transact-start c = let x =
     ran of_session (front of_session session_replying (record { loaded = c.loop-rest.loaded; gauge = c.loop-rest.gauge }) _ _ c.front-first.ensures)
-    (c.in-Run.is ∙ ap Run c.in-Transact.is) in
+    (c.in-Some.is ∙ ap Some c.in-Transact.is) in
     omega (arith, master_starts of_session x (ran_taking x).1)
 
 pub slice_bounds-transact-end : goal.slice_bounds-transact-end
@@ -143,14 +143,14 @@ pub transact-gauge-requires : goal.transact-gauge-requires
 transact-gauge-requires c =
     let l = c.loop-rest in
     let x = ran of_session (front of_session session_replying (record { loaded = c.loop-rest.loaded; gauge = c.loop-rest.gauge }) _ _ c.front-first.ensures)
-    (c.in-Run.is ∙ ap Run c.in-Transact.is) in
+    (c.in-Some.is ∙ ap Some c.in-Transact.is) in
     record { gauge_wf = l.invariant.wf.gauge; count_in_bounds = omega (arith, x.held, room_left l.room l.used) }
 
 pub overflow_add-used : goal.overflow_add-used
 overflow_add-used c = omega (
   arith,
   (ran of_session (front of_session session_replying (record { loaded = c.loop-rest.loaded; gauge = c.loop-rest.gauge }) _ _ c.front-first.ensures)
-      (c.in-Run.is ∙ ap Run c.in-Transact.is)).held,
+      (c.in-Some.is ∙ ap Some c.in-Transact.is)).held,
   c.loop-rest.invariant.going.used_fits,
   c.loop-rest.invariant.going.same_room,
   c.well_formed,
@@ -191,35 +191,35 @@ loop-rest-preserved c =
     let l = c.loop-rest in
     let s = c.args.bytes.now in
     let g = l.invariant in
-    let m = c.match-asked in
+    let m = c.match-first in
     let before : Session = record { loaded = c.loop-rest.loaded; gauge = c.loop-rest.gauge } in
     let f : Front of_session before (length l.room - l.used) (part (length s - l.at) s l.at) c.front-first.result =
     front of_session session_replying before _ _ c.front-first.ensures in
     let code = c.code-line.ensures in
     let t : Turn before l.room l.used (part (length s - l.at) s l.at) m.loaded m.gauge m.room m.used m.line =
     elim m.branch [
-      | in-Nothing w ↦ turn_idle f w.in-Nothing.is g.wf.gauge w.loaded-is w.gauge-is w.room-is w.used-is (w.line-is ∙ code)
-      | in-Run+in-Image w ↦
-          turn_silent f w.image_in-gauge.ensures.kept w.loaded-is w.gauge-is (ran of_session f (w.in-Run.is ∙ ap Run w.in-Image.is))
+      | in-None w ↦ turn_idle f w.in-None.is g.wf.gauge w.loaded-is w.gauge-is w.room-is w.used-is (w.line-is ∙ code)
+      | in-Some+in-Image w ↦
+          turn_silent f w.image_in-gauge.ensures.kept w.loaded-is w.gauge-is (ran of_session f (w.in-Some.is ∙ ap Some w.in-Image.is))
           w.image_in-gauge.ensures.value refl w.room-is w.used-is (w.line-is ∙ code)
-      | in-Run+in-Change+in-Reading w ↦
+      | in-Some+in-Change+in-Reading w ↦
           turn_silent f w.read-gauge.ensures.kept w.loaded-is w.gauge-is
-          (ran of_session f (w.in-Run.is ∙ ap Run (w.in-Change.is ∙ ap Change w.in-Reading.is)))
+          (ran of_session f (w.in-Some.is ∙ ap Some (w.in-Change.is ∙ ap Change w.in-Reading.is)))
           w.read-gauge.ensures.value refl w.room-is w.used-is (w.line-is ∙ code)
-      | in-Run+in-Change+in-Conversion w ↦
+      | in-Some+in-Change+in-Conversion w ↦
           turn_silent f w.convert-gauge.ensures.kept w.loaded-is w.gauge-is
-          (ran of_session f (w.in-Run.is ∙ ap Run (w.in-Change.is ∙ ap Change w.in-Conversion.is)))
+          (ran of_session f (w.in-Some.is ∙ ap Some (w.in-Change.is ∙ ap Change w.in-Conversion.is)))
           w.convert-gauge.ensures.value refl w.room-is w.used-is (w.line-is ∙ code)
-      | in-Run+in-Change+in-Sample w ↦
+      | in-Some+in-Change+in-Sample w ↦
           turn_silent f w.sample-gauge.ensures.kept w.loaded-is w.gauge-is
-          (ran of_session f (w.in-Run.is ∙ ap Run (w.in-Change.is ∙ ap Change w.in-Sample.is)))
+          (ran of_session f (w.in-Some.is ∙ ap Some (w.in-Change.is ∙ ap Change w.in-Sample.is)))
           w.sample-gauge.ensures.value refl w.room-is w.used-is (w.line-is ∙ code)
-      | in-Run+in-Change+in-PowerOn w ↦
+      | in-Some+in-Change+in-PowerOn w ↦
           turn_silent f w.power_on-gauge.ensures.kept w.loaded-is w.gauge-is
-          (ran of_session f (w.in-Run.is ∙ ap Run (w.in-Change.is ∙ ap Change w.in-PowerOn.is)))
+          (ran of_session f (w.in-Some.is ∙ ap Some (w.in-Change.is ∙ ap Change w.in-PowerOn.is)))
           w.power_on-gauge.ensures.value refl w.room-is w.used-is (w.line-is ∙ code)
-      | in-Run+in-Transact w ↦
-          turn_reply f w.transact-gauge.ensures.kept w.loaded-is w.gauge-is (ran of_session f (w.in-Run.is ∙ ap Run w.in-Transact.is))
+      | in-Some+in-Transact w ↦
+          turn_reply f w.transact-gauge.ensures.kept w.loaded-is w.gauge-is (ran of_session f (w.in-Some.is ∙ ap Some w.in-Transact.is))
           (omega (arith, g.going.used_fits, g.going.same_room)) w.transact-gauge.ensures.value w.transact-gauge.ensures.replied
           w.room-is w.used-is (w.line-is ∙ w.code-line-in-Transact.ensures)
     ] in

@@ -9,8 +9,8 @@ use Rattle.slices.proofs.laid.Goals as goal
 pub returns-then-first-past : goal.returns-then-first-past
 returns-then-first-past c = let a = c.args in
     c.store.ensures
-    ∙ laid_copied a.low (a.low + length a.array.now) a.array.now a.a a.bytes.now _ _ c.greater-first.ensures
-    c.lesser-past.ensures c.if-first-past.true
+    ∙ laid_copied a.low (a.low + length a.array.now) a.array.now a.a a.bytes.now _ _ c.max-first.ensures
+    c.min-past.ensures c.if-first-past.true
 
 pub returns-else-first-past : goal.returns-else-first-past
 returns-else-first-past c = let a = c.args in

@@ -6,7 +6,8 @@ use lib.ListN.{length, drop, length-drop}
 use lib.Seq.{length-take-le}
 use Rattle.slices.specs.Slices.{part}
 use Rattle.state.specs.declared.Common.{Common}
-use Rattle.tray_record.specs.Tray.{search_of, is_found}
+use Rattle.std.specs.Prelude.{is_some}
+use Rattle.tray_record.specs.Tray.{search_of}
 use Rattle.tray_record.proofs.Fronts.{again_known, again_none, image_long}
 use Rattle.state_bytes.specs.TrayState.{tray_at}
 use Rattle.state_bytes.proofs.TrayPlaces.{held_good, held_long, count_read}
@@ -37,7 +38,7 @@ unfolding tray_at
 returns-then-image_at c = let state = c.args.state.now in
     let bytes = c.args.bytes.now in
     again_known (tray_at state) (held_good state c.requires).wf 0 bytes (sym c.image_at.ensures ∙ c.if-image_at.true)
-    (c.known.ensures ∙ ap (λ (cs : List Common). is_found (search_of cs (tray_at state).count (part 8 bytes 4))) c.commons_in-commons.ensures)
+    (c.known.ensures ∙ ap (λ (cs : List Common). is_some (search_of cs (tray_at state).count (part 8 bytes 4))) c.commons_in-commons.ensures)
 
 pub returns : goal.returns
 returns c = let state = c.args.state.now in

@@ -4,12 +4,11 @@ use Rattle.state_bytes.proofs.TrayPlaces.{with_first, first_one, first_more, fir
 use Rattle.state_bytes.proofs.commons_in.Goals as goal
 
 pub loop-i-init : goal.loop-i-init
-loop-i-init c = (omega arith, first_one 7 c.common_at-first.ensures)
+loop-i-init c = first_one 7 c.common_at-first.ensures
 
 pub loop-i-preserved : goal.loop-i-preserved
-loop-i-preserved c = let l = c.loop-i in
-    (omega (arith, c.loop-i-test.true), first_more _ _ l.i l.invariant.1 c.common_at-common.ensures)
+loop-i-preserved c = first_more _ _ c.loop-i.i c.loop-i.invariant c.common_at.ensures
 
 pub returns : goal.returns
-returns c = let e : c.loop-i.i ≡ 8 = omega (arith, c.loop-i.invariant.0, c.loop-i-test.false) in
-    c.loop-i.invariant.1 ∙ ap (with_first _ _) e ∙ first_all _ c.common_at-first.result
+returns c = let e : c.loop-i.i ≡ 8 = omega (arith, c.loop-i.auto.i-end, c.loop-i-test.false) in
+    c.loop-i.invariant ∙ ap (with_first _ _) e ∙ first_all _ c.common_at-first.result

@@ -1,10 +1,6 @@
 use mathlib.Core.Path.{◌≡◌}
-use Prim.Native.Nat.{◌-◌, ◌≤◌}
 use Rattle.state_bytes.proofs.TrayPlaces.{common_in, with_first}
 use Rattle.state_bytes.proofs.commons_in.Given as goal
 
 abbrev pub invariant-loop-i : goal.invariant-loop-i
-invariant-loop-i l = (l.i ≤ 8) × (l.commons ≡ with_first l.initial.commons (common_in l.state) l.i)
-
-abbrev pub decreases-loop-i : goal.decreases-loop-i
-decreases-loop-i l = 8 - l.i
+invariant-loop-i l = l.commons ≡ with_first l.initial.commons (common_in l.state) l.i

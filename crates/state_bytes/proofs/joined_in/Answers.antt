@@ -12,7 +12,7 @@ bounds-state-1 c = let long : length c.args.state.now ≡ 1363 = held_long c.arg
 
 pub gauge_out-requires : goal.gauge_out-requires
 gauge_out-requires c = let long : length c.args.state.now ≡ 1363 = held_long c.args.state.now c.requires.state_value in
-    omega (arith, long, c.wide-n.ensures.0, count_read c.args.state.now, c.requires.state_bound.0)
+    omega (arith, long, c.from-n.ensures, count_read c.args.state.now, c.requires.state_bound.0)
 
 pub bounds-state-1-2 : goal.bounds-state-1-2
 bounds-state-1-2 c = let long : length c.args.state.now ≡ 1363 = held_long c.args.state.now c.requires.state_value in
@@ -24,7 +24,7 @@ overflow_add-state c = let few : get_or c.gauge_out.new.room 1 0 < 8 = let state
       arith,
       c.requires.state_bound.0,
       joins_count state c.requires.state_value c.args.profile c.args.image.now
-          (c.wide-n.ensures.0 ∙ count_read state) c.requires.state_bound.0 c.requires.state_bound.1 c.image_in-gauge.ensures.value
+          (c.from-n.ensures ∙ count_read state) c.requires.state_bound.0 c.requires.state_bound.1 c.image_in-gauge.ensures.value
           c.gauge_out.ensures,
     ) in
     omega (arith, few)
@@ -35,5 +35,5 @@ bounds-state-1-3 c = let long : length c.args.state.now ≡ 1363 = held_long c.a
 
 pub returns : goal.returns
 returns c = let state = c.args.state.now in
-    joins state c.requires.state_value c.args.profile c.args.image.now (c.wide-n.ensures.0 ∙ count_read state) c.requires.state_bound.0
+    joins state c.requires.state_value c.args.profile c.args.image.now (c.from-n.ensures ∙ count_read state) c.requires.state_bound.0
     c.requires.state_bound.1 c.image_in-gauge.ensures.value c.gauge_out.ensures c.image_in-gauge.ensures.kept

@@ -1,3 +1,4 @@
+use Rattle.state_bytes.specs.State.{number_in}
 use Rattle.std.proofs.Common.{◌≡◌, ℕ, List, get_or, ◌<◌, ap, ◌∙◌, arith}
 use Rattle.bus.specs.declared.Transaction.{Transaction}
 use Rattle.state.specs.declared.Common.{Common}
@@ -15,7 +16,7 @@ stops : (t : Transaction) (master state : List ℕ) {commons : List Common} {spa
     → stop ≡ (span_at t master (tray_at state)).stop
 stops t master state ec es e = e ∙ ap (λ (p : Span). p.stop) (span_read t master state ec es)
 
-inside : (t : Transaction) (master state : List ℕ) {stop i : ℕ} → (tray_state_in state).number ≡ 0
+inside : (t : Transaction) (master state : List ℕ) {stop i : ℕ} → number_in (tray_state_in state) ≡ 0
     → stop ≡ (span_at t master (tray_at state)).stop → i < stop → i < 8
 inside t master state zero e more = omega (arith, span_inside t master (tray_at state), (held_good state zero).wf.few)
 
@@ -35,19 +36,19 @@ loop-i-init c =
     let a = c.args in
     changing_in_start a.transaction a.master.now a.state.now c.requires.state_value
     (span_read a.transaction a.master.now a.state.now c.commons_in-commons.ensures c.reached-span.ensures.value)
-    c.reached-span.ensures.inside.0 c.wide-i.ensures.0
+    c.reached-span.ensures.inside.0 c.from-i.ensures
 
 pub ran_at-requires : goal.ran_at-requires
 ran_at-requires c =
     let a = c.args in
-    let stop = stops a.transaction a.master.now a.state.now c.commons_in-commons.ensures c.reached-span.ensures.value c.wide-stop.ensures.0 in
+    let stop = stops a.transaction a.master.now a.state.now c.commons_in-commons.ensures c.reached-span.ensures.value c.from-i-end.ensures in
     changing_placed a.transaction a.master.now a.state.now c.requires.state_value c.loop-i.invariant
     (inside a.transaction a.master.now a.state.now c.requires.state_value stop c.loop-i-test.true)
 
 pub loop-i-preserved : goal.loop-i-preserved
 loop-i-preserved c =
     let a = c.args in
-    let stop = stops a.transaction a.master.now a.state.now c.commons_in-commons.ensures c.reached-span.ensures.value c.wide-stop.ensures.0 in
+    let stop = stops a.transaction a.master.now a.state.now c.commons_in-commons.ensures c.reached-span.ensures.value c.from-i-end.ensures in
     changing_in_more a.transaction a.master.now a.state.now c.requires.state_value c.loop-i.invariant
     (inside a.transaction a.master.now a.state.now c.requires.state_value stop c.loop-i-test.true) c.requires.transaction_value
     (omega (arith, stop, c.loop-i-test.true)) c.ran_at.ensures
@@ -55,6 +56,6 @@ loop-i-preserved c =
 pub returns : goal.returns
 returns c =
     let a = c.args in
-    let stop = stops a.transaction a.master.now a.state.now c.commons_in-commons.ensures c.reached-span.ensures.value c.wide-stop.ensures.0 in
+    let stop = stops a.transaction a.master.now a.state.now c.commons_in-commons.ensures c.reached-span.ensures.value c.from-i-end.ensures in
     changing_in_end a.transaction a.master.now a.state.now c.requires.state_value c.loop-i.invariant
     (omega (arith, stop, c.loop-i-test.false))

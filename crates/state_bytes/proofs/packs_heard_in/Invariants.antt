@@ -1,5 +1,4 @@
 use mathlib.Core.Path.{◌≡◌}
-use Prim.Native.Nat.{◌-◌}
 use lib.ListN.{length}
 use Rattle.tray_record.proofs.Answering.{Answering}
 use Rattle.state_bytes.specs.TrayState.{tray_at}
@@ -7,7 +6,4 @@ use Rattle.state_bytes.proofs.packs_heard_in.Given as goal
 
 abbrev pub invariant-loop-i : goal.invariant-loop-i
 invariant-loop-i l = (length l.scratch ≡ 256) × (length l.room ≡ length l.initial.room) ×
-    Answering l.transaction (tray_at l.state) l.span l.initial.room l.room l.i
-
-abbrev pub decreases-loop-i : goal.decreases-loop-i
-decreases-loop-i l = l.stop - l.i
+    Answering l.transaction (tray_at l.state) (record { first = l.first; stop = l.stop }) l.initial.room l.room l.i

@@ -1,4 +1,4 @@
-use mathlib.Core.Path.{refl, ap}
+use mathlib.Core.Path.{ap}
 use mathlib.Core.List.{[], ◌∷◌}
 use Prim.Native.Nat.{ℕ}
 use Rattle.state_bytes.specs.State.{state_bytes}
@@ -8,4 +8,4 @@ use Rattle.state_bytes.proofs.put_state.Goals as goal
 pub returns : goal.returns
 unfolding state_bytes
 returns c = let room = c.args.room.now in
-    stored_then {l = room} {i = 0} (stored_as (ap (λ (b : ℕ). 1 ∷ b ∷ []) c.flag.ensures) refl c.store.ensures) c.gauge_out.ensures
+    stored_then {l = room} {i = 0} (stored_as (ap (λ (b : ℕ). 1 ∷ b ∷ []) c.flag.ensures) c.store_array.ensures) c.gauge_out.ensures

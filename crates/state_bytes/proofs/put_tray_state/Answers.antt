@@ -1,4 +1,4 @@
-use mathlib.Core.Path.{refl, ap}
+use mathlib.Core.Path.{ap}
 use mathlib.Core.List.{[], ◌∷◌}
 use Prim.Native.Nat.{ℕ}
 use Rattle.state_bytes.specs.TrayState.{tray_state_bytes}
@@ -8,4 +8,4 @@ use Rattle.state_bytes.proofs.put_tray_state.Goals as goal
 pub returns : goal.returns
 unfolding tray_state_bytes
 returns c = stored_then {l = c.args.room.now} {i = 0}
-    (stored_as (ap (λ (b : ℕ). 129 ∷ c.args.tray.count ∷ b ∷ []) c.flag.ensures) refl c.store.ensures) c.places_out.ensures
+    (stored_as (ap (λ (b : ℕ). 129 ∷ c.args.tray.count ∷ b ∷ []) c.flag.ensures) c.store_array.ensures) c.places_out.ensures

@@ -9,14 +9,14 @@ use Rattle.state_bytes.proofs.tray_at.Goals as goal
 
 pub loop-i-init : goal.loop-i-init
 unfolding filled
-loop-i-init c = (omega arith, refl)
+loop-i-init c = refl
 
 pub loop-i-preserved : goal.loop-i-preserved
-loop-i-preserved c = (omega (arith, c.loop-i-test.true), filled_more _ _ c.loop-i.i c.loop-i.invariant.1 c.gauge_at-gauge.ensures)
+loop-i-preserved c = filled_more _ _ c.loop-i.i c.loop-i.invariant c.gauge_at-gauge.ensures
 
 pub returns : goal.returns
 unfolding tray_at
 returns c = let b = c.args.bytes.now in
-    let e : c.loop-i.i ≡ 8 = omega (arith, c.loop-i.invariant.0, c.loop-i-test.false) in
-    c.loop-i.invariant.1 ∙ ap (filled _ _) e
+    let e : c.loop-i.i ≡ 8 = omega (arith, c.loop-i.auto.i-end, c.loop-i-test.false) in
+    c.loop-i.invariant ∙ ap (filled _ _) e
     ∙ filled_all (get_or b 1 0) (λ j. gauge_layout.at b (3 + j * 170)) c.empty-tray.ensures.value c.flag_at.ensures

@@ -1,8 +1,21 @@
-use Rattle.streams.proofs.Moving.{stays, move_more}
+-- `streams::keep_rest` meets its contract: the library's copy within a slice is what was to be put at the front.
+use mathlib.Core.Path.{refl, sym, ap, ◌∙◌}
+use mathlib.Core.List.{◌++◌}
+use Prim.Native.Nat.{ℕ, ◌-◌}
+use native.Mathlib.Nat.{zero-add}
+use native.Mathlib.Omega.{arith}
+use lib.ListN.{drop}
+use Rattle.slices.specs.Slices.{part}
+use Rattle.slices.proofs.Laws.{put_front, part_length}
 use Rattle.streams.proofs.keep_rest.Goals as goal
 
-pub returns-then-from-eq0 : goal.returns-then-from-eq0
-returns-then-from-eq0 c = stays c.args.room.now c.if-from-eq0.true c.requires
-
-pub loop-i-preserved : goal.loop-i-preserved
-loop-i-preserved c = move_more c.loop-i.invariant c.requires c.loop-i-test.true
+pub returns : goal.returns
+returns c =
+    let room = c.args.room.now in
+    let n = c.args.end - c.args.from in
+    let size = part_length n room c.args.from (omega (arith, c.requires, c.if-end-from.false)) in
+    let front = put_front room (part n room c.args.from) (omega (arith, size, c.requires)) in
+    record {
+      counted = refl;
+      written = c.copy_within.ensures.after ∙ sym (front ∙ ap (λ (k : ℕ). part n room c.args.from ++ drop k room) (size ∙ sym (zero-add n)));
+    }

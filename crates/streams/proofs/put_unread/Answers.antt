@@ -1,12 +1,10 @@
 -- `streams::put_unread` meets its contract, by joining its pieces.
-use mathlib.Core.Path.{refl, ◌∙◌}
-use native.Mathlib.Nat.{zero-add}
+use borrow.Author.Rules.{rules}
 use Rattle.digits.proofs.Laws.{then}
 use Rattle.streams.specs.Streams.{unread_text}
+use Rattle.streams.proofs.Pages.{said_of_error}
 use Rattle.streams.proofs.put_unread.Goals as goal
 
 pub returns : goal.returns
 unfolding unread_text
-returns c =
-    let w = then c.put_bytes-next.ensures c.put_bytes-count.ensures in
-    record { stream = refl; counted = w.onward ∙ zero-add _; written = w.written }
+returns c = said_of_error c.new-page.ensures (then c.put_bytes.ensures c.put_bytes-2.ensures) (search rules)

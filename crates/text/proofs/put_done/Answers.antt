@@ -6,5 +6,5 @@ use Rattle.text.proofs.put_done.Goals as goal
 pub returns : goal.returns
 returns c =
     let kind = c.args.kind in
-    let small = c.put_entry-b.ensures.small in
-    done kind small c.put_bytes-a.ensures (rw (c.requires.table_value, paired kind small) at c.put_entry-b.ensures.writing) c.put_bytes.ensures
+    let small = c.put_entry.ensures.small in
+    done kind small c.put_bytes.ensures (rw (c.requires.table_value, paired kind small) at c.put_entry.ensures.writing) c.put_bytes-2.ensures

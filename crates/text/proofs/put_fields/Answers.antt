@@ -5,7 +5,7 @@ use Rattle.text.proofs.put_fields.Goals as goal
 
 pub returns : goal.returns
 returns c = let few = three c.args.answer (omega (arith, c.requires)) in
-    then c.put_byte-a.ensures
-    (then c.put_kind-b.ensures
-    (then c.put_byte-c.ensures
-    (then (narrow c.put_decimal-d.ensures few) c.put_byte.ensures)))
+    then c.put_byte.ensures
+    (then c.put_kind.ensures
+    (then c.put_byte-2.ensures
+    (then (narrow c.put_decimal.ensures few) c.put_byte-3.ensures)))

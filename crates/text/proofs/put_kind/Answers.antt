@@ -17,5 +17,5 @@ returns c =
     let kind = c.args.kind in
     let table = c.requires.table_value in
     rw (ne_eqb _ _ c.if-answer-eq2.false)
-    (then (rw (table, paired (kind / 256) (omega (arith, c.requires.kind_bound))) at c.put_entry-next.ensures.writing)
-    (rw (table, paired (kind % 256) (omega arith)) at c.put_entry.ensures.writing))
+    (then (rw (table, paired (kind / 256) (omega (arith, c.requires.kind_bound))) at c.put_entry.ensures.writing)
+    (rw (table, paired (kind % 256) (omega arith)) at c.put_entry-2.ensures.writing))

@@ -7,9 +7,9 @@ use Rattle.text.proofs.put_refused_image.Goals as goal
 pub returns : goal.returns
 returns c =
     wider {m = 37 + (5 + (6 + (5 + (2 + 50))))}
-    (then c.put_bytes-a.ensures
-    (then c.put_decimal-b.ensures
-    (then c.put_bytes-c.ensures
-    (then c.put_decimal-d.ensures
-    (then c.put_bytes-e.ensures c.put_meaning.ensures)))))
+    (then c.put_bytes.ensures
+    (then c.put_decimal.ensures
+    (then c.put_bytes-2.ensures
+    (then c.put_decimal-2.ensures
+    (then c.put_bytes-3.ensures c.put_meaning.ensures)))))
     (omega arith)

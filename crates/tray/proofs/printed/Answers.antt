@@ -1,19 +1,14 @@
 -- `tray::printed` meets its contract: the text of what was read is the text of the whole input.
-use mathlib.Core.Path.{◌≡◌, refl, ap, ◌∙◌}
-use mathlib.Core.List.{◌++◌}
-use native.Mathlib.Omega.{arith}
-use lib.ListN.{length}
+use Rattle.tray_record.specs.Tray.{empty_tray, tray_did}
 use Rattle.tray_run.specs.TrayRun.{tray_lines}
-use Rattle.text.specs.Text.{header_text, over_text}
-use Rattle.text.proofs.Printed.{over_alike}
-use Rattle.streams.proofs.Laws.{cut, seen}
-use Rattle.tray.specs.Tray.{tray_text}
+use Rattle.text.specs.Session.{session_speech}
+use Rattle.text.proofs.Printed.{session_alike}
 use Rattle.tray.proofs.printed.Goals as goal
 
-pub returns-clause-by_index : goal.returns-clause-by_index
-returns-clause-by_index c =
-    let size : length c.args.input.now ≡ 32769 = omega arith in
-    let read = ap tray_text (cut c.within-n.ensures) in
-    λ s front.
-    rw (c.if-got.false, ← read ∙ seen tray_text (header_text ++ over_text) 32768 (over_alike tray_lines) size front)
-    (record { stream = refl; counted = c.put_session-count.ensures.counted; written = c.put_session-count.ensures.written })
+pub returns : goal.returns
+unfolding tray_lines
+returns c =
+    record {
+      by_index = c.put_answer.ensures.by_index (session_speech tray_did empty_tray) (λ bytes room said after told. told)
+          (rw c.requires.input_room (session_alike tray_did empty_tray));
+    }

@@ -1,16 +1,15 @@
 use native.Mathlib.Omega.{arith}
-use Rattle.tray_record.proofs.Answering.{heard_first, heard_further}
 use borrow.Author.Rules.{rules}
+use lib.ListN.{drop}
+use Rattle.tray_record.proofs.Answering.{in_bytes}
 use Rattle.tray_record.proofs.heard.Goals as goal
 
-pub returns-then-first : goal.returns-then-first
-returns-then-first c = let a = c.args in
-    let h = heard_first a.transaction a.common a.label a.meter c.selecting-chosen.ensures a.scratch.now a.room.now
-    c.if-first.true c.replied.ensures (λ j. omega (arith, c.type_inv.room j)) in
-    record { room_after = h.0; aside = h.1.0; bytes = h.1.1 }
+pub returns-then-first-clause-bytes : goal.returns-then-first-clause-bytes
+returns-then-first-clause-bytes c = let a = c.args in
+    in_bytes a.transaction a.common a.label a.meter c.selecting-chosen.ensures (drop a.transaction.count a.room.now) c.replied.ensures
+    (λ j. omega (arith, c.type_inv.room j))
 
-pub returns-else-first : goal.returns-else-first
-returns-else-first c = let a = c.args in
-    let h = heard_further a.transaction a.common a.label a.meter c.selecting-chosen.ensures a.scratch.now a.room.now
-    c.if-first.false c.replied-else-first.ensures (search rules) c.wire.ensures in
-    record { room_after = h.0; aside = h.1.0; bytes = h.1.1 }
+pub returns-else-first-clause-bytes : goal.returns-else-first-clause-bytes
+returns-else-first-clause-bytes c = let a = c.args in
+    in_bytes a.transaction a.common a.label a.meter c.selecting-chosen.ensures (drop a.transaction.count a.scratch.now)
+    c.replied-else-first.ensures (search rules)

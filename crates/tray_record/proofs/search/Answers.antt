@@ -1,31 +1,26 @@
-use mathlib.Core.Path.{◌≡◌, refl, sym, ap, ◌∙◌}
-use Prim.Native.Nat.{◌+◌, ◌-◌}
-use native.Mathlib.Omega.{arith}
-use Rattle.bus.proofs.Laws.{differs, agrees, ended}
-use Rattle.tray_record.specs.Tray.{no_gauge, search_from, search_of}
-use Rattle.tray_record.proofs.Laws.{search_skip, search_hit}
+-- `tray_record::search` meets its contract: the bytes of an address are compared one by one, and the first that differs goes on to the next slot.
+use mathlib.Core.Path.{◌∙◌}
 use borrow.Author.Rules.{rules}
+use Rattle.bus.proofs.Laws.{differs, agrees, ended}
+use Rattle.tray_record.proofs.Laws.{search_more}
 use Rattle.tray_record.proofs.search.Goals as goal
-
-pub slots-init : goal.slots-init
-unfolding search_of
-slots-init c = let e : c.wide-n.result - 0 ≡ c.args.count = omega arith in
-    (omega arith, refl, ap (search_from c.args.commons no_gauge.common c.args.address.now 0) e)
 
 pub slots-preserved : goal.slots-preserved
 slots-preserved c = let a = c.args in
     let s = c.slots in
     let l = c.loop-j in (
-      omega arith,
-      l.invariant.1,
-      search_skip a.commons a.address.now s.i _ c.slots-test.true _ (search rules)
-          (sym (differs _ _ l.j (search rules) l.invariant.2 (search rules) c.loop-j-test.false)) ∙ s.invariant.2,
+      l.invariant.0,
+      search_more a.commons a.address.now s.slot a.count c.slots-test.true _ (search rules) c.from.ensures
+          (differs _ _ l.j (search rules) l.invariant.1 (search rules) c.if-own-j.true) ∙ s.invariant.1,
     )
 
-pub returns-then-j-eq8 : goal.returns-then-j-eq8
-returns-then-j-eq8 c = let a = c.args in
+pub loop-j-preserved : goal.loop-j-preserved
+loop-j-preserved c = let l = c.loop-j in
+    (l.invariant.0, agrees _ _ l.j (search rules) l.invariant.1 (search rules) c.if-own-j.false)
+
+pub returns-after-loop-j : goal.returns-after-loop-j
+returns-after-loop-j c = let a = c.args in
     let s = c.slots in
     let l = c.loop-j in
-    search_hit a.commons a.address.now s.i _ c.slots-test.true _ (search rules)
-    (sym (ended _ _ (l.j + 1) (search rules) (agrees _ _ l.j (search rules) l.invariant.2 (search rules) c.loop-j-test.true) (search rules)))
-    ∙ s.invariant.2
+    search_more a.commons a.address.now s.slot a.count c.slots-test.true _ (search rules) c.from.ensures
+    (ended _ _ l.j (search rules) l.invariant.1 (search rules)) ∙ s.invariant.1

@@ -1,12 +1,8 @@
 use mathlib.Core.Path.{◌≡◌}
-use Prim.Native.Nat.{◌-◌, ◌≤◌}
 use lib.ListN.{length}
 use Rattle.tray_record.specs.Wire.{and_bytes}
 use Rattle.tray_record.proofs.Anded.{and_from}
 use Rattle.tray_record.proofs.wire.Given as goal
 
 abbrev pub invariant-loop-i : goal.invariant-loop-i
-invariant-loop-i l = (l.i ≤ length l.reply) × (length l.room ≡ length l.initial.room) × (and_from l.i l.room l.reply ≡ and_bytes l.initial.room l.reply)
-
-abbrev pub decreases-loop-i : goal.decreases-loop-i
-decreases-loop-i l = length l.reply - l.i
+invariant-loop-i l = (length l.room ≡ length l.initial.room) × (and_from l.i l.room l.reply ≡ and_bytes l.initial.room l.reply)

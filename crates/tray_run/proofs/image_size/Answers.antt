@@ -4,4 +4,4 @@ use Rattle.tray_run.proofs.TakeOut.{beyond}
 use Rattle.tray_run.proofs.image_size.Goals as goal
 
 pub returns : goal.returns
-returns c = sym (beyond c.args.tray c.args.slot (omega (arith, c.wide-i.ensures.0, c.if-i-lt8.false, c.sized.ensures.2)))
+returns c = sym (beyond c.args.tray c.args.slot (omega (arith, c.from-i.ensures, c.if-i-lt8.false, c.sized.ensures.2)))

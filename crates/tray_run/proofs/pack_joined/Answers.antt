@@ -7,5 +7,5 @@ use Rattle.tray_run.proofs.pack_joined.Goals as goal
 
 pub returns-clause-kept : goal.returns-clause-kept
 returns-clause-kept c = let image = c.image_in-gauge.ensures in
-    subst TrayWf (sym (joined_at_lem c.args.before c.wide-n.ensures.0 image.value))
+    subst TrayWf (sym (joined_at_lem c.args.before c.from-n.ensures image.value))
     (join_wf c.args.before _ c.requires.0 c.requires.1 (subst GaugeWf image.value image.kept))

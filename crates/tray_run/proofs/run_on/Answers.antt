@@ -3,11 +3,11 @@ use Prim.Native.Nat.{◌+◌, ◌-◌, ◌<◌}
 use native.Mathlib.Omega.{arith}
 use lib.Dec.{eqb}
 use lib.ListN.{length}
+use Rattle.std.specs.Prelude.{Some}
 use Rattle.slices.specs.Slices.{part}
 use Rattle.slices.proofs.Laws.{part_rest}
 use Rattle.record.specs.declared.Event.TheVariants.{Change}
 use Rattle.runs.proofs.Going.{going_held, going_more}
-use Rattle.runs.specs.declared.Asked.TheVariants.{Run}
 use Rattle.runs.proofs.Fronts.{Front, front, ran}
 use Rattle.runs.proofs.Turns.{master_starts, room_left, front_fits, front_within, whole_more, ended_cut}
 use Rattle.tray_record.specs.Tray.{no_gauge, of_tray, tray_did, TrayWf}
@@ -21,8 +21,8 @@ use Rattle.tray_run.proofs.Turns.{turn_idle, turn_image, turn_meter, turn_powere
 use Rattle.tray_run.proofs.run_on.Goals as goal
 use Rattle.tray_run.proofs.run_on.Goals.{In-loop-scratch, After-front-first}
 use Rattle.tray_run.proofs.run_on.Goals.{then-image_at, else-image_at}
-use Rattle.tray_run.proofs.run_on.Goals.{in-Nothing, in-Run+in-Image, in-Run+in-Change+in-Reading, in-Run+in-Change+in-Conversion}
-use Rattle.tray_run.proofs.run_on.Goals.{in-Run+in-Change+in-Sample, in-Run+in-Change+in-PowerOn, in-Run+in-Transact}
+use Rattle.tray_run.proofs.run_on.Goals.{in-None, in-Some+in-Image, in-Some+in-Change+in-Reading, in-Some+in-Change+in-Conversion}
+use Rattle.tray_run.proofs.run_on.Goals.{in-Some+in-Change+in-Sample, in-Some+in-Change+in-PowerOn, in-Some+in-Transact}
 use Rattle.tray_run.proofs.run_on.Goals.{then-changing, else-changing+else-loop-i-test}
 
 -- some bytes are left where the loop goes on
@@ -65,11 +65,11 @@ overflow_add-at c = omega (
 
 pub slice_bounds-pack_joined-count : goal.slice_bounds-pack_joined-count
 slice_bounds-pack_joined-count c =
-    omega (arith, (ran of_tray (at_front (goal.at.slice_bounds-pack_joined-count c).After-front-first) (c.in-Run.is ∙ ap Run c.in-Image.is)).head)
+    omega (arith, (ran of_tray (at_front (goal.at.slice_bounds-pack_joined-count c).After-front-first) (c.in-Some.is ∙ ap Some c.in-Image.is)).head)
 
 pub slice_bounds-pack_joined-start : goal.slice_bounds-pack_joined-start
 slice_bounds-pack_joined-start c =
-    omega (arith, (ran of_tray (at_front (goal.at.slice_bounds-pack_joined-start c).After-front-first) (c.in-Run.is ∙ ap Run c.in-Image.is)).head)
+    omega (arith, (ran of_tray (at_front (goal.at.slice_bounds-pack_joined-start c).After-front-first) (c.in-Some.is ∙ ap Some c.in-Image.is)).head)
 
 pub slice_bounds-pack_joined-end : goal.slice_bounds-pack_joined-end
 slice_bounds-pack_joined-end c =
@@ -80,17 +80,17 @@ slice_bounds-pack_joined-end c =
     )
 
 pub pack_joined-tray-requires : goal.pack_joined-tray-requires
-pack_joined-tray-requires c = let x = ran of_tray (at_front (goal.at.pack_joined-tray-requires c).After-front-first) (c.in-Run.is ∙ ap Run c.in-Image.is) in
+pack_joined-tray-requires c = let x = ran of_tray (at_front (goal.at.pack_joined-tray-requires c).After-front-first) (c.in-Some.is ∙ ap Some c.in-Image.is) in
     (c.loop-scratch.invariant.0.wf, (ran_taking x).1, (ran_taking x).2)
 
 pub slice_bounds-master-count : goal.slice_bounds-master-count
 slice_bounds-master-count c = let x =
-    (ran of_tray (at_front (goal.at.slice_bounds-master-count c).After-front-first) (c.in-Run.is ∙ ap Run c.in-Transact.is)) in
+    (ran of_tray (at_front (goal.at.slice_bounds-master-count c).After-front-first) (c.in-Some.is ∙ ap Some c.in-Transact.is)) in
     omega (arith, master_starts of_tray x (ran_taking x).1)
 
 pub slice_bounds-master-start : goal.slice_bounds-master-start
 slice_bounds-master-start c = let x =
-    (ran of_tray (at_front (goal.at.slice_bounds-master-start c).After-front-first) (c.in-Run.is ∙ ap Run c.in-Transact.is)) in
+    (ran of_tray (at_front (goal.at.slice_bounds-master-start c).After-front-first) (c.in-Some.is ∙ ap Some c.in-Transact.is)) in
     omega (arith, master_starts of_tray x (ran_taking x).1)
 
 pub slice_bounds-master-end : goal.slice_bounds-master-end
@@ -104,19 +104,19 @@ slice_bounds-master-end c =
 pub unheard-requires : goal.unheard-requires
 unheard-requires c = omega (
   arith,
-  (ran of_tray (at_front (goal.at.unheard-requires c).After-front-first) (c.in-Run.is ∙ ap Run c.in-Transact.is)).held,
+  (ran of_tray (at_front (goal.at.unheard-requires c).After-front-first) (c.in-Some.is ∙ ap Some c.in-Transact.is)).held,
   room_left c.loop-scratch.room c.loop-scratch.used,
 )
 
 pub heard-requires : goal.heard-requires
 heard-requires c = let l = c.loop-scratch in
     let k = c.loop-i in
-    let x = (ran of_tray (at_front (goal.at.heard-requires c).After-front-first) (c.in-Run.is ∙ ap Run c.in-Transact.is)) in
+    let x = (ran of_tray (at_front (goal.at.heard-requires c).After-front-first) (c.in-Some.is ∙ ap Some c.in-Transact.is)) in
     record {
       meter_wf = (pack_wf l.tray k.i no_gauge.common no_gauge.label _ l.invariant.0.wf (omega (
         arith,
         c.loop-i-test.true,
-        c.wide-stop.ensures.0,
+        c.from-stop.ensures,
         c.reached-span.ensures.inside.1,
         c.loop-scratch.invariant.0.wf.few,
       ))).meter;
@@ -130,22 +130,22 @@ loop-i-preserved c = let l = c.loop-scratch in
     let x = c.heard in (
       x.auto.scratch ∙ k.invariant.0,
       x.auto.room ∙ k.invariant.1,
-      answering_more _ l.tray k.invariant.2 (omega (arith, c.loop-i-test.true, c.wide-stop.ensures.0))
+      answering_more _ l.tray k.invariant.2 (omega (arith, c.loop-i-test.true, c.from-stop.ensures))
           (pack_is l.tray k.i _ _ _ l.invariant.0.wf (omega (
             arith,
             c.loop-i-test.true,
-            c.wide-stop.ensures.0,
+            c.from-stop.ensures,
             c.reached-span.ensures.inside.1,
             c.loop-scratch.invariant.0.wf.few,
           )))
-          (ap (eqb k.i) c.wide.ensures.0) x.ensures.room_after x.ensures.bytes,
+          (ap (eqb k.i) c.from.ensures) x.ensures.room_after x.ensures.bytes,
     )
 
 pub unheard-requires-else-changing : goal.unheard-requires-else-changing
 unheard-requires-else-changing c =
     omega (
       arith,
-      (ran of_tray (at_front (goal.at.unheard-requires-else-changing c).After-front-first) (c.in-Run.is ∙ ap Run c.in-Transact.is)).held,
+      (ran of_tray (at_front (goal.at.unheard-requires-else-changing c).After-front-first) (c.in-Some.is ∙ ap Some c.in-Transact.is)).held,
       room_left c.loop-scratch.room c.loop-scratch.used,
       c.loop-i.invariant.1,
     )
@@ -182,7 +182,7 @@ pub loop-scratch-preserved : goal.loop-scratch-preserved
 loop-scratch-preserved c =
     let l = c.loop-scratch in
     let s = c.args.bytes.now in
-    let m = c.match-asked in
+    let m = c.match-first in
     let g = l.invariant.0 in
     let sized = l.invariant.1 in
     let f = at_front (goal.at.loop-scratch-preserved c).After-front-first in
@@ -191,23 +191,23 @@ loop-scratch-preserved c =
     let code = c.code-line.ensures in
     let turned : Turn l.tray l.room l.used rest m.tray m.room m.used m.line =
     elim m.branch [
-      | in-Nothing w ↦ turn_idle f g.wf w.in-Nothing.is w.tray-is w.room-is w.used-is (w.line-is ∙ code)
-      | in-Run+in-Image w ↦
-          turn_image f g.wf (ran of_tray f (w.in-Run.is ∙ ap Run w.in-Image.is)) w.pack_joined-tray.ensures.kept w.pack_joined-tray.ensures.value
+      | in-None w ↦ turn_idle f g.wf w.in-None.is w.tray-is w.room-is w.used-is (w.line-is ∙ code)
+      | in-Some+in-Image w ↦
+          turn_image f g.wf (ran of_tray f (w.in-Some.is ∙ ap Some w.in-Image.is)) w.pack_joined-tray.ensures.kept w.pack_joined-tray.ensures.value
           w.tray-is w.room-is w.used-is (w.line-is ∙ code)
-      | in-Run+in-Change+in-Reading w ↦
-          turn_meter f g.wf (ran of_tray f (w.in-Run.is ∙ ap Run (w.in-Change.is ∙ ap Change w.in-Reading.is)))
+      | in-Some+in-Change+in-Reading w ↦
+          turn_meter f g.wf (ran of_tray f (w.in-Some.is ∙ ap Some (w.in-Change.is ∙ ap Change w.in-Reading.is)))
           slot _ (reading_by _ _) _ w.read-next.ensures.kept w.read-next.ensures.value w.tray-is w.room-is w.used-is (w.line-is ∙ code)
-      | in-Run+in-Change+in-Conversion w ↦
-          turn_meter f g.wf (ran of_tray f (w.in-Run.is ∙ ap Run (w.in-Change.is ∙ ap Change w.in-Conversion.is)))
+      | in-Some+in-Change+in-Conversion w ↦
+          turn_meter f g.wf (ran of_tray f (w.in-Some.is ∙ ap Some (w.in-Change.is ∙ ap Change w.in-Conversion.is)))
           slot _ (conversion_by _) _ w.convert-next.ensures.kept w.convert-next.ensures.value w.tray-is w.room-is w.used-is (w.line-is ∙ code)
-      | in-Run+in-Change+in-Sample w ↦
-          turn_meter f g.wf (ran of_tray f (w.in-Run.is ∙ ap Run (w.in-Change.is ∙ ap Change w.in-Sample.is)))
+      | in-Some+in-Change+in-Sample w ↦
+          turn_meter f g.wf (ran of_tray f (w.in-Some.is ∙ ap Some (w.in-Change.is ∙ ap Change w.in-Sample.is)))
           slot _ (sample_by _ _) _ w.sample-next.ensures.kept w.sample-next.ensures.value w.tray-is w.room-is w.used-is (w.line-is ∙ code)
-      | in-Run+in-Change+in-PowerOn w ↦
-          turn_powered f g.wf (ran of_tray f (w.in-Run.is ∙ ap Run (w.in-Change.is ∙ ap Change w.in-PowerOn.is)))
+      | in-Some+in-Change+in-PowerOn w ↦
+          turn_powered f g.wf (ran of_tray f (w.in-Some.is ∙ ap Some (w.in-Change.is ∙ ap Change w.in-PowerOn.is)))
           slot refl _ _ w.restarted-next.ensures.kept w.powered-label.ensures w.restarted-next.ensures.value w.tray-is w.room-is w.used-is (w.line-is ∙ code)
-      | in-Run+in-Transact w ↦
+      | in-Some+in-Transact w ↦
           let t = w.in-Transact.transaction in
           let end = c.front-first.result.used in
           let left : Transacted l.tray l.room l.used t (part (end - (4 + t.start)) rest (4 + t.start)) w.if-changing.tray w.if-changing.room =
@@ -216,21 +216,21 @@ loop-scratch-preserved c =
                 transacted_changed (sym w.changing.ensures ∙ o.if-changing.true) o.changed-tray.ensures.kept o.changed-tray.ensures.value o.unheard.ensures
                 o.tray-is o.room-is
             | else-changing+else-loop-i-test o ↦
-                transacted_read g.wf (sym w.changing.ensures ∙ o.if-changing.false) o.reached-span.ensures.value o.wide-stop.ensures.0
+                transacted_read g.wf (sym w.changing.ensures ∙ o.if-changing.false) o.reached-span.ensures.value o.from-stop.ensures
                 o.loop-i.invariant.2 o.loop-i-test.false o.unheard-else-changing.ensures o.tray-is o.room-is
           ] in
-          turn_transact f g.wf (ran of_tray f (w.in-Run.is ∙ ap Run w.in-Transact.is)) (omega (arith, g.going.used_fits, g.going.same_room))
+          turn_transact f g.wf (ran of_tray f (w.in-Some.is ∙ ap Some w.in-Transact.is)) (omega (arith, g.going.used_fits, g.going.same_room))
           left w.tray-is w.room-is w.used-is (w.line-is ∙ w.code-line-in-Transact.ensures)
     ] in
     let kept : length m.scratch ≡ 256 =
     elim m.branch [
-      | in-Nothing w ↦ ap length w.scratch-is ∙ sized
-      | in-Run+in-Image w ↦ ap length w.scratch-is ∙ sized
-      | in-Run+in-Change+in-Reading w ↦ ap length w.scratch-is ∙ sized
-      | in-Run+in-Change+in-Conversion w ↦ ap length w.scratch-is ∙ sized
-      | in-Run+in-Change+in-Sample w ↦ ap length w.scratch-is ∙ sized
-      | in-Run+in-Change+in-PowerOn w ↦ ap length w.scratch-is ∙ sized
-      | in-Run+in-Transact w ↦
+      | in-None w ↦ ap length w.scratch-is ∙ sized
+      | in-Some+in-Image w ↦ ap length w.scratch-is ∙ sized
+      | in-Some+in-Change+in-Reading w ↦ ap length w.scratch-is ∙ sized
+      | in-Some+in-Change+in-Conversion w ↦ ap length w.scratch-is ∙ sized
+      | in-Some+in-Change+in-Sample w ↦ ap length w.scratch-is ∙ sized
+      | in-Some+in-Change+in-PowerOn w ↦ ap length w.scratch-is ∙ sized
+      | in-Some+in-Transact w ↦
           let left : length w.if-changing.scratch ≡ 256 =
           elim w.if-changing.branch [
             | then-changing o ↦ ap length o.scratch-is ∙ sized

@@ -9,9 +9,6 @@ use Rattle.tray_run.proofs.run_on.Given as goal
 abbrev pub invariant-loop-i : goal.invariant-loop-i
 invariant-loop-i l = (length l.scratch ≡ 256) × (length l.left ≡ length l.initial.left) × Answering l.transaction l.tray l.span l.initial.left l.left l.i
 
-abbrev pub decreases-loop-i : goal.decreases-loop-i
-decreases-loop-i l = l.stop - l.i
-
 abbrev pub invariant-loop-scratch : goal.invariant-loop-scratch
 invariant-loop-scratch l = Stands l.initial.tray l.bytes l.initial.room l.initial.answers l.tray l.at l.used l.lines l.room l.answers × (length l.scratch ≡ 256)
 

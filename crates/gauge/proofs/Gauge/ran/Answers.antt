@@ -1,32 +1,28 @@
-use mathlib.Core.Path.{refl, ap, ◌∙◌}
-use Rattle.bus.specs.declared.Command.TheVariants.{Write, Copy, Recall, Lock}
+use Rattle.std.proofs.Common.{ap, ◌∙◌, arith}
+use Rattle.bus.specs.declared.Command.TheVariants.{Write}
 use Rattle.gauge.specs.Gauge.{written_of}
-use Rattle.gauge.specs.Act.{ran_of}
 use Rattle.gauge.proofs.Acting.{ran_by_lem, bytes_after}
+use Rattle.std.proofs.lemmas.Grind.{common_steps}
+use Rattle.gauge.specs.Act.{ran_of}
 use Rattle.gauge.proofs.Gauge.ran.Goals as goal
 
-pub returns-in-Read : goal.returns-in-Read
+pub returns-in-Write-clause-value : goal.returns-in-Write-clause-value
+returns-in-Write-clause-value c = let a = c.args in
+    ran_by_lem Write a.self _ a.transaction a.master.now _ c.in-Write.is c.from-a.ensures
+    (c.written.ensures.value ∙ ap (written_of a.self _) (bytes_after a.master.now _ a.transaction.from _ c.from.ensures c.min-from.ensures))
+
+pub returns-in-Copy-clause-value : goal.returns-in-Copy-clause-value
 unfolding ran_of
-returns-in-Read c = record { value = rw c.in-Read.is refl; kept = c.requires }
+returns-in-Copy-clause-value c = grind (arith, common_steps)
 
-pub returns-in-Write : goal.returns-in-Write
-returns-in-Write c = let a = c.args in
-    record {
-      value = ran_by_lem Write a.self _ a.transaction a.master.now _ c.in-Write.is c.wide-a.ensures.0
-          (c.written.ensures.value ∙ ap (written_of a.self _)
-          (bytes_after a.master.now _ a.transaction.from _ c.wide.ensures.0 c.lesser-from.ensures));
-      kept = c.written.ensures.kept;
-    }
-
-pub returns-in-Copy : goal.returns-in-Copy
-returns-in-Copy c = record { value = ran_by_lem Copy _ _ _ _ _ c.in-Copy.is c.wide-a.ensures.0 c.copied.ensures.value; kept = c.copied.ensures.kept }
-
-pub returns-in-Recall : goal.returns-in-Recall
-returns-in-Recall c = record { value = ran_by_lem Recall _ _ _ _ _ c.in-Recall.is c.wide-a.ensures.0 c.recalled.ensures.value; kept = c.recalled.ensures.kept }
-
-pub returns-in-Lock : goal.returns-in-Lock
-returns-in-Lock c = record { value = ran_by_lem Lock _ _ _ _ _ c.in-Lock.is c.wide-a.ensures.0 c.locked.ensures.value; kept = c.locked.ensures.kept }
-
-pub returns-in-Nothing : goal.returns-in-Nothing
+pub returns-in-Recall-clause-value : goal.returns-in-Recall-clause-value
 unfolding ran_of
-returns-in-Nothing c = record { value = rw c.in-Nothing.is refl; kept = c.requires }
+returns-in-Recall-clause-value c = grind (arith, common_steps)
+
+pub returns-in-Lock-clause-value : goal.returns-in-Lock-clause-value
+unfolding ran_of
+returns-in-Lock-clause-value c = grind (arith, common_steps)
+
+pub returns-in-Read-clause-value : goal.returns-in-Read-clause-value
+unfolding ran_of
+returns-in-Read-clause-value c = grind (arith, common_steps)

@@ -1,6 +1,7 @@
+use borrow.Author.Rules.{rules}
 use Rattle.gauge.specs.Gauge.{reading_of}
 use Rattle.gauge.proofs.Gauge.read.Goals as goal
 
-pub returns : goal.returns
+pub returns-clause-value : goal.returns-clause-value
 unfolding reading_of
-returns c = record { value = simp c.read-measured.ensures.value; kept = record { meter = c.read-measured.ensures.kept } }
+returns-clause-value c = search rules

@@ -1,10 +1,7 @@
+use borrow.Author.Rules.{rules}
 use Rattle.gauge.specs.Gauge.{recalled_of}
 use Rattle.gauge.proofs.Gauge.recalled.Goals as goal
 
-pub returns : goal.returns
+pub returns-clause-value : goal.returns-clause-value
 unfolding recalled_of
-returns c = record {
-  value = simp (c.meter_recalled-meter.ensures.value, c.recalled-label.ensures);
-  kept =
-      record { meter = c.meter_recalled-meter.ensures.kept };
-}
+returns-clause-value c = search rules

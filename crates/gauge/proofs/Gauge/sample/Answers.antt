@@ -1,6 +1,7 @@
+use borrow.Author.Rules.{rules}
 use Rattle.gauge.specs.Gauge.{sampling_of}
 use Rattle.gauge.proofs.Gauge.sample.Goals as goal
 
-pub returns : goal.returns
+pub returns-clause-value : goal.returns-clause-value
 unfolding sampling_of
-returns c = record { value = simp c.sample-sampled.ensures.value; kept = record { meter = c.sample-sampled.ensures.kept } }
+returns-clause-value c = search rules

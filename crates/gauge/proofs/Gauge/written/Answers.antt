@@ -1,6 +1,7 @@
+use borrow.Author.Rules.{rules}
 use Rattle.gauge.specs.Gauge.{written_of}
 use Rattle.gauge.proofs.Gauge.written.Goals as goal
 
-pub returns : goal.returns
+pub returns-clause-value : goal.returns-clause-value
 unfolding written_of
-returns c = record { value = simp (c.meter_written-meter.ensures.value, c.written-label.ensures); kept = record { meter = c.meter_written-meter.ensures.kept } }
+returns-clause-value c = search rules

@@ -1,12 +1,7 @@
-use Rattle.std.proofs.Common.{sym, subst}
-use Rattle.reading.specs.Reading.{SeenWf, seen_of}
-use Rattle.reading.proofs.Laws.{seen_wf}
+use borrow.Author.Rules.{rules}
+use Rattle.reading.specs.Reading.{seen_of}
 use Rattle.reading.proofs.Seen.of.Goals as goal
 
-pub returns : goal.returns
+pub returns-clause-value : goal.returns-clause-value
 unfolding seen_of
-returns c = record {
-  value = simp (c.model_lines-lines.ensures.value, c.temp-temp.ensures, c.volt-volt.ensures);
-  kept = subst SeenWf (sym (simp (c.model_lines-lines.ensures.value, c.temp-temp.ensures, c.volt-volt.ensures)))
-      (seen_wf c.args.limits c.args.curves c.args.v c.args.t);
-}
+returns-clause-value c = search rules

@@ -1,9 +1,0 @@
--- The loop of `streams::write_all`: so many bytes are written, of those there are.
-use Rattle.std.proofs.Common.{◌-◌, ◌≤◌, length}
-use Rattle.streams.proofs.write_all.Given as goal
-
-abbrev pub invariant-loop-done : goal.invariant-loop-done
-invariant-loop-done g l = l.done ≤ length l.bytes
-
-abbrev pub decreases-loop-done : goal.decreases-loop-done
-decreases-loop-done g l = length l.bytes - l.done
