@@ -2,6 +2,7 @@
 #![tactic(auto)]
 
 ghost use Rattle.std.specs.Prelude.{◌≡◌, ◌+◌, ◌≤◌};
+ghost use Rattle.numbers.specs.Offset.{joined_of};
 ghost use Rattle.params.specs.Params.{rnaop_of, counting_of, limits_of, capacity_of, breaks_of, curves_of, slopes_of};
 
 // NBEN, AB, AC and COB.
@@ -60,6 +61,14 @@ pub fn rnaop(shadow: &[u8; 32]) -> bool
     shadow[0] / 16 % 2 == 1
 }
 
+// Two bytes as one number, the high one first. (No `from_be_bytes`, which reads both at once: the compiler then keeps the block in smaller pieces, and a
+// power-on takes 25 instructions more.)
+fn joined(high: u8, low: u8) -> u16
+    ensures { result ≡ joined_of high low }
+{
+    u16::from(high) * 256 + u16::from(low)
+}
+
 impl Counting {
     #[tactic(auto, using(crate::proofs::Laws::last_of_four))]
     pub fn of(shadow: &[u8; 32]) -> Counting
@@ -70,7 +79,7 @@ impl Counting {
         Counting {
             nben: 128 <= shadow[0],
             ab: numbers::offset8(shadow[1]),
-            ac: u16::from_be_bytes([shadow[2], shadow[3]]),
+            ac: joined(shadow[2], shadow[3]),
             cob: numbers::offset8(tail[3]),
         }
     }
@@ -95,7 +104,7 @@ impl Capacity {
     {
         Capacity {
             rsnsp: shadow[9],
-            full40: u16::from_be_bytes([shadow[10], shadow[11]]),
+            full40: joined(shadow[10], shadow[11]),
         }
     }
 }
