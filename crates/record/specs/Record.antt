@@ -108,8 +108,11 @@ due_of kind.Sample loaded = loaded
 due_of kind.Unknown loaded = false
 
 -- both, in this order
-abbrev pub front_of : Bool → Bool → Result Unit Refusal
-front_of sized due = pick sized (pick due (Ok tt) (Err refusal.Order)) (Err refusal.Size)
+abbrev pub size_front : Bool → Result Unit Refusal
+size_front sized = pick sized (Ok tt) (Err refusal.Size)
+
+abbrev pub due_front : Bool → Result Unit Refusal
+due_front due = pick due (Ok tt) (Err refusal.Order)
 
 -- ---- an image, judged by itself
 
