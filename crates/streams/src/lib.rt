@@ -76,6 +76,10 @@ pub fn keep_rest(room: &mut [u8], from: usize, end: usize) -> usize
     requires { end ≤ length room.old }
     ensures { RestKept room.old from end result room.new }
 {
+    // What stands at the front already is not copied over itself: a long record may come in many small reads.
+    if from == 0 {
+        return end;
+    }
     if end <= from {
         return 0;
     }
@@ -83,9 +87,23 @@ pub fn keep_rest(room: &mut [u8], from: usize, end: usize) -> usize
     end - from
 }
 
+// Writes all the bytes, or fails with the first write that fails or takes nothing. Some of them may then be written. (Not the library's `write_all`,
+// which goes on behind a write that was interrupted.)
+fn write_all<W: Write>(to: &mut W, bytes: &[u8]) -> io::Result<()> {
+    let mut rest = bytes;
+    while !rest.is_empty() {
+        let some = to.write(rest)?;
+        if some == 0 {
+            return Err(io::Error::from(ErrorKind::WriteZero));
+        }
+        rest = &rest[some..];
+    }
+    Ok(())
+}
+
 // Where standard error does not take it, there is nobody to tell.
 fn complain(rt: &HostRuntime, text: &[u8]) {
-    let _ = rt.stderr().write_all(text);
+    let _ = write_all(&mut rt.stderr(), text);
 }
 
 // ---- words of the call
@@ -274,7 +292,7 @@ pub enum Unsaid {
 }
 
 fn write_output(rt: &HostRuntime, name: &[u8], text: &[u8]) -> Result<(), Unsaid> {
-    rt.stdout().write_all(text).map_err(|_| {
+    write_all(&mut rt.stdout(), text).map_err(|_| {
         complain(rt, name);
         complain(rt, b": cannot write standard output\n");
         Unsaid::Unwritten
@@ -312,6 +330,8 @@ pub enum Unwritten {
     Taken,
     // A call of the system failed.
     Failed(io::Error),
+    // The same, while the file had its other name.
+    Unfinished(io::Error),
 }
 
 // The system's words for a failure, without its number, which stands behind them.
@@ -340,20 +360,26 @@ fn say_cause(rt: &HostRuntime, name: &[u8], why: &[u8]) {
     complain(rt, why);
 }
 
-fn say_unwritten(rt: &HostRuntime, program: &[u8], name: &[u8], why: &Unwritten) {
+fn say_name(rt: &HostRuntime, why: &[u8]) {
+    complain(rt, b": the name of the file to write is ");
+    complain(rt, why);
+}
+
+fn say_unwritten(rt: &HostRuntime, program: &[u8], name: &[u8], beside: &[u8], why: &Unwritten) {
     complain(rt, program);
     match why {
-        Unwritten::LongName => complain(rt, b": the name of the file to write is too long"),
-        Unwritten::NoName => complain(rt, b": the name of the file to write is empty"),
+        Unwritten::LongName => say_name(rt, b"too long"),
+        Unwritten::NoName => say_name(rt, b"empty"),
         Unwritten::Link => say_cause(rt, name, b"it is a link; give the name of the file itself"),
         Unwritten::NoPlainFile => say_cause(rt, name, b"it is not a plain file"),
         Unwritten::Folder => say_cause(rt, name, b"it is a folder"),
         Unwritten::NoFolder => say_cause(rt, name, b"there is no such folder"),
         Unwritten::Taken => {
-            say_cause(rt, name, name);
-            complain(rt, b".new is there, in use by another run or left by one");
+            say_cause(rt, name, beside);
+            complain(rt, b" is there, in use by another run or left by one\n");
+            return;
         }
-        Unwritten::Failed(failure) => {
+        Unwritten::Failed(failure) | Unwritten::Unfinished(failure) => {
             say_cause(rt, name, b"");
             say_failure(rt, failure);
         }
@@ -410,7 +436,7 @@ fn make(rt: &HostRuntime, beside: &[u8]) -> Result<File, Unwritten> {
 
 // Writes all bytes to the device, and closes the file.
 fn fill(mut file: File, bytes: &[u8]) -> io::Result<()> {
-    file.write_all(bytes)?;
+    write_all(&mut file, bytes)?;
     file.sync_all()
 }
 
@@ -440,12 +466,13 @@ fn put_beside(name: &[u8], room: &mut [u8]) -> usize
     page.used
 }
 
-// Makes the file under another name, and then gives it its own: so it is whole, or what had the name is as it was. Where it cannot be written no file
-// is left under the other name.
-fn write_file(rt: &HostRuntime, name: &[u8], bytes: &[u8]) -> Result<(), Unwritten> {
-    let mut room = [0u8; NAME_ROOM];
-    let n = within(put_beside(name, &mut room), &room);
-    let beside = &room[..n];
+// Makes the file under another name, and then gives it its own: so it is whole, or what had the name is as it was.
+fn write_file(
+    rt: &HostRuntime,
+    name: &[u8],
+    beside: &[u8],
+    bytes: &[u8],
+) -> Result<(), Unwritten> {
     if beside.is_empty() {
         return Err(Unwritten::LongName);
     }
@@ -457,11 +484,15 @@ fn write_file(rt: &HostRuntime, name: &[u8], bytes: &[u8]) -> Result<(), Unwritt
     }
     check_replaceable(rt, name)?;
     let file = make(rt, beside)?;
-    if let Err(error) = finish(rt, name, beside, file, bytes) {
+    finish(rt, name, beside, file, bytes).map_err(Unwritten::Unfinished)
+}
+
+// Says why a file is not written, and then leaves none under the other name.
+fn give_up(rt: &HostRuntime, program: &[u8], name: &[u8], beside: &[u8], why: &Unwritten) {
+    say_unwritten(rt, program, name, beside, why);
+    if let Unwritten::Unfinished(_) = why {
         let _ = remove(rt, beside);
-        return Err(Unwritten::Failed(error));
     }
-    Ok(())
 }
 
 // Writes the file that a word of the call names, which is not a link. Where it cannot be written, standard error has a line that says why.
@@ -473,10 +504,13 @@ pub fn write_named(
 ) -> Result<(), Unwritten> {
     let mut name = [0u8; NAME_ROOM];
     let Ok(n) = rt.arg(word, &mut name) else {
-        say_unwritten(rt, program, b"", &Unwritten::LongName);
+        say_unwritten(rt, program, b"", b"", &Unwritten::LongName);
         return Err(Unwritten::LongName);
     };
-    write_file(rt, &name[..n], bytes).inspect_err(|why| say_unwritten(rt, program, &name[..n], why))
+    let mut room = [0u8; NAME_ROOM];
+    let m = within(put_beside(&name[..n], &mut room), &room);
+    let (name, beside) = (&name[..n], &room[..m]);
+    write_file(rt, name, beside, bytes).inspect_err(|why| give_up(rt, program, name, beside, why))
 }
 
 // Says what is said; where it goes to standard output, the file that a word of the call names is written first. Where it cannot be written,
