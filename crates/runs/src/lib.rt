@@ -148,6 +148,13 @@ pub trait Runner {
     ghost laws: { RunLaws did };
 }
 
+// A runner of whole sessions, which is what the programs are given. (A trait of its own: a runner's `run` goes by `run` below, and that by the functions
+// of `Runner`. In one trait they would call one another in a cycle.)
+pub trait WholeRunner: Runner {
+    fn run(bytes: &[u8], room: &mut [u8], answers: &mut [u64; 8192]) -> Ran<Self::State>
+        ensures { Runs Self.did Self.first bytes.now room.old answers.old (result_of result) room.new answers.new };
+}
+
 // Records, run from the state before the first.
 fn run_all<R: Runner>(bytes: &[u8], room: &mut [u8], answers: &mut [u64]) -> Ran<R::State>
     requires bytes_len_bound { length bytes.now ≤ 32768 }

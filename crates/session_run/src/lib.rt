@@ -12,7 +12,7 @@ ghost use Rattle.session_run.specs.SessionRun.{empty_of, take_out_of, TakenOut};
 ghost use Rattle.session_run.specs.Laws.{session_laws};
 
 use record::{Change, Event, IMAGE_SIZE, Refusal};
-use runs::{Ended, Outcome, Ran, RecordStep, Runner, Session};
+use runs::{Ended, Outcome, Ran, RecordStep, Runner, Session, WholeRunner};
 use state::Profile;
 
 // Before the first record.
@@ -136,6 +136,12 @@ pub fn run(bytes: &[u8], room: &mut [u8], answers: &mut [u64; 8192]) -> Ran<Sess
         answers.new }
 {
     runs::run::<SessionRunner>(bytes, room, answers)
+}
+
+impl WholeRunner for SessionRunner {
+    fn run(bytes: &[u8], room: &mut [u8], answers: &mut [u64; 8192]) -> Ran<Session> {
+        run(bytes, room, answers)
+    }
 }
 
 // How many bytes the image of a session's pack has.

@@ -13,6 +13,7 @@ use Rattle.digits.proofs.Unique.{same}
 use Rattle.record.specs.declared.Refusal.{Refusal}
 use Rattle.gauge.specs.declared.Gauge.{Gauge}
 use Rattle.runs.specs.declared.Runner.{Ghosts}
+use Rattle.runs.specs.declared.WholeRunner.{Ghosts as WholeGhosts}
 use Rattle.text.specs.Session.{GivesOut}
 use Rattle.streams.proofs.Laws.{same_said, same_room}
 use Rattle.text.proofs.put_fields
@@ -71,9 +72,9 @@ pub put_no_image_once : Once put_no_image'.ended put_no_image.Reads.Pre put_no_i
 put_no_image_once κs a r r' w w' p h h' = (same_said h h', λ i. (tt, (tt, (tt, (tt, (same_room h h' i, tt))))))
 
 -- of any runner
-pub put_session_once : (R : RattleType) (S : RattleType) (l : Laws R) (m : Laws S) (g : Ghosts R.Denot S.Denot) (d : Dict) (e : Dict)
-    → Once (put_session'.ended R S g d e) (put_session.Reads.Pre R S l m g d e) (put_session.Reads.Learnt R S l m g d e)
-put_session_once R S l m g d e κs a r r' w w' p h h' = (same_said h h', λ i. (tt, (same_room h h' i, tt)))
+pub put_session_once : (R : RattleType) (S : RattleType) (l : Laws R) (m : Laws S) (o : WholeGhosts R.Denot S.Denot) (d : Dict) (g : Ghosts R.Denot S.Denot)
+    (e : Dict) (b : Dict) → Once (put_session'.ended R S o d g e b) (put_session.Reads.Pre R S l m o d g e b) (put_session.Reads.Learnt R S l m o d g e b)
+put_session_once R S l m o d g e b κs a r r' w w' p h h' = (same_said h h', λ i. (tt, (same_room h h' i, tt)))
 
 -- and of what takes an image out, where that leaves no choice
 pub record Taking (S : Type 0) (post : S → MutBor (List ℕ) → Result ℕ Refusal → MutBor (List ℕ) → Type 0) : Type 0 where
@@ -81,12 +82,12 @@ pub record Taking (S : Type 0) (post : S → MutBor (List ℕ) → Result ℕ Re
   pub gauge : S → Gauge
   pub gives : GivesOut post held gauge
 
-pub put_taken_once : (R : RattleType) (F : RattleType) (S : RattleType) (l : Laws R) (k : Laws F) (m : Laws S) (g : Ghosts R.Denot S.Denot) (d : Dict)
-    (call : put_taken'.F-FnOnce.Ghosts R F S) (e : Dict) (b : Dict) (f : Dict)
-    → Once (put_taken'.ended R F S g d call e b f)
-    (λ κs a. put_taken.Reads.Pre R F S l k m g d call e b f κs a × Taking S.Denot ((put_taken'.F-FnOnce.words R F S call).post a.1.1.1.0))
-    (put_taken.Reads.Learnt R F S l k m g d call e b f)
-put_taken_once R F S l k m g d call e b f κs a r r' w w' p h h' =
-    let x = h p.1.held p.1.gauge p.1.gives in
-    let y = h' p.1.held p.1.gauge p.1.gives in
-    (same_said x y, λ i. (tt, (tt, (same_room x y i, (tt, tt)))))
+pub put_taken_once : (R : RattleType) (F : RattleType) (S : RattleType) (l : Laws R) (k : Laws F) (m : Laws S) (o : WholeGhosts R.Denot S.Denot) (d : Dict)
+    (g : Ghosts R.Denot S.Denot) (e : Dict) (call : put_taken'.F-FnOnce.Ghosts R F S) (b : Dict) (f : Dict) (x : Dict)
+    → Once (put_taken'.ended R F S o d g e call b f x)
+    (λ κs a. put_taken.Reads.Pre R F S l k m o d g e call b f x κs a × Taking S.Denot ((put_taken'.F-FnOnce.words R F S call).post a.1.1.1.0))
+    (put_taken.Reads.Learnt R F S l k m o d g e call b f x)
+put_taken_once R F S l k m o d g e call b f x κs a r r' w w' p h h' =
+    let y = h p.1.held p.1.gauge p.1.gives in
+    let z = h' p.1.held p.1.gauge p.1.gives in
+    (same_said y z, λ i. (tt, (tt, (same_room y z i, (tt, tt)))))

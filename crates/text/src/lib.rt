@@ -13,7 +13,7 @@ ghost use Rattle.text.specs.Session.{session_speech, OutOf, GivesOut, out_speech
 
 use digits::Page;
 use record::Refusal;
-use runs::{Ended, Outcome, Runner};
+use runs::{Ended, Outcome, WholeRunner};
 use streams::{Said, Stream};
 
 fn put_kind(table: &[u8; 512], kind: usize, answer: usize, page: &mut Page)
@@ -276,7 +276,7 @@ pub fn put_no_image(
 // ---- a program that runs a session
 
 // The text of a session, with an answer for each record that 32,768 bytes can hold and 65,536 bytes of reply room.
-pub fn put_session<R: Runner>(bytes: &[u8], out: &mut [u8]) -> Said
+pub fn put_session<R: WholeRunner>(bytes: &[u8], out: &mut [u8]) -> Said
 where
     R::State: Drop,
     requires { 270372 ≤ length out.old }
@@ -284,7 +284,7 @@ where
 {
     let mut replies = [0u8; 65536];
     let mut answers = [0u64; 8192];
-    let ran = runs::run::<R>(bytes, &mut replies, &mut answers);
+    let ran = R::run(bytes, &mut replies, &mut answers);
     let count = report(ran.ended, &answers, &replies, out);
     Said {
         stream: Stream::Output,
@@ -316,7 +316,7 @@ fn put_out(
 }
 
 // The image that is taken out at the end of a session, or why there is none: the words say that no image was accepted.
-pub fn put_taken<R: Runner, F: FnOnce(R::State, &mut [u8]) -> Result<usize, Refusal>>(
+pub fn put_taken<R: WholeRunner, F: FnOnce(R::State, &mut [u8]) -> Result<usize, Refusal>>(
     bytes: &[u8],
     words: &[u8],
     room: &mut [u8],
@@ -331,7 +331,7 @@ where
 {
     let mut scratch = [0u8; 65536];
     let mut answers = [0u64; 8192];
-    let ran = runs::run::<R>(bytes, &mut scratch, &mut answers);
+    let ran = R::run(bytes, &mut scratch, &mut answers);
     match ran.ended.outcome {
         Outcome::Done => {
             let taken = take(ran.state, room);

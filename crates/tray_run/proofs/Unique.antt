@@ -10,6 +10,8 @@ use Rattle.tray_run.proofs.TrayRunnerRunner.start
 use Rattle.tray_run.specs.contracts.TrayRunnerRunner.start as start'
 use Rattle.tray_run.proofs.TrayRunnerRunner.run_on as runner_run_on
 use Rattle.tray_run.specs.contracts.TrayRunnerRunner.run_on as runner_run_on'
+use Rattle.tray_run.proofs.TrayRunnerWholeRunner.run as runner_run
+use Rattle.tray_run.specs.contracts.TrayRunnerWholeRunner.run as runner_run'
 use Rattle.tray_run.proofs.run
 use Rattle.tray_run.specs.contracts.run as run'
 use Rattle.tray_run.proofs.run_on
@@ -45,6 +47,14 @@ runner_run_on_once κs a r r' w w' p h h' =
     runs_same tray_did a.0 a.1.0.now a.1.1.0.now a.1.1.1.0.now (result_of r) (result_of r') w.1.1.0 w'.1.1.0
     w.1.1.1.0 w'.1.1.1.0 Done h.0 h'.0 in
     (ran_same _ _ e.0, λ i. (tt, (tt, (e.1 i, (e.2 i, tt)))))
+
+pub runner_run_once : Once runner_run'.ended runner_run.Reads.Pre runner_run.Reads.Learnt
+runner_run_once κs a r r' w w' p h h' =
+    let o = outcome_of (length a.0.now) in
+    let e =
+    runs_same tray_did empty_tray a.0.now a.1.0.now a.1.1.0.now (result_of r) (result_of r') w.1.0 w'.1.0 w.1.1.0
+    w'.1.1.0 o h h' in
+    (ran_same _ _ e.0, λ i. (tt, (e.1 i, (e.2 i, tt))))
 
 pub step_once : Once step'.ended step.Reads.Pre step.Reads.Learnt
 step_once κs a r r' w w' p h h' =

@@ -14,7 +14,7 @@ ghost use Rattle.tray_run.specs.Laws.{tray_laws};
 
 use gauge::Gauge;
 use record::{Change, Event, Refusal};
-use runs::{Ended, Outcome, Ran, RecordStep, Runner};
+use runs::{Ended, Outcome, Ran, RecordStep, Runner, WholeRunner};
 use state::{Common, Label, Meter, Profile, Tick};
 use tray_record::Tray;
 
@@ -194,6 +194,12 @@ pub fn run(bytes: &[u8], room: &mut [u8], answers: &mut [u64; 8192]) -> Ran<Tray
         answers.new }
 {
     runs::run::<TrayRunner>(bytes, room, answers)
+}
+
+impl WholeRunner for TrayRunner {
+    fn run(bytes: &[u8], room: &mut [u8], answers: &mut [u64; 8192]) -> Ran<Tray> {
+        run(bytes, room, answers)
+    }
 }
 
 // Every tray has eight places, which is told to a proof.
