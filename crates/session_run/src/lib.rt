@@ -159,5 +159,6 @@ pub fn take_out(session: Session, room: &mut [u8]) -> Result<usize, Refusal>
     if !session.loaded {
         return Err(Refusal::Order);
     }
-    gauge::image_out(session.gauge, room)
+    gauge::image_out(session.gauge, room)?;
+    Ok(image_size(session))
 }
