@@ -18,6 +18,7 @@ use Rattle.record.specs.Record.{judged_of, Taken}
 use Rattle.record.proofs.Fits.{judged_image}
 use Rattle.digits.specs.Digits.{Writing}
 use Rattle.runs.specs.Record.{record_of}
+use Rattle.runs.proofs.Records.{record_then}
 use Rattle.preset_session.specs.declared.PresetRefusal.TheVariants.{Parameters, Locked, Room}
 use Rattle.preset_session.specs.PresetSession.{write_done, write_payload, copy_payload, read_payload, programming_of}
 use Rattle.preset_session.specs.PresetSession.{programming_size, preset_answer_by, preset_answer, Granted}
@@ -68,10 +69,24 @@ module _ (image wanted : List ℕ) (sized : length image ≡ image_size) (all : 
         length-append (record_of 4 (write_payload wanted)) (record_of 4 copy_payload ++ record_of 4 read_payload),
       )
 
-  -- four records, one behind the other, at the front of a room
-  pub four : {most next : ℕ} {room after : List ℕ} → programming_size ≤ length room → Writing most (programming_of image wanted) room 0 next after
+  -- the session, at the front of a room
+  pub programmed : {most next : ℕ} {room after : List ℕ} → programming_size ≤ length room → Writing most (programming_of image wanted) room 0 next after
       → after ≡ programming_of image wanted ++ drop programming_size room
-  four {room = room} fits w =
+  programmed {room = room} fits w =
       w.written
       ∙ put_front room (programming_of image wanted) (omega (arith, programming_length))
       ∙ ap (λ (n : ℕ). programming_of image wanted ++ drop n room) programming_length
+
+  -- four records, one behind the other, at the front of a room
+  module _ {first_most second_most third_most fourth_most : ℕ} {room a b c d : List ℕ} {i j k n : ℕ} where
+    pub four : programming_size ≤ length room → Writing first_most (record_of 1 image) room 0 i a
+        → Writing second_most (record_of 4 (write_payload wanted)) a i j b → Writing third_most (record_of 4 copy_payload) b j k c
+        → Writing fourth_most (record_of 4 read_payload) c k n d → d ≡ programming_of image wanted ++ drop programming_size room
+    four fits first second third fourth = programmed {most = programming_size} {next = programming_size} fits (record {
+      onward = omega (arith, programming_length);
+      written =
+          fourth.written ∙ record_then 4 copy_payload third (record_of 4 read_payload)
+          ∙ record_then 4 (write_payload wanted) second (record_of 4 copy_payload ++ record_of 4 read_payload)
+          ∙ record_then 1 image first (record_of 4 (write_payload wanted) ++ (record_of 4 copy_payload ++ record_of 4 read_payload));
+      within = omega arith;
+    })

@@ -12,6 +12,7 @@ use lib.Seq.{take-add, take_at, drop_at, length-take-le, get_or-take}
 use Rattle.numbers.specs.Choice.{pick}
 use Rattle.slices.specs.Slices.{part, put, pair_at}
 use Rattle.slices.proofs.Laws.{put_next}
+use Rattle.digits.specs.Digits.{Writing}
 use Rattle.runs.specs.Record.{Rec, whole, cut, whole_of, rec_of, size_of, recs_from, recs_of, kind_in, record_of}
 
 -- ---- a whole record has its header and its payload
@@ -178,3 +179,9 @@ module _ (kind : ℕ) (p t : List ℕ) where
       let rest : drop (size_of written) written ≡ t = ap (λ (k : ℕ). drop k written) size ∙ drop_at (record_of kind p) t (4 + length p) (omega arith) in
       recs_cons written (omega arith) ∙ ap (λ (r : Rec). r ∷ recs_of (drop (size_of written) written)) head
       ∙ ap (λ (l : List ℕ). whole kind p ∷ recs_of l) rest
+
+-- what is put behind a record that was written stands behind it
+pub record_then : {most : ℕ} (kind : ℕ) (p : List ℕ) {before : List ℕ} {at next : ℕ} {after : List ℕ} → Writing most (record_of kind p) before at next after
+    → (rest : List ℕ) → put after next rest ≡ put before at (record_of kind p ++ rest)
+record_then kind p {before} {at} {next} h rest =
+    ap (λ (l : List ℕ). put l next rest) h.written ∙ put_next before at next (record_of kind p) rest h.onward
