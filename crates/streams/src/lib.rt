@@ -467,12 +467,7 @@ fn put_beside(name: &[u8], room: &mut [u8]) -> usize
 }
 
 // Makes the file under another name, and then gives it its own: so it is whole, or what had the name is as it was.
-fn write_file(
-    rt: &HostRuntime,
-    name: &[u8],
-    beside: &[u8],
-    bytes: &[u8],
-) -> Result<(), Unwritten> {
+fn write_file(rt: &HostRuntime, name: &[u8], beside: &[u8], bytes: &[u8]) -> Result<(), Unwritten> {
     if beside.is_empty() {
         return Err(Unwritten::LongName);
     }
