@@ -151,7 +151,10 @@ fn take_out(tray: Tray, slot: Option<u8>, room: &mut [u8]) -> Result<usize, Refu
     ensures { OutOf (named_held slot tray) (named_pack slot tray) room.old result room.new }
 {
     match slot {
-        Some(slot) => tray_run::take_out(tray, slot, room),
+        Some(slot) => {
+            tray_run::take_out(tray, slot, room)?;
+            Ok(tray_run::image_size(tray, slot))
+        }
         None => Err(Refusal::Order),
     }
 }

@@ -240,6 +240,5 @@ pub fn take_out(tray: Tray, slot: u8, room: &mut [u8]) -> Result<usize, Refusal>
         label: labels[i],
         meter: meters[i],
     };
-    gauge::image_out(gauge, room)?;
-    Ok(image_size(tray, slot))
+    gauge::image_out(gauge, room)
 }
